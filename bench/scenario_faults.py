@@ -5,7 +5,8 @@ import os
 import shutil
 import subprocess
 
-from scenario_runs import BUILT, HUB_DAY, Run, is_root
+import hubs
+from scenario_runs import HUB_DAY, Run, is_root, wrapped
 
 NOBODY = 65534
 AS_IS = ("as-is", "", "", "")
@@ -16,7 +17,8 @@ def faults(tries, scratch, _):
     sound = Run(scratch / "sound", HUB_DAY, THREE)
     tries("three scenarios", sound.on(2) == 0)
     slips(tries, scratch)
-    too_little_memory(tries, scratch, sound)
+    too_little_memory(tries, scratch)
+    never_enough(tries, scratch)
     changed_proofs(tries, scratch, sound)
     if is_root():
         full_disk(tries, scratch, sound)
@@ -50,25 +52,24 @@ def slips(tries, scratch):
         tries(f"a change that doesn't read ends the run before it begins: {change}", status != 0 and change.split()[0] in told)
 
 
-def too_little_memory(tries, scratch, sound):
-    """Each further try has twice the memory."""
-    hungry = wrapped(scratch / "hungry", '[ "$(ulimit -S -v)" -ge 100000 ] || exit 8')
-    run = Run(scratch / "memory", HUB_DAY, THREE, memory_mb=64, memory_kb_a_pair=0, pictures="false", program=hungry)
+def too_little_memory(tries, scratch):
+    """Each further try has twice the memory. Of 400 legs a solve takes more than 6 MB, and less than 12."""
+    base, rows = scratch / "hub400", [AS_IS, ("dearer", "", "", "cost F220 *1.1")]
+    hubs.write(base, 400, 5)
+    ample = Run(scratch / "ample", base, rows, pictures="false")
+    tries("two scenarios of 400 legs", ample.on(2) == 0)
+    run = Run(scratch / "memory", base, rows, memory_mb=6, memory_kb_a_pair=0, pictures="false")
     status, told = run.on(2), (run.folder / "engine").read_text(encoding="utf-8")
-    is_told = "memory ran out (it might take 64 MB" in told and "128 MB" not in told
-    tries("too little memory at first", status == 0 and is_told and run.summary() == sound.summary())
+    is_told = told.count("solve ended with 8: memory ran out (it might take 6 MB") == len(rows) and "12 MB" not in told
+    tries("too little memory at first, and twice as much is enough", status == 0 and is_told and run.summary() == ample.summary())
+
+
+def never_enough(tries, scratch):
     starved = wrapped(scratch / "starved", 'case "$*" in solve*/less/*) exit 8 ;; esac')
     run = Run(scratch / "never", HUB_DAY, THREE, pictures="false", program=starved)
     status = run.on(2)
     outcomes = [it["outcome"] for it in run.summary()]
     tries("memory that never suffices", status != 0 and outcomes == ["NOT SOLVED", "optimal", "optimal"], ", ".join(outcomes))
-
-
-def wrapped(path, line):
-    """Returns a program that does a line of shell before it is the real one."""
-    path.write_text(f'#!/bin/sh\n{line}\nexec {BUILT} "$@"\n', encoding="utf-8")
-    path.chmod(0o755)
-    return path
 
 
 def changed_proofs(tries, scratch, sound):

@@ -127,7 +127,7 @@ def without_engine(run):
         place.mkdir(parents=True)
         base = next(line.split(": ", 1)[1] for line in (run.folder / "config.yaml").read_text().splitlines() if line.startswith("base"))
         for words in (
-            ["tables", BUILT, place / "tables", *limits, str(it.period), *it.files(base), *it.changes],
+            ["tables", BUILT, place / "tables", *limits, str(it.period), *it.files(base), "--", *it.changes],
             ["solve", BUILT, place / "solved", *limits, "0", place / "tables", *it.words],
             ["check", BUILT, place / "check.json", *limits, "0", place / "solved"],
             ["sizes", BUILT, place / "sizes.json", *limits, "0", place / "solved"],
@@ -140,6 +140,13 @@ def python_of_engine():
     """Returns the Python that the engine runs by, and so its steps."""
     with open(shutil.which("snakemake"), encoding="utf-8") as it:
         return it.readline()[len("#!") :].strip()
+
+
+def wrapped(path, line):
+    """Returns a program that does a line of shell before it is the real one."""
+    path.write_text(f'#!/bin/sh\n{line}\nexec {BUILT} "$@"\n', encoding="utf-8")
+    path.chmod(0o755)
+    return path
 
 
 def kill(process):

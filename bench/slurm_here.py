@@ -37,6 +37,7 @@ SlurmdPidFile={folder}/%n.pid
 SlurmctldLogFile={folder}/slurmctld.log
 SlurmdLogFile={folder}/%n.log
 SlurmdTimeout=5
+MinJobAge=86400
 ReturnToService=2
 ProctrackType=proctrack/linuxproc
 TaskPlugin=task/none

@@ -1,11 +1,14 @@
-"""Lines changed at random: each file ends in a refusal by name with nothing written, or in tables that the program reads."""
+"""Lines changed at random: each file ends in a refusal by name with nothing written, or in tables that the program reads. Plans with
+shifts and legs left out that are drawn for these are refused by name, or written so that the legs depart then."""
 
 import os
 import random
 import re
 import subprocess
+from collections import Counter
 
 from schedule_lines import leg, segment, text, whole
+from ssim_tests.shifts import Drawn, times_by
 from ssim_tests.trying import call, scratch, standing
 
 LINES = 2000
@@ -72,7 +75,8 @@ class Hostile:
     """The folder of the runs, the tables that the program has read, and what was wrong."""
 
     def __init__(self, folder):
-        self.folder, self.known, self.wrong, self.refused = folder, set(), [], 0
+        self.folder, self.known, self.wrong, self.refused, self.planned = folder, set(), [], 0, 0
+        self.chance = random.Random(50)
         fleets = "".join(f"{it},500,30\n" for it in TYPES)
         (folder / "fleets").write_text(f"fleet,aircraft,turn\n{fleets}", encoding="ascii")
 
@@ -96,9 +100,30 @@ class Hostile:
             status, told = call("plan", folder / "season", folder / "day", folder / "new")
             if status or (folder / "new").read_bytes() != data:
                 self.wrong.append(f"run {number}: the plan as filed changes the file, status {status}: {told}")
+            self.plan(number, option, words)
         beside = sorted(it for it in os.listdir(folder) if it not in ("fleets", "season", "day", "new"))
         if beside:
             self.wrong.append(f"run {number} leaves {beside}")
+
+    def plan(self, number, option, words):
+        """Has a plan that is drawn written back, for some through the season. It looks when the legs of its dates depart that stay on
+        these; through the season others may come to them."""
+        folder = self.folder
+        drawn = Drawn(self.chance, folder / "day", TYPES[:3], is_calm=False)
+        wanted = times_by(folder / "day", drawn)
+        before = (folder / "new").read_bytes()
+        is_whole_season = number % 5 == 0
+        status, told = call("plan", folder / "season", folder / "day", folder / "new", *(["--whole-season"] if is_whole_season else []))
+        if status:
+            is_same = (folder / "new").read_bytes() == before
+            if status != 6 or not REFUSED.fullmatch(told) or not is_same:
+                self.wrong.append(f"run {number}: a plan has status {status}{'' if is_same else ' and is written'}: {told}")
+            return
+        self.planned += 1
+        status, told = call("tables", folder / "new", folder / "day", option, DATE, *words)
+        came = None if status else times_by(folder / "day")
+        if came is None or Counter(wanted) - Counter(came) or came != wanted and not is_whole_season:
+            self.wrong.append(f"run {number}: a plan isn't what was planned, status {status}: {told}wanted {wanted}\ncame {came}")
 
     def judge(self, number, held, period):
         """Has the program read tables that it hasn't read yet."""
@@ -124,5 +149,6 @@ def try_all(tally):
             hostile.run(number, now)
         why = "\n".join(hostile.wrong[:TOLD]) or None
         tally.note(f"{done} lines changed at random", why)
-        enough = number // 4 < hostile.refused < number and len(hostile.known) > 50
-        tally.note("some are refused and some are read", None if enough else f"{hostile.refused} of {number}, {len(hostile.known)} tables")
+        enough = number // 4 < hostile.refused < number and len(hostile.known) > 50 and hostile.planned > 50
+        counts = f"{hostile.refused} of {number}, {len(hostile.known)} tables, {hostile.planned} plans"
+        tally.note("some are refused and some are read", None if enough else counts)

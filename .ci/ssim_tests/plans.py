@@ -19,15 +19,22 @@ def short(line):
     return line[5:13] + line[127] + " " + line[14:35].rstrip() + " " + line[72:75] if line[0] == "3" else f"{line[5:13]}{line[27]} {line[30:33]}"
 
 
-def planned(folder, lines, changes, words=(), option="--date"):
-    """Writes a plan of a date or a week with some fleets changed, and returns the lines of legs and segments of the new file."""
+def plan_text(fleets, shifts=None):
+    """A plan of fleets by flight, and of shifts, where they are given."""
+    if shifts is None:
+        return "flight,fleet\n" + "".join(f"{it},{to}\n" for it, to in fleets.items())
+    return "flight,fleet,shift\n" + "".join(f"{it},{to},{shifts.get(it, 0)}\n" for it, to in fleets.items())
+
+
+def planned(folder, lines, changes, words=(), option="--date", shifts=None):
+    """Writes a plan of a date or a week with some fleets changed, and returns the lines of the new file."""
     (folder / "season").write_bytes(text(lines).encode("ascii"))
     fleets = "".join(f"{it},9,30\n" for it in sorted({it[72:75] for it in lines if it[0] == "3"}))
     (folder / "fleets").write_text(f"fleet,aircraft,turn\n{fleets}", encoding="ascii")
     made = call("tables", folder / "season", folder / "day", option, DATE, "--fleets", folder / "fleets")
     rows = dict(it.split(",") for it in records(folder / "day", "plan.csv"))
     rows.update(changes)
-    (folder / "day" / "plan.csv").write_text("flight,fleet\n" + "".join(f"{it},{to}\n" for it, to in rows.items()), encoding="ascii")
+    (folder / "day" / "plan.csv").write_text(plan_text(rows, shifts), encoding="ascii")
     status, told = call("plan", folder / "season", folder / "day", folder / "new", *words)
     if made[0] or status:
         return [made[1], told]
@@ -256,7 +263,7 @@ def try_refusals(tally):
         ("plan.csv", "plan.csv has 1 flights, it should have the 2 of names.csv", "flight,fleet\nZZ1,320\n"),
         ("plan.csv", "plan.csv record 3: the fleet of ZZ2 is A320, it should be an aircraft type of three letters A to Z and digits",
          "flight,fleet\nZZ1,320\nZZ2,A320\n"),
-        ("plan.csv", "plan.csv is empty, it should begin with flight,fleet", ""),
+        ("plan.csv", "plan.csv is empty, it should begin with flight,fleet or flight,fleet,shift", ""),
         ("names.csv", "names.csv record 2: ZZ 1  01 1 on 2026-11-30 isn't the leg of line 4 of season, it should be the file that the tables are of",
          "flight,airline,number,suffix,variation,leg,line,operates\nZZ1,ZZ,1,,01,1,4,2026-11-30\nZZ2,ZZ,2,,01,1,4,2026-11-30\n"),
         ("names.csv", None, None),

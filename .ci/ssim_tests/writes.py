@@ -1,6 +1,8 @@
 """Writes that fail, and a program that doesn't judge: each file stands whole, as it was or as it should be, and nothing beside it."""
 
+import contextlib
 import os
+import resource
 from unittest import mock
 
 from ssim_tests.trying import EXAMPLE, call, scratch, standing
@@ -54,6 +56,39 @@ def try_failing(tally):
                     wanted = {it: whole[it] if after[it] == whole[it] else before[it] for it in before}
                 what = f"os.{name} {number} fails{' in a new folder' if is_new else ''}"
                 tally.equal(what, (7, line, wanted, []), (status, told, after, beside))
+
+
+@contextlib.contextmanager
+def small_files(most):
+    """Has each write fail that would make a file of more bytes, as on a full disk."""
+    limits = resource.getrlimit(resource.RLIMIT_FSIZE)
+    resource.setrlimit(resource.RLIMIT_FSIZE, (most, limits[1]))
+    try:
+        yield
+    finally:
+        resource.setrlimit(resource.RLIMIT_FSIZE, limits)
+
+
+def try_full(tally):
+    """A write that breaks off in the middle of a file: no part of it is left."""
+    with scratch() as folder:
+        lay(folder)
+        with small_files(1000):
+            status, told = tables(folder)
+        came = status, told, sorted(os.listdir(folder))
+        tally.equal("tables that break off", (7, f"ssim: {folder}/day can't be written: File too large\n", ["fleets"]), came)
+        tables(folder)
+        new, plan = folder / "new", folder / "day" / "plan.csv"
+        legs = [it.split(",")[0] for it in plan.read_text(encoding="ascii").splitlines()[1:]]
+        plan.write_text("flight,fleet,shift\n" + "".join(f"{it},320,{at}\n" for at, it in enumerate(legs)), encoding="ascii")
+        for before in (None, b"mine"):
+            if before:
+                new.write_bytes(before)
+            with small_files(10_000):
+                status, told = call("plan", FILE, folder / "day", new)
+            came = status, told, sorted(os.listdir(folder)), new.read_bytes() if before else None
+            files = ["day", "fleets", *(["new"] if before else [])]
+            tally.equal("a plan that breaks off", (7, f"ssim: {new} can't be written: File too large\n", files, before), came)
 
 
 def try_places(tally):
@@ -116,5 +151,6 @@ def try_programs(tally):
 
 def try_all(tally):
     try_failing(tally)
+    try_full(tally)
     try_places(tally)
     try_programs(tally)

@@ -7,7 +7,8 @@ selecting   the legs of a date or a week
 naming      their names, and which follow each other as one flight
 costing     what a plan may use, and what it costs, by files of the caller's
 tables      the tables of a folder
-splitting   an itinerary whose aircraft type changes on some of its dates, in parts
+splitting   an itinerary that a plan changes on some of its dates, in parts
+retiming    a leg that departs later or earlier
 planning    a plan written back into the file
 judging     what the program says of a plan
 files       files read, and written whole

@@ -7,6 +7,10 @@ from schedule_files.layout import MONTHS, OPEN_END
 DAY = 1440
 # The day of an open end, later than any other.
 OPEN = datetime.date.max.toordinal()
+# The last day that a line can write.
+LAST_DAY = datetime.date(2099, 12, 31).toordinal()
+ALL_DAYS = "1234567"
+WEEK = 7
 TIMES = {f"{it // 60:02}{it % 60:02}": it for it in range(DAY + 1)}
 VARIATIONS = {
     f"{sign}{it // 60:02}{it % 60:02}": it if sign == "+" else -it for it in range(15 * 60) for sign in "+-"

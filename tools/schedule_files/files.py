@@ -9,6 +9,7 @@ import stat
 import tempfile
 
 from hints.records import Unread, bytes_of, records_in
+from schedule_files.layout import printed
 
 # The most bytes of a schedule file: 999,999 lines and more.
 MOST_BYTES = 1 << 30
@@ -18,21 +19,21 @@ def schedule_bytes(path):
     return bytes_of(path, MOST_BYTES)
 
 
-def rows(path, header):
-    """Returns the records of a table below its header as lists of texts, or raises Unread."""
-    found = []
+def rows(path, *headers):
+    """Returns the records of a table below its header, which is one of some, as lists of texts, or raises Unread."""
+    found, wanted = [], " or ".join(",".join(it) for it in headers)
     try:
         for it in records_in(bytes_of(path)):
             fields = [field.decode("ascii") for field in it.fields]
-            if it.number == 1 and tuple(fields) != header:
-                raise Unread(f"{path} record 1: {it}, it should be {','.join(header)}")
-            if len(fields) != len(header):
-                raise Unread(f"{path} record {it.number}: {it}, it should be {len(header)} fields")
+            if it.number == 1 and tuple(fields) not in headers:
+                raise Unread(f"{path} record 1: {printed(str(it))}, it should be {wanted}")
             found.append(fields)
+            if len(fields) != len(found[0]):
+                raise Unread(f"{path} record {it.number}: {printed(str(it))}, it should be {len(found[0])} fields")
     except (UnicodeDecodeError, csv.Error) as error:
         raise Unread(f"{path} should be a table of plain letters and digits") from error
     if not found:
-        raise Unread(f"{path} is empty, it should begin with {','.join(header)}")
+        raise Unread(f"{path} is empty, it should begin with {wanted}")
     return found[1:]
 
 
@@ -43,7 +44,7 @@ def judged(path, header, forms):
     for number, row in enumerate(found, 2):
         for name, text, wrong in zip(header, row, forms):
             if wrong(text):
-                raise Unread(f'{path} record {number}: {name} is "{text}": {wrong(text)}')
+                raise Unread(f'{path} record {number}: {name} is "{printed(text)}": {wrong(text)}')
         if row[0] in known:
             raise Unread(f"{path} record {number}: {row[0]} stands twice, it should stand once")
         known.add(row[0])
@@ -62,12 +63,12 @@ def write_whole(path, data):
     folder, name = os.path.split(path)
     if not os.path.isdir(folder or ".") or not name:
         raise Unread(f"{path} can't be written: {'it is a folder' if os.path.isdir(path) else 'its folder is missing'}", 7)
-    write_all(folder or ".", {name: data})
+    write_all(folder or ".", {name: data}, path)
 
 
-def write_all(folder, texts):
+def write_all(folder, texts, told=None):
     """Writes files of a folder, each whole or not at all: none stands in its place before all are written beside. A folder that
-    isn't there comes with its files."""
+    isn't there comes with its files. A fault is told of the folder, or of what is to be told."""
     place, is_new = folder, not os.path.lexists(folder)
     try:
         if is_new:
@@ -90,7 +91,7 @@ def write_all(folder, texts):
                 shutil.rmtree(folder, ignore_errors=True)
             raise
     except OSError as error:
-        raise Unread(f"{place} can't be written: {error.strerror}", 7) from error
+        raise Unread(f"{told or place} can't be written: {error.strerror}", 7) from error
 
 
 def written(path, data):

@@ -40,6 +40,10 @@ class Field:
     def of(self, line):
         return line[self.first - 1 : self.last]
 
+    def put(self, line, text):
+        """Returns a line with another text there."""
+        return f"{line[: self.first - 1]}{text}{line[self.last :]}"
+
     def fault(self, path, number, line, should=None):
         """Returns the fault of a line whose field isn't as it should be."""
         return BadLine(path, number, f'{self.name} is "{printed(self.of(line))}"', self.where, should or self.should)

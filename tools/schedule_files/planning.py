@@ -1,50 +1,100 @@
-"""A plan written back into the schedule file: the aircraft types of the legs of its dates."""
+"""A plan written back into the schedule file: the aircraft types and the departures of the legs of its dates."""
 
 import datetime
 import os
 import re
+from collections import Counter
 
-from hints.records import HEADERS, Unread
-from schedule_files.days import text_of
+from hints.records import HEADERS, Unread, headers_of
+from schedule_files.days import DAY, clock, text_of
 from schedule_files.files import rows
-from schedule_files.layout import BadLine, ZEROS
+from schedule_files.layout import BadLine, ZEROS, printed
 from schedule_files.reading import MOST_RECORDS
-from schedule_files.splitting import parts_by_date, parts_by_weekday
+from schedule_files.retiming import move_of, moved, retimed
+from schedule_files.splitting import LEFT_OUT, Planned, parts_by_date, parts_by_weekday
 from schedule_files.tables import NAMES
 
 # How many records fill a block, with lines of zeros where there are too few.
 BLOCK = 5
 LETTERS = " ABCDEFGHIJKLMNOPQRSTUVWXYZ"
+# The header of a plan whose legs may depart by some minutes later, or earlier where they are below 0.
+SHIFTED = (*HEADERS["plan.csv"], "shift")
+SHIFT = re.compile("0|-?[1-9][0-9]{0,2}")
+MOST_SHIFT = 720
+# The fleet of a leg that isn't flown.
+NO_FLEET = "-"
 
 
 def changes_of(schedule, folder):
-    """Returns of each itinerary whose types a plan changes its dates, each with the types of legs; or raises Unread."""
+    """Returns of each itinerary that a plan changes its dates, each with what is planned of legs, and counts of what is changed; or raises
+    Unread."""
     path = os.path.join(folder, "names.csv")
     named = rows(path, NAMES)
-    fleets = planned(folder, [it[0] for it in named])
+    plan = plan_of(folder, [it[0] for it in named])
+    times = times_of(folder, plan)
     legs = {it.number: it for it in schedule.legs}
-    changes = {}
+    changes, counts = {}, Counter()
     for number, row in enumerate(named, 2):
         leg, operates = leg_named(schedule, legs, path, number, row)
-        fleet = fleets[row[0]]
-        if not re.fullmatch("[A-Z0-9]{3}", fleet):
-            what = f"{os.path.join(folder, 'plan.csv')} record {number}: the fleet of {row[0]} is {fleet}"
-            raise Unread(f"{what}, it should be an aircraft type of three letters A to Z and digits")
-        if fleet != leg.type:
-            changes.setdefault(itinerary_of(leg), {}).setdefault(operates, {})[leg.number] = fleet
-    return changes
+        planned = plan[row[0]]
+        filed = clock(leg.departure % DAY)
+        if planned and planned.shift and times.get(row[0]) != filed:
+            what = f"{path} record {number}: {row[0]} departs at {filed} by line {row[6]} of {schedule.path}"
+            raise Unread(f"{what}, it should be {times.get(row[0])} as in legs.csv, in the file that the tables are of")
+        if planned != Planned(leg.type, 0):
+            changes.setdefault(itinerary_of(leg), {}).setdefault(operates, {})[leg.number] = planned
+            counts.update(counted(leg, planned))
+    return changes, counts
 
 
-def planned(folder, names):
-    """Returns the fleet of each leg by plan.csv."""
+def times_of(folder, plan):
+    """Returns when each leg departs by legs.csv, where a plan has shifts: they count from there."""
+    if not any(it and it.shift for it in plan.values()):
+        return {}
+    return {it[0]: printed(it[-3]) for it in rows(os.path.join(folder, "legs.csv"), *headers_of("legs.csv"))}
+
+
+def counted(leg, planned):
+    """Yields what is to be counted of a leg that is changed."""
+    if planned is LEFT_OUT:
+        yield "left out"
+        return
+    if planned.type != leg.type:
+        yield "type"
+    if planned.shift:
+        yield "shift"
+    if leg.departure // DAY != (leg.departure + planned.shift) // DAY:
+        yield "day"
+
+
+def plan_of(folder, names):
+    """Returns what plan.csv has for each leg."""
     path = os.path.join(folder, "plan.csv")
-    found = rows(path, HEADERS["plan.csv"])
+    found = rows(path, HEADERS["plan.csv"], SHIFTED)
+    plan = {}
     for number, (row, name) in enumerate(zip(found, names), 2):
         if row[0] != name:
-            raise Unread(f"{path} record {number}: the flight is {row[0]}, it should be {name} as in names.csv")
+            raise Unread(f"{path} record {number}: the flight is {printed(row[0])}, it should be {printed(name)} as in names.csv")
+        plan[name] = planned_by(f"{path} record {number}", *row)
     if len(found) != len(names):
         raise Unread(f"{path} has {len(found)} flights, it should have the {len(names)} of names.csv")
-    return dict(found)
+    return plan
+
+
+def planned_by(where, flight, fleet, shift="0"):
+    """Returns what the fields of a record of plan.csv say, or raises Unread."""
+    flight = printed(flight)
+    if not SHIFT.fullmatch(shift) or abs(int(shift)) > MOST_SHIFT:
+        form = f"minutes from -{MOST_SHIFT} to {MOST_SHIFT}, as 10, 0 or -5"
+        raise Unread(f"{where}: the shift of {flight} is {printed(shift)}, it should be {form}")
+    if fleet == NO_FLEET:
+        if int(shift):
+            raise Unread(f"{where}: the shift of {flight} is {shift} beside the fleet {NO_FLEET}, it should be 0")
+        return LEFT_OUT
+    if not re.fullmatch("[A-Z0-9]{3}", fleet):
+        form = "an aircraft type of three letters A to Z and digits"
+        raise Unread(f"{where}: the fleet of {flight} is {printed(fleet)}, it should be {form}")
+    return Planned(fleet, int(shift))
 
 
 def leg_named(schedule, legs, path, number, row):
@@ -55,7 +105,7 @@ def leg_named(schedule, legs, path, number, row):
         raise Unread(f"{path} record {number}: {error}, it should be as tools/ssim tables wrote it") from error
     own = [leg.airline.strip(), str(leg.flight), leg.suffix.strip(), leg.variation, str(leg.sequence)] if leg else None
     if row[1:6] != own or not leg.operates(operates):
-        what = f"{path} record {number}: {' '.join(row[1:6])} on {row[7]} isn't the leg of line {row[6]} of {schedule.path}"
+        what = f"{path} record {number}: {printed(' '.join(row[1:6]))} on {row[7]} isn't the leg of line {row[6]} of {schedule.path}"
         raise Unread(f"{what}, it should be the file that the tables are of")
     return leg, operates
 
@@ -66,65 +116,80 @@ def itinerary_of(leg):
 
 
 class Piece:
-    """A leg's record in the new file: the leg, the part of its itinerary that it is in (None where that stays as it is), and what it
-    has there."""
+    """A leg's record in the new file: the leg, its itinerary, the part of that which it is in (None where that stays as it is), and its
+    line there, but for what is counted anew."""
 
-    def __init__(self, leg, part=None, held=None):
-        self.leg, self.part, self.held = leg, part, held
+    __slots__ = ("leg", "itinerary", "part", "line")
 
-    @property
-    def key(self):
-        return itinerary_of(self.leg), self.part
+    def __init__(self, leg, itinerary, part, line):
+        self.leg, self.itinerary, self.part, self.line = leg, itinerary, part, line
 
 
 def pieces_of(schedule, changes, cut):
     """Returns the records of legs of the new file, in their order. Legs of one itinerary that stand together are written together for
     each of its parts."""
     legs, parts = {}, {}
-    for it in schedule.legs:
-        if itinerary_of(it) in changes:
-            legs.setdefault(itinerary_of(it), []).append(it)
+    itineraries = [itinerary_of(it) for it in schedule.legs]
+    for leg, itinerary in zip(schedule.legs, itineraries):
+        if itinerary in changes:
+            legs.setdefault(itinerary, []).append(leg)
     for itinerary, own in legs.items():
         parts[itinerary] = cut(own, changes[itinerary])
+        for it in parts[itinerary]:
+            it.move = move_of(schedule, [(leg, it.planned_of(leg).shift) for leg in own if is_flown(leg, it)])
     pieces, at = [], 0
-    while at < len(schedule.legs):
-        itinerary, end = itinerary_of(schedule.legs[at]), at + 1
+    while at < len(itineraries):
+        itinerary, end = itineraries[at], at + 1
         if itinerary not in parts:
-            pieces.append(Piece(schedule.legs[at]))
+            leg = schedule.legs[at]
+            pieces.append(Piece(leg, itinerary, None, schedule.lines[leg.number - 1]))
             at = end
             continue
-        while end < len(schedule.legs) and itinerary_of(schedule.legs[end]) == itinerary:
+        while end < len(itineraries) and itineraries[end] == itinerary:
             end += 1
         for part in parts[itinerary]:
-            held = ((leg, held_by(leg, part, parts[itinerary])) for leg in schedule.legs[at:end])
-            pieces.extend(Piece(leg, part, it) for leg, it in held if it)
+            found = ((leg, line_in(schedule, leg, part, parts[itinerary])) for leg in schedule.legs[at:end])
+            pieces.extend(Piece(leg, itinerary, part, line) for leg, line in found if line)
         at = end
     return pieces
 
 
-def held_by(leg, part, parts):
-    """Returns what a leg has in a part of its itinerary, or None. A record without a date of operation stays as it is in the first."""
+def is_flown(leg, part):
+    """Returns whether a leg has a date of operation in a part of its itinerary and isn't left out there."""
+    return part.planned_of(leg) is not LEFT_OUT and part.of(leg) is not None
+
+
+def line_in(schedule, leg, part, parts):
+    """Returns a leg's line in a part of its itinerary, or None. A record without a date of operation stays as it is in the first."""
+    line = schedule.lines[leg.number - 1]
     if part is parts[0] and not any(it.of(leg) for it in parts):
-        return leg.start, leg.end, leg.days
-    return part.of(leg)
+        return line
+    if not is_flown(leg, part):
+        return None
+    kind, shift = part.planned_of(leg)
+    line = retimed(line, shift, part.move)
+    start, end, days = moved(schedule, leg, part.of(leg), part.move)
+    return f"{line[:14]}{text_of(start)}{text_of(end)}{days}{line[35:72]}{kind}{line[75:]}"
 
 
-def variations_of(pieces):
-    """Returns the itinerary variation of each part of a flight that has more of them than before, counted anew from 1."""
-    itineraries, flights = {}, {}
+def variations_of(pieces, changes):
+    """Returns the itinerary variation of each part of a flight that has more or fewer of them than before, counted anew from 1."""
+    parts = {it: set() for it in changes}
     for it in pieces:
-        itinerary, part = it.key
-        itineraries.setdefault(itinerary, {})[part] = True
-        flights.setdefault(itinerary[:2], {})[it.key] = True
-    grown = {itinerary[:2] for itinerary, parts in itineraries.items() if len(parts) > 1}
-    return {key: number for flight in grown for number, key in enumerate(flights[flight], 1)}
+        if it.part is not None:
+            parts[it.itinerary].add(it.part)
+    flights = {itinerary[:2]: {} for itinerary, own in parts.items() if len(own) != 1}
+    for it in pieces:
+        if it.itinerary[:2] in flights:
+            flights[it.itinerary[:2]][it.itinerary, it.part] = True
+    return {key: number for own in flights.values() for number, key in enumerate(own, 1)}
 
 
 class Writer:
     """The lines of the new file. Serial numbers are counted as they are written."""
 
-    def __init__(self, schedule, pieces):
-        self.schedule, self.pieces, self.variations = schedule, {}, variations_of(pieces)
+    def __init__(self, schedule, pieces, variations):
+        self.schedule, self.pieces, self.variations = schedule, {}, variations
         for it in pieces:
             self.pieces.setdefault(it.leg.carrier.number, []).append(it)
         self.lines, self.serial = [], 0
@@ -168,17 +233,9 @@ class Writer:
 
     def leg(self, piece):
         """Writes a leg and its segment data."""
-        lines, leg = self.schedule.lines, piece.leg
-        line = lines[leg.number - 1]
-        number = self.variations.get(piece.key)
-        if piece.part is not None:
-            start, end, days = piece.held
-            first = line[14:21] if start == leg.start else text_of(start)
-            last = line[21:28] if end == leg.end else text_of(end)
-            kind = piece.part.types.get(leg.number, leg.type)
-            line = f"{line[:14]}{first}{last}{days}{line[35:72]}{kind}{line[75:]}"
-        self.put(varied(line, number, 127))
-        for it in lines[leg.number : leg.last]:
+        number = self.variations.get((piece.itinerary, piece.part))
+        self.put(varied(piece.line, number, 127))
+        for it in self.schedule.lines[piece.leg.number : piece.leg.last]:
             self.put(varied(it, number, 27))
 
 
@@ -190,19 +247,30 @@ def varied(line, number, at):
 
 
 def write_plan(schedule, folder, is_whole_season):
-    """Returns the bytes of the file with the types of a plan, and what is told of it."""
-    changes = changes_of(schedule, folder)
+    """Returns the bytes of the file with what a plan says of its legs, and what is told of it."""
+    changes, counts = changes_of(schedule, folder)
     pieces = pieces_of(schedule, changes, parts_by_weekday if is_whole_season else parts_by_date)
-    writer = Writer(schedule, pieces)
-    if max(writer.variations.values(), default=0) >= 100 * len(LETTERS):
+    variations = variations_of(pieces, changes)
+    if max(variations.values(), default=0) >= 100 * len(LETTERS):
         raise Unread(f"{schedule.path}: a flight would have more than {100 * len(LETTERS) - 1} itinerary variations")
+    writer = Writer(schedule, pieces, variations)
     data = writer.write()
     if writer.serial > MOST_RECORDS:
         line = len(schedule.lines)
         raise BadLine(schedule.path, line, f"there would be {writer.serial} records", "bytes 195 to 200", f"{MOST_RECORDS} at most")
-    changed = sum(len(types) for dates in changes.values() for types in dates.values())
-    more = len(pieces) - len(schedule.legs)
-    told = [f"{changed} legs have another aircraft type, and {more} records are new"]
-    if changed:
-        told.append("configurations (bytes 173 to 192) and classes (bytes 76 to 100) stay as filed: mend them where types changed")
-    return data, told
+    return data, list(told(counts, len(schedule.legs), pieces))
+
+
+def told(counts, filed, pieces):
+    """Yields what standard error is told of a plan, in lines."""
+    kept = len({it.leg.number for it in pieces})
+    yield f"{counts['type']} legs have another aircraft type, and {len(pieces) - kept} records are new"
+    if counts["shift"]:
+        over = f", {counts['day']} of them on another day in UTC" if counts["day"] else ""
+        yield f"{counts['shift']} legs depart at another time{over}"
+    if counts["left out"]:
+        yield f"{counts['left out']} legs are left out, and {filed - kept} records are taken away"
+    if counts["type"]:
+        yield "configurations (bytes 173 to 192) and classes (bytes 76 to 100) stay as filed: mend them where types changed"
+    if counts["shift"] or counts["left out"]:
+        yield "onward flights (bytes 138 to 146), leg sequences and data of segments stay as filed: mend them where times or legs changed"

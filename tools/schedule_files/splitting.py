@@ -1,18 +1,27 @@
-"""An itinerary some of whose dates have other aircraft types, in parts: each part is one itinerary again."""
+"""An itinerary that a plan changes on some of its dates, in parts: each part is one itinerary again."""
 
-from schedule_files.days import OPEN, weekday_of
+from collections import namedtuple
 
-ALL_DAYS = "1234567"
-WEEK = 7
+from schedule_files.days import ALL_DAYS, OPEN, WEEK, weekday_of
+
+# What is planned of a leg: its aircraft type, and by how many minutes it departs later than filed; or that it isn't flown.
+Planned = namedtuple("Planned", ("type", "shift"))
+LEFT_OUT = None
 # In so many days a leg operates once at least, where its period reaches so far.
 FORTNIGHT = 14
 
 
 class Part:
-    """Dates of operation, from a first to a last one, on some days of the week, and the aircraft types of legs on them."""
+    """Dates of operation, from a first to a last one, on some days of the week, what is planned on them of legs by their numbers, and
+    by how many days all are moved in the new file."""
 
-    def __init__(self, start, end, days, types):
-        self.start, self.end, self.days, self.types = start, end, days, types
+    def __init__(self, start, end, days, planned):
+        self.start, self.end, self.days, self.planned = start, end, days, planned
+        self.move = 0
+
+    def planned_of(self, leg):
+        """Returns what a leg has in this part."""
+        return self.planned.get(leg.number, Planned(leg.type, 0))
 
     def of(self, leg):
         """Returns the leg's first and last date and its days of operation in this part, or None where it has no date in it."""
@@ -36,14 +45,14 @@ class Part:
 
 
 def parts_by_date(legs, changes):
-    """Cuts an itinerary before the first date of changes and behind the last: between them a date has the types of that date, and those
-    that are alike are one part; all other dates keep theirs."""
+    """Cuts an itinerary before the first date of changes and behind the last: between them a date has what is planned on that date, and
+    those that are alike are one part; all other dates stay as they are."""
     at, end = min(it.start for it in legs), max(it.end for it in legs)
     parts = []
     for first, last in weeks_of(sorted(changes)):
         parts.append(Part(at, first - 1, ALL_DAYS, {}))
         dates = [(str(weekday_of(it)), changes.get(it, {})) for it in range(first, last + 1)]
-        parts.extend(Part(first, last, days, types) for days, types in alike(dates))
+        parts.extend(Part(first, last, days, planned) for days, planned in alike(dates))
         at = last + 1
     # The rest of a week of a fortnight is cut off, so that later weeks are counted from one that operates.
     for cut in sorted({at + 6 - (at - 1 - it.start) % WEEK for it in legs if it.rate == "2"}):
@@ -61,21 +70,21 @@ def weeks_of(dates):
 
 
 def alike(days):
-    """Returns days of the week with their types, those together that have the same."""
+    """Returns days of the week with what is planned on them, those together that have the same."""
     groups = []
-    for day, types in days:
-        group = next((it for it in groups if it[1] == types), None)
+    for day, planned in days:
+        group = next((it for it in groups if it[1] == planned), None)
         if group:
             group[0].append(day)
         else:
-            groups.append(([day], types))
+            groups.append(([day], planned))
     return groups
 
 
 def parts_by_weekday(_, changes):
-    """Cuts an itinerary by days of operation: through its whole period a day of the week has the types of the date that is planned,
-    and all other days keep theirs."""
-    types = {}
+    """Cuts an itinerary by days of operation: through its whole period a day of the week has what is planned on the date of that day,
+    and all other days stay as they are."""
+    planned = {}
     for date, changed in sorted(changes.items()):
-        types.setdefault(str(weekday_of(date)), {}).update(changed)
-    return [Part(0, OPEN, days, own) for days, own in alike((it, types.get(it, {})) for it in ALL_DAYS)]
+        planned.setdefault(str(weekday_of(date)), {}).update(changed)
+    return [Part(0, OPEN, days, own) for days, own in alike((it, planned.get(it, {})) for it in ALL_DAYS)]

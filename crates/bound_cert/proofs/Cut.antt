@@ -1,6 +1,6 @@
 -- A text of lines of words, cut at its line feeds and spaces, gives the words back.
 use Rattle.bound_cert.proofs.LinesOfWords.{lines_named}
-use Rattle.bound_cert.specs.ProofText.{all_lines, lines_of, proof_lines, proof_text, text_in}
+use Rattle.bound_cert.specs.ProofText.{all_lines, lines_of, proof_lines, proof_text, text_in, written_version}
 use Rattle.dual_bound.specs.OfTables.{IsOfTables}
 use Rattle.dual_bound.specs.declared.trees.Tree.{Tree}
 use Rattle.fleet_model.specs.declared.tables.Tables.{Tables}
@@ -16,7 +16,6 @@ use Rattle.std.proofs.lemmas.List.Splits.{slice_split_at}
 use Rattle.std.proofs.lemmas.List.{append_cancel_right}
 use Rattle.std.specs.List.{slice_split}
 use Rattle.std.specs.Prelude.{All}
-use Rattle.proof_lines.specs.declared.line.Version.TheVariants as version
 
 abbrev is_line_feed : ℕ → Bool
 is_line_feed byte = eqb byte line_feed
@@ -42,6 +41,6 @@ pub text_tells_lines : (t u : Tables) (a b : Bool) (x y : Tree) → IsOfTables t
     → proof_lines t a x ≡ proof_lines u b y
 unfolding text_in
 text_tells_lines t u a b x y of_t of_u same =
-    let left = lines_back t (all_lines t a x) (lines_named version.Two t a x of_t) in
-    let right = lines_back u (all_lines u b y) (lines_named version.Two u b y of_u) in
+    let left = lines_back t (all_lines t a x) (lines_named (written_version t.windows) t a x of_t) in
+    let right = lines_back u (all_lines u b y) (lines_named (written_version u.windows) u b y of_u) in
     append_cancel_right (proof_lines t a x) (proof_lines u b y) (([] ∷ []) ∷ []) (sym left ∙ ap cut same ∙ right)

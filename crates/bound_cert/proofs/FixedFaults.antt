@@ -244,7 +244,7 @@ module _ (t : Tables) (line next other : List ℕ) (rest others : Left) (look : 
   all_ends p =
       let end : Left = line ∷ next ∷ rest in
       let other_end : Left = line ∷ other ∷ others in
-      ends_line end other_end p (head_is (p ++ end)) (head_is (p ++ other_end)) _ _ (headed_twin (p ++ end) (p ++ other_end) (alike_before line next other rest others p)) (λ version. behind version p)
+      ends_line end other_end p (head_is t.windows (p ++ end)) (head_is t.windows (p ++ other_end)) _ _ (headed_twin t.windows (p ++ end) (p ++ other_end) (alike_before line next other rest others p)) (λ version. behind version p)
     where
       behind : (version : Version) (p : Left) → Ends (line ∷ next ∷ rest) (line ∷ other ∷ others) (rest_at (names_in version t) (drop 1 (p ++ line ∷ next ∷ rest))) (rest_at (names_in version t) (drop 1 (p ++ line ∷ other ∷ others)))
       behind version [] = over (line ∷ next ∷ rest) (line ∷ other ∷ others) (length (next ∷ rest)) _ _ (rest_stops version t (next ∷ rest)) (omega arith)

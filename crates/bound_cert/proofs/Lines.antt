@@ -1,5 +1,5 @@
 -- Lines appended, one at a time.
-use Rattle.bound_cert.specs.ProofText.{lines_of, proof_text, text_in, tree_lines}
+use Rattle.bound_cert.specs.ProofText.{lines_of, proof_text, text_in, tree_lines, written_version}
 use Rattle.dual_bound.specs.declared.trees.Tree.{Tree}
 use Rattle.fleet_model.specs.declared.tables.Tables.{Tables}
 use Rattle.proof_lines.specs.LineText.{text_of}
@@ -9,7 +9,6 @@ use Rattle.std.proofs.lemmas.Grind.{flat_map-append}
 use Rattle.std.proofs.lemmas.List.{append-nil}
 use Rattle.std.specs.List.{flat_map, range_with_len}
 use Rattle.proof_lines.specs.declared.line.Line.TheVariants as says
-use Rattle.proof_lines.specs.declared.line.Version.TheVariants as version
 
 range_more : (a n : ℕ) → range_with_len a (suc n) ≡ range_with_len a n ++ (a + n) ∷ []
 range_more a zero = ap (λ k. k ∷ []) (omega arith)
@@ -28,12 +27,12 @@ lines_more t lines n start text grown so_far added =
     (append_assoc start (lines_of t front) (lines_of t (lines n)))
 
 -- the four parts of a proof
-pub proof_done : (t : Tables) (planned : Bool) (tree : Tree) (none head plan body whole : List ℕ) → none ≡ [] → head ≡ none ++ text_of t (says.Head version.Two)
+pub proof_done : (t : Tables) (planned : Bool) (tree : Tree) (none head plan body whole : List ℕ) → none ≡ [] → head ≡ none ++ text_of t (says.Head (written_version t.windows))
     → plan ≡ head ++ text_of t (says.Plan planned) → body ≡ plan ++ lines_of t (tree_lines t tree) → whole ≡ body ++ text_of t says.End → whole ≡ proof_text t planned tree
 unfolding text_in
 proof_done t planned tree none head plan body whole empty headed answered written ended =
     let lines = tree_lines t tree in
-    let first = text_of t (says.Head version.Two) in
+    let first = text_of t (says.Head (written_version t.windows)) in
     let second = text_of t (says.Plan planned) in
     ended ∙ rw (written, answered, headed, empty, flat_map-append (text_of t) lines (says.End ∷ []))
     (append_assoc (first ++ second) (lines_of t lines) (text_of t says.End) ∙ append_assoc first second (lines_of t lines ++ text_of t says.End))

@@ -1,6 +1,6 @@
 -- The lines of a proof name what the tables have, so they are of words, and plain.
 use Rattle.bound_cert.proofs.NodesOfTables.{IsNodeOf, nodes_are}
-use Rattle.bound_cert.specs.ProofText.{all_lines, at_line, cause_lines, charge_line, lines_in, mixed_lines, node_lines, open_line, price_lines, proof_lines, rent_lines, rent_lines_at, tree_lines, weight_line}
+use Rattle.bound_cert.specs.ProofText.{all_lines, at_line, cause_lines, charge_line, lines_in, mixed_lines, node_lines, open_line, price_lines, proof_lines, rent_lines, rent_lines_at, tree_lines, weight_line, written_version}
 use Rattle.bound_cert.specs.Words.{IsPlainLine}
 use Rattle.dual_bound.specs.OfTables.{ArePricesOf, IsCauseOf, IsChargeOf, IsMixedOf, IsOfTables, IsStepOf, IsWeightOf}
 use Rattle.dual_bound.specs.Prices.{rent_of}
@@ -27,7 +27,6 @@ use Rattle.std.specs.Ordering.{int_eq}
 use Rattle.std.specs.Prelude.{All}
 use Rattle.dual_bound.specs.declared.trees.Cause.TheVariants as cause
 use Rattle.proof_lines.specs.declared.line.Line.TheVariants as says
-use Rattle.proof_lines.specs.declared.line.Version.TheVariants as version
 
 one_line : (t : Tables) (line : Line) → IsNamed t line → All (IsNamed t) (line ∷ [])
 one_line t line is = All-cons (IsNamed t) line [] is (All-nil (IsNamed t))
@@ -93,7 +92,7 @@ lines_named v t planned tree is =
 pub lines_are_of_words : (t : Tables) (planned : Bool) (tree : Tree) → IsOfTables t tree → All IsOfWords (proof_lines t planned tree)
 lines_are_of_words t planned tree is =
     let lines = all_lines t planned tree in
-    All-map IsOfWords (line_words t) lines (All-weaker (IsNamed t) (λ line. IsOfWords (line_words t line)) (of_words t) lines (lines_named version.Two t planned tree is))
+    All-map IsOfWords (line_words t) lines (All-weaker (IsNamed t) (λ line. IsOfWords (line_words t line)) (of_words t) lines (lines_named (written_version t.windows) t planned tree is))
 
 pub lines_are_plain : (t : Tables) (planned : Bool) (tree : Tree) → IsOfTables t tree → All IsPlainLine (proof_lines t planned tree)
 lines_are_plain t planned tree is =

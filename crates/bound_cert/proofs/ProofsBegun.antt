@@ -7,11 +7,11 @@ use Rattle.bound_cert.proofs.ReadOn.{bound}
 use Rattle.bound_cert.proofs.Shrinking.{Stops, end_stops, headed_twin, proof_stops, stops_then}
 use Rattle.bound_cert.proofs.WrittenLines.{names}
 use Rattle.bound_cert.proofs.WrittenPrices.{IsBehind}
-use Rattle.bound_cert.proofs.WrittenTrees.{end_read, head_read, last, last_is, plan_read, whole_read}
+use Rattle.bound_cert.proofs.WrittenTrees.{end_read, head_read, last, last_is, plan_read, whole_read, written_shifts}
 use Rattle.bound_cert.specs.FirstFault.{LinesBeforeBeginProof, is_inner_line}
 use Rattle.bound_cert.specs.Lines.{◌>>=◌, Left, Reading, Stopped, line_due}
 use Rattle.bound_cert.specs.Nodes.{end_at, head_is, nodes_from, nothing, plan_at, proof_at, rest_at, tree_at}
-use Rattle.bound_cert.specs.ProofText.{IsNodeIn}
+use Rattle.bound_cert.specs.ProofText.{IsNodeIn, written_version}
 use Rattle.dual_bound.specs.WrittenOrder.{IsNodeInOrder}
 use Rattle.dual_bound.specs.declared.nodes.Node.{Node}
 use Rattle.dual_bound.specs.declared.trees.TheConstants.{MAX_DEPTH}
@@ -26,7 +26,6 @@ use Rattle.bound_cert.specs.declared.reading_lines.Due.TheVariants as due
 use Rattle.dual_bound.specs.declared.nodes.Node.TheVariants as node
 use Rattle.dual_bound.specs.declared.trees.Tree.TheVariants as tree
 use Rattle.proof_lines.specs.declared.line.Line.TheVariants as says
-use Rattle.proof_lines.specs.declared.line.Version.TheVariants as version
 
 -- lines go on to such that read
 record Begun {A : Type 0} (f : Left → Reading A) (p : Left) : Type 0 where
@@ -132,27 +131,27 @@ module _ (v : Version) (t : Tables) (line : List ℕ) (after : Left) where
           }
 
 module _ (t : Tables) (line : List ℕ) (after : Left) where
-  -- all of a text, which may begin as one of version 2
+  -- all of a text, which may begin as one of the version that is written
   all_begun : (p : Left) → count_by is_inner_line p ≤ MAX_DEPTH → (e : Stopped) → proof_at t (p ++ line ∷ after) ≡ Err e → e.left ≡ length (line ∷ after) → Begun (proof_at t) p
   unfolding proof_at
   all_begun [] few e failed there = record {
-    more = line_bytes t (says.Head version.Two) ∷ line_bytes t (says.Plan false) ∷ line_bytes t says.Sole ∷ (last t);
+    more = line_bytes t (says.Head (written_version t.windows)) ∷ line_bytes t (says.Plan false) ∷ line_bytes t says.Sole ∷ (last t);
     value = (false, node.Sole ∷ []);
-    reads = bound (head_is (line_bytes t (says.Head version.Two) ∷ line_bytes t (says.Plan false) ∷ line_bytes t says.Sole ∷ (last t))) version.Two _ (head_read version.Two t (line_bytes t (says.Plan false)) (line_bytes t says.Sole ∷ (last t)))
-        ∙ sole_rest version.Two t line after;
+    reads = bound (head_is t.windows (line_bytes t (says.Head (written_version t.windows)) ∷ line_bytes t (says.Plan false) ∷ line_bytes t says.Sole ∷ (last t))) (written_version t.windows) _ (head_read (written_version t.windows) t t.windows (line_bytes t (says.Plan false)) (line_bytes t says.Sole ∷ (last t)) (written_shifts t.windows))
+        ∙ sole_rest (written_version t.windows) t line after;
     some = omega arith;
   }
-  all_begun (x ∷ p) few e failed there = by_head (head_is (x ∷ (p ++ line ∷ after))) refl failed
+  all_begun (x ∷ p) few e failed there = by_head (head_is t.windows (x ∷ (p ++ line ∷ after))) refl failed
     where
-      by_head : (r : Reading Version) → head_is (x ∷ (p ++ line ∷ after)) ≡ r → (r >>= λ version. rest_at (names_in version t) (p ++ line ∷ after)) ≡ Err e → Begun (proof_at t) (x ∷ p)
-      by_head (Err d) is failed = not_there x p (line ∷ after) (head_is (x ∷ (p ++ line ∷ after))) d (headed_twin (x ∷ (p ++ line ∷ after)) (x ∷ (p ++ line ∷ after)) (alike_self (x ∷ (p ++ line ∷ after)))) is (ap (λ s. s.left) (err_same d e failed) ∙ there)
+      by_head : (r : Reading Version) → head_is t.windows (x ∷ (p ++ line ∷ after)) ≡ r → (r >>= λ version. rest_at (names_in version t) (p ++ line ∷ after)) ≡ Err e → Begun (proof_at t) (x ∷ p)
+      by_head (Err d) is failed = not_there x p (line ∷ after) (head_is t.windows (x ∷ (p ++ line ∷ after))) d (headed_twin t.windows (x ∷ (p ++ line ∷ after)) (x ∷ (p ++ line ∷ after)) (alike_self (x ∷ (p ++ line ∷ after)))) is (ap (λ s. s.left) (err_same d e failed) ∙ there)
       by_head (Ok v) is failed =
           let done = rest_begun v t line after p (omega (arith, few, count_cons v t x p)) e failed there in
           record {
             more = done.more;
             value = done.value;
-            reads = bound (head_is (x ∷ (p ++ done.more))) v _
-                (value_of (x ∷ (p ++ line ∷ after)) (x ∷ (p ++ done.more)) (head_is (x ∷ (p ++ line ∷ after))) (head_is (x ∷ (p ++ done.more))) v (headed_twin (x ∷ (p ++ line ∷ after)) (x ∷ (p ++ done.more)) (alike_after x line p after done.more done.some)) is)
+            reads = bound (head_is t.windows (x ∷ (p ++ done.more))) v _
+                (value_of (x ∷ (p ++ line ∷ after)) (x ∷ (p ++ done.more)) (head_is t.windows (x ∷ (p ++ line ∷ after))) (head_is t.windows (x ∷ (p ++ done.more))) v (headed_twin t.windows (x ∷ (p ++ line ∷ after)) (x ∷ (p ++ done.more)) (alike_after x line p after done.more done.some)) is)
                 ∙ done.reads;
             some = done.some;
           }

@@ -40,7 +40,7 @@ exactly t text (Err error) reads = tt
 
 -- a text of a proof reads as that proof
 pub reads_each_version : (t : Tables) (bytes : List ℕ) (planned : Bool) (whole : Tree) → IsTextOf t bytes planned whole → proof_at t (left_of bytes) ≡ Ok (planned, nodes_of whole)
-reads_each_version t bytes planned whole text = ap (λ text. proof_at t (left_of text)) text.is ∙ reads_in text.version t planned whole text.tells text.order text.shallow
+reads_each_version t bytes planned whole text = ap (λ text. proof_at t (left_of text)) text.is ∙ reads_in text.version t planned whole text.shifts text.tells text.order text.shallow
 
 pub complete : (t : Tables) (text : List ℕ) (result : Result Proof CertError) → MatchResult result (ReadsAs t text) (FaultOf t text) → (planned : Bool) (whole : Tree) → IsTextOf t text planned whole
     → AnswersProof planned whole result

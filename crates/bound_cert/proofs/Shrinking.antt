@@ -145,13 +145,13 @@ pub end_stops : (v : Version) (t : Tables) (a : Left) → Stops (length a) (end_
 unfolding end_at
 end_stops v t a = stops_line a (line_due (names v t) due.End a) _ (line_twin (names v t) due.End a a (alike_self a)) (λ words. nothing_stops (drop 1 a))
 
-pub headed_twin : (a b : Left) → Alike a b → Twin a b (head_is a) (head_is b)
+pub headed_twin : (windows : Bool) (a b : Left) → Alike a b → Twin a b (head_is windows a) (head_is windows b)
 unfolding head_is
-headed_twin [] b same = subst (λ b. Twin [] b (head_is []) (head_is b)) (sym same) (refl, refl)
-headed_twin (line ∷ []) b same = subst (λ b. Twin (line ∷ []) b (head_is (line ∷ [])) (head_is b)) (sym same) (refl, refl)
-headed_twin (line ∷ second ∷ rest) b same =
-    subst (λ b. Twin (line ∷ second ∷ rest) b (head_is (line ∷ second ∷ rest)) (head_is b)) (sym same.is)
-    (by_version (version_of line))
+headed_twin windows [] b same = subst (λ b. Twin [] b (head_is windows []) (head_is windows b)) (sym same) (refl, refl)
+headed_twin windows (line ∷ []) b same = subst (λ b. Twin (line ∷ []) b (head_is windows (line ∷ [])) (head_is windows b)) (sym same) (refl, refl)
+headed_twin windows (line ∷ second ∷ rest) b same =
+    subst (λ b. Twin (line ∷ second ∷ rest) b (head_is windows (line ∷ second ∷ rest)) (head_is windows b)) (sym same.is)
+    (by_version (version_of windows line))
   where
     by_version : (o : Option Version) → Twin (line ∷ second ∷ rest) (line ∷ same.second ∷ same.rest) (headed o (line ∷ second ∷ rest)) (headed o (line ∷ same.second ∷ same.rest))
     by_version None = (refl, refl)
@@ -169,4 +169,4 @@ module _ (v : Version) (t : Tables) where
 
 pub proof_stops : (t : Tables) (a : Left) → Stops (length a) (proof_at t a)
 unfolding proof_at
-proof_stops t a = stops_line a (head_is a) _ (headed_twin a a (alike_self a)) (λ version. rest_stops version t (drop 1 a))
+proof_stops t a = stops_line a (head_is t.windows a) _ (headed_twin t.windows a a (alike_self a)) (λ version. rest_stops version t (drop 1 a))

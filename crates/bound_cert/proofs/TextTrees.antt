@@ -18,7 +18,7 @@ use Rattle.dual_bound.specs.declared.trees.TheConstants.{MAX_DEPTH}
 use Rattle.dual_bound.specs.declared.trees.Tree.{Tree}
 use Rattle.fleet_model.specs.declared.tables.Tables.{Tables}
 use Rattle.proof_lines.proofs.FigureWords.{same_bytes}
-use Rattle.proof_lines.specs.Forms.{form_of}
+use Rattle.proof_lines.specs.Forms.{form_of, has_shifts}
 use Rattle.proof_lines.specs.LineText.{line_bytes}
 use Rattle.proof_lines.specs.Words.{is_word, line_feed}
 use Rattle.proof_lines.specs.declared.line.Line.{Line}
@@ -103,8 +103,37 @@ depth_is other above more within = record { depth = leaf_depth (length above) wi
 
 -- the head, the plan and the end
 
-head_line : (t : Tables) (line : List ℕ) (v : Version) → version_of line ≡ Some v → line ≡ line_bytes t (says.Head v)
-head_line t line v e = by_one (bytes_eq line (codes "fleet proof 1")) refl e
+-- the version that was read is one of the tables
+version_found : (windows : Bool) (line : List ℕ) (v : Version) → version_of windows line ≡ Some v → has_shifts v ≡ windows
+version_found true line v e = by_three (bytes_eq line (codes "fleet proof 3")) e
+  where
+    by_three : (b : Bool) → cond b (Some version.Three) None ≡ Some v → has_shifts v ≡ true
+    by_three true e = let same : version.Three ≡ v = cc e in ap has_shifts (sym same)
+    by_three false e = absurd (cc e)
+version_found false line v e = by_two (bytes_eq line (codes "fleet proof 1")) (bytes_eq line (codes "fleet proof 2")) e
+  where
+    by_two : (a b : Bool) → cond a (Some version.One) (cond b (Some version.Two) None) ≡ Some v → has_shifts v ≡ false
+    by_two true b e = let same : version.One ≡ v = cc e in ap has_shifts (sym same)
+    by_two false true e = let same : version.Two ≡ v = cc e in ap has_shifts (sym same)
+    by_two false false e = absurd (cc e)
+
+version_fits : (windows : Bool) (left : Left) (v : Version) → head_is windows left ≡ Ok v → has_shifts v ≡ windows
+unfolding head_is
+version_fits windows [] v e = absurd (cc e)
+version_fits windows (line ∷ []) v e = absurd (cc e)
+version_fits windows (line ∷ next ∷ rest) v e = by_version (version_of windows line) refl e
+  where
+    by_version : (o : Option Version) → version_of windows line ≡ o → headed o (line ∷ next ∷ rest) ≡ Ok v → has_shifts v ≡ windows
+    by_version None is e = absurd (cc e)
+    by_version (Some w) is e = ap has_shifts (sym (ok_same w v e)) ∙ version_found windows line w is
+
+head_line : (t : Tables) (windows : Bool) (line : List ℕ) (v : Version) → version_of windows line ≡ Some v → line ≡ line_bytes t (says.Head v)
+head_line t true line v e = by_three (bytes_eq line (codes "fleet proof 3")) refl e
+  where
+    by_three : (b : Bool) → bytes_eq line (codes "fleet proof 3") ≡ b → cond b (Some version.Three) None ≡ Some v → line ≡ line_bytes t (says.Head v)
+    by_three true is e = let same : version.Three ≡ v = cc e in subst (λ v. line ≡ line_bytes t (says.Head v)) same (same_bytes line (codes "fleet proof 3") is)
+    by_three false is e = absurd (cc e)
+head_line t false line v e = by_one (bytes_eq line (codes "fleet proof 1")) refl e
   where
     by_two : (b : Bool) → bytes_eq line (codes "fleet proof 2") ≡ b → cond b (Some version.Two) None ≡ Some v → line ≡ line_bytes t (says.Head v)
     by_two true is e = let same : version.Two ≡ v = cc e in subst (λ v. line ≡ line_bytes t (says.Head v)) same (same_bytes line (codes "fleet proof 2") is)
@@ -114,15 +143,15 @@ head_line t line v e = by_one (bytes_eq line (codes "fleet proof 1")) refl e
     by_one true is e = let same : version.One ≡ v = cc e in subst (λ v. line ≡ line_bytes t (says.Head v)) same (same_bytes line (codes "fleet proof 1") is)
     by_one false is e = by_two (bytes_eq line (codes "fleet proof 2")) refl e
 
-head_was : (t : Tables) (left : Left) (v : Version) → head_is left ≡ Ok v → left ≡ line_bytes t (says.Head v) ∷ drop 1 left
+head_was : (t : Tables) (windows : Bool) (left : Left) (v : Version) → head_is windows left ≡ Ok v → left ≡ line_bytes t (says.Head v) ∷ drop 1 left
 unfolding head_is
-head_was t [] v e = absurd (cc e)
-head_was t (line ∷ []) v e = absurd (cc e)
-head_was t (line ∷ next ∷ rest) v e = by_version (version_of line) refl e
+head_was t windows [] v e = absurd (cc e)
+head_was t windows (line ∷ []) v e = absurd (cc e)
+head_was t windows (line ∷ next ∷ rest) v e = by_version (version_of windows line) refl e
   where
-    by_version : (o : Option Version) → version_of line ≡ o → headed o (line ∷ next ∷ rest) ≡ Ok v → line ∷ next ∷ rest ≡ line_bytes t (says.Head v) ∷ next ∷ rest
+    by_version : (o : Option Version) → version_of windows line ≡ o → headed o (line ∷ next ∷ rest) ≡ Ok v → line ∷ next ∷ rest ≡ line_bytes t (says.Head v) ∷ next ∷ rest
     by_version None is e = absurd (cc e)
-    by_version (Some w) is e = ap (λ l. l ∷ next ∷ rest) (head_line t line w is ∙ ap (λ x. line_bytes t (says.Head x)) (ok_same w v e))
+    by_version (Some w) is e = ap (λ l. l ∷ next ∷ rest) (head_line t windows line w is ∙ ap (λ x. line_bytes t (says.Head x)) (ok_same w v e))
 
 plan_is : (line : Line) (left : Left) (planned : Bool) → plan_of line left ≡ Ok planned → line ≡ says.Plan planned
 plan_is (says.Plan b) left planned e = ap (λ b. says.Plan b) (ok_same b planned e)
@@ -182,7 +211,7 @@ pub text_of_reading : (t : Tables) (bytes : List ℕ) (planned : Bool) (whole : 
 unfolding proof_at rest_at tree_at text_in
 text_of_reading t bytes planned whole e =
     let left = left_of bytes in
-    let headed = goes (head_is left) _ (planned, nodes_of whole) e in
+    let headed = goes (head_is t.windows left) _ (planned, nodes_of whole) e in
     let v = headed.value in
     let answer = goes (plan_at (names v t) (drop 1 left)) _ (planned, nodes_of whole) headed.on in
     let third : Left = drop 1 (drop 1 left) in
@@ -192,7 +221,7 @@ text_of_reading t bytes planned whole e =
     let same : (answer.value, read.value) ≡ (planned, nodes_of whole) = ok_same (answer.value, read.value) (planned, nodes_of whole) read.on in
     let were = nodes_were v t (length third) [] [] third all.value all.is in
     let nodes_are : were.new ≡ nodes_of whole = sym were.list ∙ ok_same all.value.0 read.value ended.on ∙ ap (λ p. p.1) same in
-    let head_line_is = head_was t left v headed.is in
+    let head_line_is = head_was t t.windows left v headed.is in
     let plan_line_is = plan_was v t (drop 1 left) answer.value answer.is in
     let deep = depth_is whole [] [] (subst (λ nodes. Within [] nodes) (nodes_are ∙ sym (append-nil (nodes_of whole))) were.deep) in
     let tree_text : third ≡ texts t (tree_lines t whole) ++ last t =
@@ -205,6 +234,7 @@ text_of_reading t bytes planned whole e =
     ∙ ap (λ rest. line_bytes t (says.Plan planned) ∷ rest) (tree_text ∙ sym (texts_append t (tree_lines t whole) (says.End ∷ []) ([] ∷ [])))) in
     record {
       version = v;
+      shifts = version_fits t.windows left v headed.is;
       tells = subst (λ nodes. All (IsNodeIn v) nodes) nodes_are were.tell;
       is = sym (join_with_byte-slice_split line_feed bytes) ∙ ap (join_with_byte line_feed) lines ∙ join_lines t (lines_in v t planned whole);
       order = subst (λ nodes. All (IsNodeInOrder t) nodes) nodes_are were.each;

@@ -8,7 +8,7 @@ use Rattle.bound_cert.proofs.WrittenNodes.{before_node, behind_line, node_read}
 use Rattle.bound_cert.proofs.WrittenPrices.{IsBehind, steps_of}
 use Rattle.bound_cert.specs.Lines.{Left, Reading, left_of, line_due, may_stand}
 use Rattle.bound_cert.specs.Nodes.{Above, after_node, after_tree, end_at, head_is, nodes_from, nothing, plan_at, proof_at, rest_at, tree_at}
-use Rattle.bound_cert.specs.ProofText.{CanTell, IsNodeIn, lines_in, node_lines, proof_text, text_in, tree_lines}
+use Rattle.bound_cert.specs.ProofText.{CanTell, IsNodeIn, lines_in, node_lines, proof_text, text_in, tree_lines, written_version}
 use Rattle.bound_cert.specs.Reading.{node_at, said_at}
 use Rattle.dual_bound.specs.Leaves.{depth_of}
 use Rattle.dual_bound.specs.Nodes.{nodes_of}
@@ -21,7 +21,7 @@ use Rattle.dual_bound.specs.declared.trees.TheConstants.{MAX_DEPTH}
 use Rattle.dual_bound.specs.declared.trees.Tree.{Tree}
 use Rattle.fleet_model.specs.declared.tables.Tables.{Tables}
 use Rattle.proof_lines.specs.declared.line.Version.{Version}
-use Rattle.proof_lines.specs.Forms.{form_of, has_form}
+use Rattle.proof_lines.specs.Forms.{form_of, has_charges, has_form, has_shifts}
 use Rattle.proof_lines.specs.LineText.{line_bytes}
 use Rattle.std.proofs.Common.{[], ◌++◌, ◌+◌, ◌<◌, ◌==◌, ◌∙◌, ◌∷◌, ◌≡◌, ◌≤◌, Bool, List, Ok, ap, append-nil, append_assoc, arith, cond, false, get_or, length, refl, subst, suc, sym, true, zero, ℕ}
 use Rattle.std.proofs.lemmas.Bool.Decides.{nat_tests}
@@ -179,39 +179,52 @@ node_of t (node.Split leg fleet prices mixed) is =
 pub in_order_of_tables : (t : Tables) (whole : Tree) → InWrittenOrder t whole → IsOfTables t whole
 in_order_of_tables t whole are = tree_of t whole (All-weaker (IsNodeInOrder t) (IsNodeOf t) (node_of t) (nodes_of whole) are)
 
--- the head that is written says the version
-pub head_read : (v : Version) (t : Tables) (next : List ℕ) (rest : Left) → head_is (line_bytes t (says.Head v) ∷ next ∷ rest) ≡ Ok v
+-- the head that is written says the version, where it is one of the tables
+pub head_read : (v : Version) (t : Tables) (windows : Bool) (next : List ℕ) (rest : Left) → has_shifts v ≡ windows → head_is windows (line_bytes t (says.Head v) ∷ next ∷ rest) ≡ Ok v
 unfolding head_is
-head_read version.One t next rest = refl
-head_read version.Two t next rest = refl
+head_read version.One t false next rest of = refl
+head_read version.Two t false next rest of = refl
+head_read version.Three t true next rest of = refl
+head_read version.One t true next rest of = absurd (cc of)
+head_read version.Two t true next rest of = absurd (cc of)
+head_read version.Three t false next rest of = absurd (cc of)
 
--- a text reads as the proof that it is written of, in each version
-pub reads_in : (v : Version) (t : Tables) (planned : Bool) (whole : Tree) → CanTell v whole → InWrittenOrder t whole → IsShallow whole → proof_at t (left_of (text_in v t planned whole)) ≡ Ok (planned, nodes_of whole)
+-- a text reads as the proof that it is written of, in each version of the tables
+pub reads_in : (v : Version) (t : Tables) (planned : Bool) (whole : Tree) → has_shifts v ≡ t.windows → CanTell v whole → InWrittenOrder t whole → IsShallow whole → proof_at t (left_of (text_in v t planned whole)) ≡ Ok (planned, nodes_of whole)
 unfolding proof_at rest_at text_in
-reads_in v t planned whole tells are shallow =
+reads_in v t planned whole of tells are shallow =
     let rest : Left = texts t (tree_lines t whole) ++ (last t) in
     let all : left_of (text_in v t planned whole) ≡ line_bytes t (says.Head v) ∷ line_bytes t (says.Plan planned) ∷ rest =
     left_of_lines t (lines_in v t planned whole) (lines_named v t planned whole (in_order_of_tables t whole are))
     ∙ ap (λ rest. line_bytes t (says.Head v) ∷ line_bytes t (says.Plan planned) ∷ rest) (texts_append t (tree_lines t whole) (says.End ∷ []) ([] ∷ [])) in
     let some : 0 < length rest = (behind_nodes v t (nodes_of whole) (last t) are tells (last_is t)).some in
     ap (proof_at t) all
-    ∙ bound (head_is (line_bytes t (says.Head v) ∷ line_bytes t (says.Plan planned) ∷ rest)) v _ (head_read v t (line_bytes t (says.Plan planned)) rest)
+    ∙ bound (head_is t.windows (line_bytes t (says.Head v) ∷ line_bytes t (says.Plan planned) ∷ rest)) v _ (head_read v t t.windows (line_bytes t (says.Plan planned)) rest of)
     ∙ bound (plan_at (names v t) (line_bytes t (says.Plan planned) ∷ rest)) planned _ (plan_read v t planned rest some)
     ∙ bound (tree_at (names v t) rest) (nodes_of whole) _ (whole_read v t whole tells are shallow)
 
--- a text of version 2 can tell each tree
-node_tells : (n : Node) → IsNodeIn version.Two n
-node_tells (node.Refuted prices) = λ off. absurd (cc off)
-node_tells (node.Priced prices) = λ off. absurd (cc off)
-node_tells (node.Open prices why) = λ off. absurd (cc off)
-node_tells (node.Split leg choice prices mixed) = λ off. absurd (cc off)
-node_tells other = tt
+-- a text of a version with charges can tell each tree
+node_tells : (v : Version) → has_charges v ≡ true → (n : Node) → IsNodeIn v n
+node_tells v has (node.Refuted prices) = λ off. absurd (cc (sym has ∙ off))
+node_tells v has (node.Priced prices) = λ off. absurd (cc (sym has ∙ off))
+node_tells v has (node.Open prices why) = λ off. absurd (cc (sym has ∙ off))
+node_tells v has (node.Split leg choice prices mixed) = λ off. absurd (cc (sym has ∙ off))
+node_tells v has other = tt
 
-tells_all : (whole : Tree) → CanTell version.Two whole
-tells_all whole = λ k d below. node_tells (get_or (nodes_of whole) k d)
+-- the version that is written has charges, and shifts where the tables have windows
+written_charges : (windows : Bool) → has_charges (written_version windows) ≡ true
+written_charges true = refl
+written_charges false = refl
+
+pub written_shifts : (windows : Bool) → has_shifts (written_version windows) ≡ windows
+written_shifts true = refl
+written_shifts false = refl
+
+tells_all : (windows : Bool) (whole : Tree) → CanTell (written_version windows) whole
+tells_all windows whole = λ k d below. node_tells (written_version windows) (written_charges windows) (get_or (nodes_of whole) k d)
 
 pub reads_what_was_written : (t : Tables) (planned : Bool) (whole : Tree) → InWrittenOrder t whole → IsShallow whole → proof_at t (left_of (proof_text t planned whole)) ≡ Ok (planned, nodes_of whole)
-reads_what_was_written t planned whole = reads_in version.Two t planned whole (tells_all whole)
+reads_what_was_written t planned whole = reads_in (written_version t.windows) t planned whole (written_shifts t.windows) (tells_all t.windows whole)
 
 -- proofs of one text are one
 pub one_text : (t : Tables) (a b : Bool) (x y : Tree) → InWrittenOrder t x → IsShallow x → InWrittenOrder t y → IsShallow y → proof_text t a x ≡ proof_text t b y

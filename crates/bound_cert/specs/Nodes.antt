@@ -48,9 +48,10 @@ nodes_from n (suc most) nodes above left =
     if length (after_node read.0 above) == 0 then Ok (nodes ++ read.0 ∷ [], read.1)
     else nodes_from n most (nodes ++ read.0 ∷ []) (after_node read.0 above) read.1
 
--- the version that the head of a text says
-abbrev pub version_of : List ℕ → Option Version
-version_of line =
+-- the version that the head of a text says: where the tables have windows one with shifts, and else one without
+abbrev pub version_of : Bool → List ℕ → Option Version
+version_of true line = if bytes_eq line (codes "fleet proof 3") then Some version.Three else None
+version_of false line =
     if bytes_eq line (codes "fleet proof 1") then Some version.One
     else if bytes_eq line (codes "fleet proof 2") then Some version.Two
     else None
@@ -60,11 +61,11 @@ abbrev pub headed : Option Version → Left → Reading Version
 headed None left = stopped left WRONG_HEAD
 headed (Some version) left = Ok version
 
--- the head, which says the version of the text
-unfoldable pub head_is : Left → Reading Version
-head_is [] = stopped [] WRONG_HEAD
-head_is (line ∷ []) = stopped (line ∷ []) WRONG_HEAD
-head_is (line ∷ next ∷ rest) = headed (version_of line) (line ∷ next ∷ rest)
+-- the head, which says the version of the text, where the tables have windows or haven't
+unfoldable pub head_is : Bool → Left → Reading Version
+head_is windows [] = stopped [] WRONG_HEAD
+head_is windows (line ∷ []) = stopped (line ∷ []) WRONG_HEAD
+head_is windows (line ∷ next ∷ rest) = headed (version_of windows line) (line ∷ next ∷ rest)
 
 -- whether a plan comes with the proof
 abbrev pub plan_of : Line → Left → Reading Bool
@@ -94,7 +95,7 @@ rest_at n left = plan_at n left >>= λ planned. tree_at n (drop 1 left) >>= λ n
 
 -- what a text reads as
 unfoldable pub proof_at : Tables → Left → Reading (Bool × List Node)
-proof_at t left = head_is left >>= λ version. rest_at (names_in version t) (drop 1 left)
+proof_at t left = head_is t.windows left >>= λ version. rest_at (names_in version t) (drop 1 left)
 
 -- a trim or a split as a node
 abbrev pub inner_node : Inner → Node

@@ -1,5 +1,5 @@
 -- The text of a proof of a bound: its lines, as they are written and read.
-use Rattle.std.specs.Prelude.{◌≡◌, ℕ, Bool, false, if◌then◌else◌, List, [], ◌∷◌, ◌++◌, map, pos, slice_index_or, All, ⊤}
+use Rattle.std.specs.Prelude.{◌≡◌, ℕ, Bool, true, false, if◌then◌else◌, List, [], ◌∷◌, ◌++◌, map, pos, slice_index_or, All, ⊤}
 use Rattle.std.specs.List.{flat_map, range_with_len}
 use Rattle.std.specs.Ordering.{int_eq}
 use Rattle.fleet_model.specs.Schedule.{fleets_in}
@@ -90,9 +90,14 @@ tree_lines t tree = flat_map (node_lines t) (nodes_of tree)
 abbrev pub lines_in : Version → Tables → Bool → Tree → List Line
 lines_in v t planned tree = line.Head v ∷ line.Plan planned ∷ (tree_lines t tree ++ line.End ∷ [])
 
--- .. in the version that is written; and each as its words
+-- the version that is written: where the tables have windows that with shifts
+abbrev pub written_version : Bool → Version
+written_version true = version.Three
+written_version false = version.Two
+
+-- the lines of a proof in that version; and each as its words
 abbrev pub all_lines : Tables → Bool → Tree → List Line
-all_lines = lines_in version.Two
+all_lines t = lines_in (written_version t.windows) t
 
 abbrev pub proof_lines : Tables → Bool → Tree → List (List Word)
 proof_lines t planned tree = map (line_words t) (all_lines t planned tree)
@@ -103,7 +108,7 @@ text_in v t planned tree = lines_of t (lines_in v t planned tree)
 
 -- the text of a proof, as it is written
 abbrev pub proof_text : Tables → Bool → Tree → List ℕ
-proof_text = text_in version.Two
+proof_text t = text_in (written_version t.windows) t
 
 -- a text of version 1 has no line for charges, so of prices with charges there is none
 abbrev pub ArePricesIn : Version → Prices → Type 0

@@ -13,6 +13,7 @@ use Rattle.bound_cert.specs.declared.faults.Stop.{Stop}
 use Rattle.bound_cert.specs.declared.faults.Stop.TheVariants as stop
 use Rattle.bound_cert.specs.declared.reading.Proof.{Proof}
 use Rattle.dual_bound.specs.declared.trees.Tree.{Tree}
+use Rattle.proof_lines.specs.Forms.{has_shifts}
 use Rattle.proof_lines.specs.declared.line.Version.{Version}
 
 -- the fault comes where reading stops: its line is the first that is left there
@@ -44,9 +45,10 @@ answer_of lines (Ok proof) = Ok proof
 answer_of lines (Err stop.NoMemory) = Err cert.NoMemory
 answer_of lines (Err (stop.Fault left kind)) = Err (cert.Fault (record { line = lines - left + 1; kind = kind }))
 
--- the text is that of a proof in some version, whose tree is in written order and no deeper than a reader takes
+-- the text is that of a proof in some version, which has shifts just where the tables have windows, and the proof's tree is in written order and no deeper than a reader takes
 pub record IsTextOf (t : Tables) (text : List ℕ) (planned : Bool) (tree : Tree) : Type 0 where
   pub version : Version
+  pub shifts : has_shifts version ≡ t.windows
   pub tells : CanTell version tree
   pub is : text ≡ text_in version t planned tree
   pub order : InWrittenOrder t tree

@@ -40,7 +40,7 @@ impl From<AllocError> for CertError {
     }
 }
 
-/// The first line is neither `fleet proof 1` nor `fleet proof 2`, with its line feed.
+/// The first line is not the head of a version that texts of the tables have, with its line feed.
 pub const WRONG_HEAD: u8 = 1;
 
 /// The line has no line feed, or a byte outside 32 to 126.

@@ -53,7 +53,7 @@ pub fn text_of_reading()
         → IsTextOf t bytes planned tree }
 {}
 
-/// Such a text reads as that proof, in whichever version it is.
+/// Such a text reads as that proof, in whichever version of the tables it is.
 pub fn reads_each_version()
     ensures { (t : Tables) (bytes : List ℕ) (planned : Bool) (tree : Tree) → IsTextOf t bytes planned tree
         → proof_at t (left_of bytes) ≡ Ok (planned, nodes_of tree) }

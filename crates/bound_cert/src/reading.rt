@@ -29,8 +29,8 @@ pub struct Proof {
 }
 
 /// The proof that a text says, else the first fault of the text: its first bad line, and there the least kind. So it
-/// answers a proof just where the text is that of a proof, in either version, whose tree is in written order and no deeper than
-/// `MAX_DEPTH`, and that proof.
+/// answers a proof just where the text is that of a proof, in a version of the tables, whose tree is in written order and no
+/// deeper than `MAX_DEPTH`, and that proof. Tables with windows have version 3, which tells shifts, and others versions 1 and 2.
 pub fn read_proof(alloc: Global, tables: &Tables, bytes: &[u8]) -> Result<Proof, CertError>
     ensures reads { MatchResult result (ReadsAs tables.now bytes.now) (FaultOf tables.now bytes.now) }
     ensures of_tables { IfOk result (λ proof. IsOfTables tables.now proof.tree) }
@@ -77,14 +77,14 @@ fn answer(lines: &[&[u8]], read: Result<Proof, Stop>) -> Result<Proof, CertError
 fn proof_at(alloc: Global, tables: &Tables, left: &[&[u8]]) -> Result<Proof, Stop>
     ensures { Gives (λ proof. (proof.planned, nodes_of proof.tree)) result (proof_at tables.now (seen left.now)) }
 {
-    let version = head_is(left)?;
+    let version = head_is(tables.windows, left)?;
     Ok(of_version(alloc, tables, version, behind(left))?)
 }
 
-/// The version that the head says, where that is the first line. Takes no memory.
+/// The version that the head says, where that is the first line, and the tables have windows or haven't. Takes no memory.
 #[tactic(auto, unfolding(crate::specs::Nodes::head_is))]
-fn head_is(left: &[&[u8]]) -> Result<Version, Stop>
-    ensures gives { Gives (λ version. version) result (head_is (seen left.now)) }
+fn head_is(windows: bool, left: &[&[u8]]) -> Result<Version, Stop>
+    ensures gives { Gives (λ version. version) result (head_is windows (seen left.now)) }
     ensures wants_none { WantsNone result }
 {
     let Some((line, rest)) = left.split_first() else {
@@ -93,16 +93,23 @@ fn head_is(left: &[&[u8]]) -> Result<Version, Stop>
     if rest.is_empty() {
         return stopped(left, WRONG_HEAD);
     }
-    match version_of(line) {
+    match version_of(windows, line) {
         Some(version) => Ok(version),
         None => stopped(left, WRONG_HEAD),
     }
 }
 
-/// The version that the head of a text says.
-fn version_of(line: &[u8]) -> Option<Version>
-    ensures { result ≡ version_of line.now }
+/// The version that the head of a text says: where the tables have windows one with shifts, and else one without.
+fn version_of(windows: bool, line: &[u8]) -> Option<Version>
+    ensures { result ≡ version_of windows line.now }
 {
+    if windows {
+        return if line == b"fleet proof 3".as_slice() {
+            Some(Version::Three)
+        } else {
+            None
+        };
+    }
     if line == b"fleet proof 1".as_slice() {
         Some(Version::One)
     } else if line == b"fleet proof 2".as_slice() {

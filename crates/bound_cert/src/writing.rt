@@ -4,7 +4,7 @@ ghost use Rattle.fleet_model.specs.Schedule.{fleets_in};
 ghost use Rattle.dual_bound.specs.OfTables.{ArePricesOf, IsCauseOf, IsChargeOf, IsMixedOf, IsOfTables, IsStepOf, IsWeightOf};
 ghost use Rattle.proof_lines.specs.LineText.{IsNamed, text_of};
 ghost use Rattle.proof_lines.specs.declared.line.Line.TheVariants as line;
-ghost use Rattle.bound_cert.specs.ProofText.{at_line, cause_lines, charge_line, lines_of, mixed_lines, node_lines, open_line, price_lines, proof_text, rent_lines, rent_lines_at, root_of, tree_lines, weight_line};
+ghost use Rattle.bound_cert.specs.ProofText.{at_line, cause_lines, charge_line, lines_of, mixed_lines, node_lines, open_line, price_lines, proof_text, rent_lines, rent_lines_at, root_of, tree_lines, weight_line, written_version};
 
 use dual_bound::{Cause, Charge, Mixed, PriceStep, Prices, Tree, Weight};
 use entries::NoMemory;
@@ -12,8 +12,8 @@ use fleet_model::Tables;
 use proof_lines::{Line, Version, push_line};
 use std::alloc::Global;
 
-/// The text of a proof, as `proof.txt` holds it: the head, whether a plan comes with it, the tree, and the end, in
-/// version 2. Its one error is want of memory.
+/// The text of a proof, as `proof.txt` holds it: the head, whether a plan comes with it, the tree, and the end; in version 3
+/// where the tables have windows, else in version 2. Its one error is want of memory.
 pub fn write_proof(
     alloc: Global,
     tables: &Tables,
@@ -24,11 +24,23 @@ pub fn write_proof(
     ensures { IfOk result (λ text. text.items ≡ proof_text tables.now planned tree.now) }
 {
     let mut text = Vec::new(alloc);
-    push_line(alloc, &mut text, tables, &Line::Head(Version::Two))?;
+    let version = written_version(tables.windows);
+    push_line(alloc, &mut text, tables, &Line::Head(version))?;
     push_line(alloc, &mut text, tables, &Line::Plan { planned })?;
     push_tree(alloc, &mut text, tables, tree)?;
     push_line(alloc, &mut text, tables, &Line::End)?;
     Ok(text)
+}
+
+/// The version that is written: where the tables have windows that with shifts.
+fn written_version(windows: bool) -> Version
+    ensures { result ≡ written_version windows }
+{
+    if windows {
+        Version::Three
+    } else {
+        Version::Two
+    }
 }
 
 /// Appends the lines of a tree. What it takes of the stack for a level is small, since a tree may be deep.

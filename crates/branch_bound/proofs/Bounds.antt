@@ -8,7 +8,7 @@ use Rattle.sums.specs.Places.{list_below}
 use Rattle.sums.proofs.Places.{get_or-list_below, length-list_below}
 use Rattle.sums.proofs.Tests.{by_either}
 use Rattle.frac_row.proofs.Ceilings.{same_ceiling}
-use Rattle.fleet_model.specs.Counts.{fleet_at}
+use Rattle.fleet_model.specs.Counts.{choice_at}
 use Rattle.fleet_model.specs.Kept.{Domains, IsKeptAssignment, IsSole}
 use Rattle.fleet_model.specs.Legal.{IsLegal, total_cost}
 use Rattle.fleet_model.specs.Schedule.{choices_in, leg_on, legs_in}
@@ -53,7 +53,7 @@ module _ (t : Tables) (keeps : Domains) (sole : IsSole t keeps) where
   sole_fleets : List ℕ
   sole_fleets = list_below (λ l. chosen (λ f. keeps (leg_on l f)) (choices_in t l)) (legs_in t)
 
-  found_on : (l : ℕ) → l < legs_in t → IsChosen (λ f. keeps (leg_on l f)) (choices_in t l) (fleet_at sole_fleets l)
+  found_on : (l : ℕ) → l < legs_in t → IsChosen (λ f. keeps (leg_on l f)) (choices_in t l) (choice_at sole_fleets l)
   unfolding sole_fleets
   found_on l below =
       rw (get_or-list_below (λ k. chosen (λ f. keeps (leg_on k f)) (choices_in t k)) (legs_in t) l 0 below) (is_chosen (λ f. keeps (leg_on l f)) (choices_in t l) (omega (arith, sole.each l below)))

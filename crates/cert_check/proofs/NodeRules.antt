@@ -1,5 +1,5 @@
 -- What is known at a node once it keeps the rules before one.
-use Rattle.std.proofs.Common.{◌≡◌, ℕ, ◌+◌, ◌<◌, Bool, true, false, MatchBool, MatchOption, List, Option, Some, None, IfSome, ℤ, pos, ◌≤ℤ◌, ◌<ℤ◌, refl, ◌∙◌, ap, subst, arith}
+use Rattle.std.proofs.Common.{◌≡◌, ℕ, ◌+◌, ◌<◌, Bool, true, false, MatchBool, MatchOption, List, Option, Some, None, IfSome, is_some, ℤ, pos, ◌≤ℤ◌, ◌<ℤ◌, refl, ◌∙◌, ap, subst, arith}
 use Rattle.std.proofs.lemmas.Int.{ints}
 use Rattle.frac_row.specs.Ratio.{IsCeiling}
 use Rattle.frac_row.proofs.Ceilings.{same_ceiling}
@@ -61,6 +61,11 @@ module _ (t : Tables) (keeps : Domains) (plan : List ℕ) (sole : IsSole t keeps
     illegal = λ a is other. absurd (other (subst (IsLegal t) (sole_is_one t keeps plan a sole kept is) legal.legal));
     none = λ other. absurd (other plan kept);
   }
+
+-- whether there is what stands for a fact tells the fact
+pub told : (P : Type 0) (o : Option ℤ) → MatchOption o (¬ P) (λ x. P) → MatchBool (is_some o) P (¬ P)
+told P None without = without
+told P (Some x) holds = holds
 
 -- the prices of a node that keeps all rules
 pub sound_proper : (t : Tables) (cost : Option ℤ) (node : Node) → IsSound t cost node → IfSome (prices_at node.tree) (ArePrices t)

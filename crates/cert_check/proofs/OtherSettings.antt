@@ -1,13 +1,15 @@
 -- The checker looks at no settings but the days of the period: a tree that holds of tables holds of their lists by any
 -- other settings of as many days.
-use Rattle.std.proofs.Common.{◌≡◌, ℕ, true, false, List, ℤ, Option, Some, None, IfSome, IsSomeAnd, get_or, subst, inl, inr}
+use Rattle.std.proofs.Common.{◌≡◌, ℕ, Bool, true, false, List, ℤ, Option, Some, None, IfSome, IsSomeAnd, get_or, subst, inl, inr}
 use Rattle.fleet_model.specs.Kept.{Domains, IsBare, IsKeptAssignment, IsSole, all_pairs}
-use Rattle.fleet_model.specs.Legal.{HasRoom, IsAssignment, IsLegal, total_cost}
+use Rattle.fleet_model.specs.Legal.{HasRoom, IsAssignment, IsLegal, cost_of, total_cost}
 use Rattle.fleet_model.specs.Mixed.{mixed_cost}
 use Rattle.fleet_model.specs.Limits.{AreTables}
-use Rattle.fleet_model.specs.Schedule.{days_in, parking_of, period_of}
+use Rattle.fleet_model.specs.Schedule.{choice_on, choices_in, days_in, departures_in, fleet_by, leg_at, parking_of, period_of, slot_by}
+use Rattle.fleet_model.specs.Times.{departure}
 use Rattle.fleet_model.specs.Use.{IsBalanced, excess, laps_flown, need_of, parked, stand_of, used_of}
 use Rattle.fleet_model.specs.Counts.{Weights, arrived, departed, weights_of}
+use Rattle.fleet_model.specs.declared.parts.Departure.{Departure}
 use Rattle.fleet_model.specs.declared.parts.Fleet.{Fleet}
 use Rattle.fleet_model.specs.declared.parts.Leg.{Leg}
 use Rattle.fleet_model.specs.declared.parts.PairCost.{PairCost}
@@ -44,30 +46,31 @@ abbrev with_days : ℕ → Settings → Settings
 with_days days settings = record { day_start = settings.day_start; through_max = settings.through_max; period = days }
 
 -- ---- between settings of as many days
-module _ (s : List Station) (f : List Fleet) (l : List Leg) (c : List PairCost) (h : List Through) (days : ℕ) where
+module _ (s : List Station) (f : List Fleet) (l : List Leg) (c : List PairCost) (h : List Through) (g : List Departure) (windows optional : Bool) (days : ℕ) where
   -- settings with these days by which the lists keep their limits
   abbrev Settled : Type 0
-  Settled = (settings : Settings) × AreTables s f l c h (with_days days settings)
+  Settled = (settings : Settings) × AreTables s f l c h (with_days days settings) g windows optional
 
   abbrev by : Settled → Tables
-  by fits = tables_by s f l c h (with_days days fits.0, fits.1)
+  by fits = tables_by s f l c h g windows optional (with_days days fits.0, fits.1)
 
   -- ---- assignments
 
   assignment : (a b : Settled) (plan : List ℕ) → IsAssignment (by a) plan → IsAssignment (by b) plan
+  unfolding choices_in
   assignment a b plan is = record { each_leg = is.each_leg; known = is.known }
 
   balanced : (a b : Settled) (w : Weights) → IsBalanced (by a) w → IsBalanced (by b) w
-  unfolding departed arrived period_of
+  unfolding departed arrived period_of departures_in leg_at choice_on departure slot_by fleet_by
   balanced a b w is = record { each = is.each }
 
   room : (a b : Settled) (scale : ℕ) (w : Weights) → HasRoom (by a) scale w → HasRoom (by b) scale w
-  unfolding departed arrived excess need_of stand_of parked period_of days_in parking_of
+  unfolding departed arrived excess need_of stand_of parked period_of days_in parking_of departures_in leg_at choice_on departure slot_by fleet_by
   room a b scale w is = record { each = is.each }
 
   -- an assignment that is legal by some settings is legal by others of as many days
   legal : (a b : Settled) (plan : List ℕ) → IsLegal (by a) plan → IsLegal (by b) plan
-  unfolding departed arrived excess need_of laps_flown used_of period_of
+  unfolding departed arrived excess need_of laps_flown used_of period_of cost_of departures_in leg_at choice_on departure slot_by fleet_by
   legal a b plan is = record {
     assignment = assignment a b plan is.assignment;
     allowed = record { each = is.allowed.each };
@@ -80,9 +83,11 @@ module _ (s : List Station) (f : List Fleet) (l : List Leg) (c : List PairCost) 
   kept_plan a b keeps plan is = record { assignment = assignment a b plan is.assignment; kept = is.kept }
 
   bare : (a b : Settled) (keeps : Domains) (leg : ℕ) → IsBare (by a) keeps leg → IsBare (by b) keeps leg
+  unfolding choices_in
   bare a b keeps leg is = record { within = is.within; none = is.none }
 
   sole : (a b : Settled) (keeps : Domains) → IsSole (by a) keeps → IsSole (by b) keeps
+  unfolding choices_in
   sole a b keeps is = record { each = is.each }
 
   sole_legal : (a b : Settled) (keeps : Domains) → IsSoleLegal (by a) keeps → IsSoleLegal (by b) keeps
@@ -112,11 +117,11 @@ module _ (s : List Station) (f : List Fleet) (l : List Leg) (c : List PairCost) 
   rise a b prices are = record { each = are.each }
 
   reaches : (a b : Settled) (keeps : Domains) (prices : Prices) (cost : ℤ) → Reaches (by a) keeps prices cost → Reaches (by b) keeps prices cost
-  unfolding leg_worth worth_of less_charges period_of days_in parking_of
+  unfolding leg_worth worth_of less_charges period_of days_in parking_of choices_in cost_of departure slot_by fleet_by
   reaches a b keeps prices cost is = record { least = is.least; rounded = is.rounded; reaches = is.reaches }
 
   mixed : (a b : Settled) (keeps : Domains) (m : Mixed) → IsMixedAt (by a) keeps m → IsMixedAt (by b) keeps m
-  unfolding departed arrived excess need_of laps_flown used_of period_of
+  unfolding departed arrived excess need_of laps_flown used_of period_of choices_in departures_in leg_at choice_on departure slot_by fleet_by
   mixed a b keeps m is = record {
     parts = record { scale = is.parts.scale; each = is.parts.each };
     plan = record {
@@ -129,7 +134,7 @@ module _ (s : List Station) (f : List Fleet) (l : List Leg) (c : List PairCost) 
   }
 
   fraction : (a b : Settled) (keeps : Domains) (prices : Prices) (m : Mixed) → IsFraction (by a) keeps prices m → IsFraction (by b) keeps prices m
-  unfolding leg_worth worth_of less_charges mixed_cost period_of days_in parking_of
+  unfolding leg_worth worth_of less_charges mixed_cost period_of days_in parking_of choices_in cost_of departure slot_by fleet_by
   fraction a b keeps prices m is = record { partial = is.partial; value = is.value }
 
   -- ---- rules
@@ -144,7 +149,7 @@ module _ (s : List Station) (f : List Fleet) (l : List Leg) (c : List PairCost) 
   own_pairs a b keeps (tree.Split' leg fleet prices m p with_pair q without) has = λ leg is. has leg (bare b a keeps leg is)
 
   refuted : (a b : Settled) (keeps : Domains) (v : Tree) → IsRefutedAt (by a) keeps v → IsRefutedAt (by b) keeps v
-  unfolding leg_worth worth_of less_charges period_of days_in parking_of
+  unfolding leg_worth worth_of less_charges period_of days_in parking_of choices_in cost_of departure slot_by fleet_by
   refuted a b keeps (tree.Refuted prices) is = is
   refuted a b keeps (tree.Bare leg) is = is
   refuted a b keeps tree.Sole is = is
@@ -176,6 +181,7 @@ module _ (s : List Station) (f : List Fleet) (l : List Leg) (c : List PairCost) 
   one_ends a b keeps leg fleet with_pair without (inr at_once) = inr (ends a b (part keeps leg fleet false) without at_once)
 
   parts : (a b : Settled) (keeps : Domains) (v : Tree) → HasParts (by a) keeps v → HasParts (by b) keeps v
+  unfolding choices_in
   parts a b keeps (tree.Trim' leg fleet p with_pair q without) has = (has.0, one_ends a b keeps leg fleet with_pair without has.1)
   parts a b keeps (tree.Split' leg fleet prices m p with_pair q without) has = has
   parts a b keeps (tree.Bare leg) has = has
@@ -208,11 +214,11 @@ module _ (s : List Station) (f : List Fleet) (l : List Leg) (c : List PairCost) 
   -- ---- bounds
 
   price_bound : (a b : Settled) (keeps : Domains) (prices : Prices) (bound : Option ℤ) → IsPriceBound (by a) keeps prices bound → IsPriceBound (by b) keeps prices bound
-  unfolding leg_worth worth_of less_charges period_of days_in parking_of
+  unfolding leg_worth worth_of less_charges period_of days_in parking_of choices_in cost_of departure slot_by fleet_by
   price_bound a b keeps prices bound is = record { least = is.least; is = is.is; rounded = is.rounded }
 
   sole_bound : (a b : Settled) (keeps : Domains) (bound : Option ℤ) → IsSoleBound (by a) keeps bound → IsSoleBound (by b) keeps bound
-  unfolding total_cost
+  unfolding total_cost cost_of slot_by fleet_by
   sole_bound a b keeps bound is = record {
     legal = λ plan kept good. is.legal plan (kept_plan b a keeps plan kept) (legal b a plan good);
     illegal = λ plan kept bad. is.illegal plan (kept_plan b a keeps plan kept) (λ good. bad (legal a b plan good));
@@ -241,27 +247,28 @@ module _ (s : List Station) (f : List Fleet) (l : List Leg) (c : List PairCost) 
   }
 
   holds : (a b : Settled) (cost : Option ℤ) (v : Tree) (bound : Option ℤ) → HoldsWith (by a) cost v bound → HoldsWith (by b) cost v bound
+  unfolding cost_of slot_by fleet_by
   holds a b cost v bound is = record {
     sound = λ k d in_list. (let here = is.sound k d in_list in record { each = λ r. keeps_rule a b cost (get_or (nodes_in (all_pairs (by a)) v) k d) r (here.each r) });
     bounded = bound_in a b (all_pairs (by a)) v bound is.bounded;
   }
 
 -- ---- between any settings
-module _ (s : List Station) (f : List Fleet) (l : List Leg) (c : List PairCost) (h : List Through) where
+module _ (s : List Station) (f : List Fleet) (l : List Leg) (c : List PairCost) (h : List Through) (g : List Departure) (windows optional : Bool) where
   -- settings of as many days
-  abbrev SameDays : Fits s f l c h → Fits s f l c h → Type 0
-  SameDays a b = days_in (tables_by s f l c h a) ≡ days_in (tables_by s f l c h b)
+  abbrev SameDays : Fits s f l c h g windows optional → Fits s f l c h g windows optional → Type 0
+  SameDays a b = days_in (tables_by s f l c h g windows optional a) ≡ days_in (tables_by s f l c h g windows optional b)
 
   -- an assignment that is legal by some settings is legal by others of as many days
-  pub legal_by : (a b : Fits s f l c h) → SameDays a b → (plan : List ℕ) → IsLegal (tables_by s f l c h a) plan → IsLegal (tables_by s f l c h b) plan
+  pub legal_by : (a b : Fits s f l c h g windows optional) → SameDays a b → (plan : List ℕ) → IsLegal (tables_by s f l c h g windows optional a) plan → IsLegal (tables_by s f l c h g windows optional b) plan
   unfolding days_in
   legal_by a b same plan is =
-      subst (λ n. (fits : AreTables s f l c h (with_days n b.0)) → IsLegal (tables_by s f l c h (with_days n b.0, fits)) plan) same
-      (λ fits. legal s f l c h a.0.period (a.0, a.1) (b.0, fits) plan is) b.1
+      subst (λ n. (fits : AreTables s f l c h (with_days n b.0) g windows optional) → IsLegal (tables_by s f l c h g windows optional (with_days n b.0, fits)) plan) same
+      (λ fits. legal s f l c h g windows optional a.0.period (a.0, a.1) (b.0, fits) plan is) b.1
 
   -- a tree that holds by some settings holds by others of as many days, with the same bound
-  pub holds_by : (a b : Fits s f l c h) → SameDays a b → (cost : Option ℤ) (v : Tree) (bound : Option ℤ) → HoldsWith (tables_by s f l c h a) cost v bound → HoldsWith (tables_by s f l c h b) cost v bound
+  pub holds_by : (a b : Fits s f l c h g windows optional) → SameDays a b → (cost : Option ℤ) (v : Tree) (bound : Option ℤ) → HoldsWith (tables_by s f l c h g windows optional a) cost v bound → HoldsWith (tables_by s f l c h g windows optional b) cost v bound
   unfolding days_in
   holds_by a b same cost v bound is =
-      subst (λ n. (fits : AreTables s f l c h (with_days n b.0)) → HoldsWith (tables_by s f l c h (with_days n b.0, fits)) cost v bound) same
-      (λ fits. holds s f l c h a.0.period (a.0, a.1) (b.0, fits) cost v bound is) b.1
+      subst (λ n. (fits : AreTables s f l c h (with_days n b.0) g windows optional) → HoldsWith (tables_by s f l c h g windows optional (with_days n b.0, fits)) cost v bound) same
+      (λ fits. holds s f l c h g windows optional a.0.period (a.0, a.1) (b.0, fits) cost v bound is) b.1

@@ -18,7 +18,7 @@ use Rattle.cert_check.proofs.OneVerdict.{one_bound}
 use Rattle.cert_check.proofs.TreeBounds.{second_all}
 
 own_size : (t : Tables) (fleet : ℕ) → IsOtherSize t fleet (fleet_of t fleet).aircraft t
-own_size t fleet = record { stations = refl; fleets = sym (set-get_or t.fleets fleet no_fleet); legs = refl; costs = refl; throughs = refl; settings = refl }
+own_size t fleet = record { stations = refl; fleets = sym (set-get_or t.fleets fleet no_fleet); legs = refl; costs = refl; throughs = refl; settings = refl; departures = refl; windows = refl; optional = refl }
 
 module _ (t : Tables) (cost bound : Option ℤ) (tree : Tree) (holds : HoldsWith t cost tree bound) where
   all_stand : All (Stands t) (nodes_of t tree)

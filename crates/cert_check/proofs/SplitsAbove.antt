@@ -1,5 +1,5 @@
 -- What is found of a node and of its children is what is found of the whole.
-use Rattle.std.proofs.Common.{Box, Global, ◌≡◌, ◌≢◌, ℕ, suc, ◌+◌, Bool, true, false, MatchBool, List, [], ◌∷◌, ◌++◌, All, length, Option, None, ℤ, ◌<ℤ◌, ◌≤ℤ◌, append_assoc, length-append, refl, sym, ◌∙◌, ap, subst, arith}
+use Rattle.std.proofs.Common.{Box, Global, ◌≡◌, ◌≢◌, ℕ, suc, ◌+◌, ◌<◌, ◌^◌, Bool, true, false, MatchBool, List, [], ◌∷◌, ◌++◌, All, length, Option, None, ℤ, ◌<ℤ◌, ◌≤ℤ◌, append_assoc, length-append, refl, sym, ◌∙◌, ap, subst, arith}
 use Rattle.std.proofs.lemmas.Int.{ints}
 use Rattle.std.proofs.lemmas.List.{get_or_append_left}
 use Rattle.std.proofs.lemmas.List.Elements.{All-append, All-cons, All-head, All-nil, All-tail, All-weaker}
@@ -119,6 +119,14 @@ split_test t cost least keeps whole leg fleet prices mixed one other b e proper 
     by_test : (b : Bool) → MatchBool b (cost <ℤ least) (least ≤ℤ cost) → MatchBool b (IsSplitAbove t cost (node keeps (Split leg fleet prices mixed one other))) (IsNoneAbove t cost (node keeps (Split leg fleet prices mixed one other)))
     by_test true above = record { worth = least; rounded = rounded; above = above }
     by_test false below = record { none = λ is. omega (arith, ints, below, is.above, same_ceiling _ _ is.worth least proper.scale.some is.rounded rounded) }
+
+-- a split that is above is the first of its own tree
+pub above_here : (t : Tables) (cost : ℤ) (keeps : Domains) (whole : Tree) (number : ℕ) → number < 2 ^ 64 → IsSplitAbove t cost (node keeps whole) → AreSought t cost (nodes_in keeps whole) number number true
+above_here t cost keeps whole number few above = record {
+  place = 0;
+  first = record { before = []; node = node keeps whole; after = (its_own keeps whole).0; order = (its_own keeps whole).1; none = All-nil (IsNoneAbove t cost); there = refl; above = above };
+  found_is = omega (arith, few);
+}
 
 -- ---- lists of nodes
 -- one node that isn't, and what is found behind it

@@ -7,7 +7,7 @@ use Rattle.std.proofs.lemmas.List.Elements.{All-head, All-tail, All-weaker}
 use Rattle.std.proofs.lemmas.List.{get_or_append_left}
 use Rattle.std.specs.Prelude.{int_le, ⊤}
 use Rattle.sums.proofs.Tests.{both_true}
-use Rattle.fleet_model.specs.Counts.{fleet_at, pair_at}
+use Rattle.fleet_model.specs.Counts.{choice_at, pair_at}
 use Rattle.fleet_model.specs.Kept.{Domains, IsBare, IsKeptAssignment, all_pairs, leaves}
 use Rattle.fleet_model.specs.Legal.{IsLegal, total_cost}
 use Rattle.fleet_model.specs.declared.tables.Tables.{Tables}
@@ -74,7 +74,7 @@ below_second (Some x) (Some y) cost below = by_test (int_le x y) (λ e. grind (a
 
 -- an assignment of kept pairs is of the part with a pair where it flies that, else of the part without
 module _ (t : Tables) (a : List ℕ) where
-  in_part : (keeps : Domains) (leg fleet : ℕ) (taken : Bool) → taken ≡ (fleet_at a leg == fleet) → IsKeptAssignment t keeps a → IsKeptAssignment t (part keeps leg fleet taken) a
+  in_part : (keeps : Domains) (leg fleet : ℕ) (taken : Bool) → taken ≡ (choice_at a leg == fleet) → IsKeptAssignment t keeps a → IsKeptAssignment t (part keeps leg fleet taken) a
   in_part keeps leg fleet taken e is = record {
     assignment = is.assignment;
     kept = λ l below. both_true (keeps (pair_at a l)) _ (is.kept l below) (stays l);
@@ -84,8 +84,8 @@ module _ (t : Tables) (a : List ℕ) where
       by_taken true c same = sym same
       by_taken false c same = ap not (sym same)
 
-      by_leg : (l : ℕ) (b : Bool) → (b ≡ true → l ≡ leg) → (if b then (if taken then (fleet_at a l == fleet) else not (fleet_at a l == fleet)) else true) ≡ true
-      by_leg l true same = by_taken taken (fleet_at a l == fleet) (e ∙ ap (λ m. fleet_at a m == fleet) (sym (same refl)))
+      by_leg : (l : ℕ) (b : Bool) → (b ≡ true → l ≡ leg) → (if b then (if taken then (choice_at a l == fleet) else not (choice_at a l == fleet)) else true) ≡ true
+      by_leg l true same = by_taken taken (choice_at a l == fleet) (e ∙ ap (λ m. choice_at a m == fleet) (sym (same refl)))
       by_leg l false same = refl
 
       stays : (l : ℕ) → leaves (record { leg = leg; choice = fleet; yes = taken }) (pair_at a l) ≡ true
@@ -110,9 +110,9 @@ module _ (t : Tables) (a : List ℕ) (legal : IsLegal t a) where
       → ((b : Option ℤ) → with_pair b → IsKeptAssignment t (part keeps leg fleet true) a → IsBelow b (total_cost t a))
       → ((b : Option ℤ) → without b → IsKeptAssignment t (part keeps leg fleet false) a → IsBelow b (total_cost t a))
       → IsKeptAssignment t keeps a → IsBelow bound (total_cost t a)
-  by_parts keeps leg fleet with_pair without bound is first second kept = by_taken (fleet_at a leg == fleet) refl
+  by_parts keeps leg fleet with_pair without bound is first second kept = by_taken (choice_at a leg == fleet) refl
     where
-      by_taken : (taken : Bool) → (fleet_at a leg == fleet) ≡ taken → IsBelow bound (total_cost t a)
+      by_taken : (taken : Bool) → (choice_at a leg == fleet) ≡ taken → IsBelow bound (total_cost t a)
       by_taken true e = subst (λ b. IsBelow b (total_cost t a)) (sym is.lesser) (below_first is.with_pair is.without (total_cost t a) (first is.with_pair is.yes_is (in_part t a keeps leg fleet true (sym e) kept)))
       by_taken false e = subst (λ b. IsBelow b (total_cost t a)) (sym is.lesser) (below_second is.with_pair is.without (total_cost t a) (second is.without is.no_is (in_part t a keeps leg fleet false (sym e) kept)))
 

@@ -101,7 +101,7 @@ fn leg_cost(tables: &Tables, mixed: &WeightFinder<'_>, leg: u32) -> i128
     requires parts { AreParts tables.now mixed.now }
     requires leg { leg < legs_in tables.now }
     ensures value { result ≡ sum_below_ℤ (weighted_cost tables.now (parts_in mixed.now) leg) (choices_in tables.now leg) }
-    ensures size { IsUpTo MAX_CHOICES result }
+    ensures size { IsUpTo (3 * MAX_CHOICES) result }
 {
     let mut sum = 0;
     for choice in 0..tables.choice_count(leg) {
@@ -115,7 +115,7 @@ fn weighted_cost(tables: &Tables, mixed: &WeightFinder<'_>, pair: Pair) -> i128
     requires parts { AreParts tables.now mixed.now }
     requires pair { IsPair tables.now pair }
     ensures value { result ≡ weighted_cost tables.now (parts_in mixed.now) pair.leg pair.choice }
-    ensures size { IsUpTo 1 result }
+    ensures size { IsUpTo 3 result }
 {
     weight(tables, mixed, pair) * units(tables, pair)
 }
@@ -130,7 +130,7 @@ fn weight(tables: &Tables, mixed: &WeightFinder<'_>, pair: Pair) -> i128
     mixed.weight(pair)
 }
 
-// The cost of a pair, and 0 where it may not be flown.
+// The cost of a pair, and 0 where it may not be taken.
 fn units(tables: &Tables, pair: Pair) -> i128
     ensures value { result ≡ cost_units tables.now pair }
     ensures fits { IsCost result }

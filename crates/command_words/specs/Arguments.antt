@@ -54,7 +54,7 @@ settings_in found = settings_at (day_start_in found) (through_max_in found) (per
 
 -- how the tables are read by settings, where these are there
 abbrev pub reading_at : Option Settings → Option TableOptions
-reading_at (Some s) = Some (record { settings = s })
+reading_at (Some s) = Some (record { settings = s; windows = false; optional = false })
 reading_at None = None
 
 -- how the tables are read, where all values read

@@ -25,7 +25,11 @@ pub(crate) fn reading_of(found: &ArgMatches<'_>) -> Option<TableOptions>
     ensures fit { IfSome result (λ reading. AreSettings reading.settings) }
 {
     let settings = settings_of(found)?;
-    Some(TableOptions { settings })
+    Some(TableOptions {
+        settings,
+        windows: false,
+        optional: false,
+    })
 }
 
 /// The settings that the options give.

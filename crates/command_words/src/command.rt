@@ -95,6 +95,8 @@ pub const DEFAULT_READING: TableOptions = TableOptions {
         through_max: DEFAULT_THROUGH_MAX,
         period: DEFAULT_PERIOD,
     },
+    windows: false,
+    optional: false,
 };
 
 /// How a plan is searched for where no option says it.

@@ -6,7 +6,7 @@ use Rattle.std.proofs.lemmas.List.{get_or_push}
 use Rattle.sums.proofs.Tests.{never_passes, no_both, same_tests}
 use Rattle.fleet_model.specs.declared.parts.Connection.{Connection}
 use Rattle.fleet_model.specs.declared.tables.Tables.{Tables}
-use Rattle.fleet_model.specs.Counts.{fleet_at}
+use Rattle.fleet_model.specs.Counts.{choice_at}
 use Rattle.fleet_model.specs.Schedule.{legs_in}
 use Rattle.ground_turns.specs.Maps.{Holds, IsFitting, IsTour, no_turn, turn_after, turn_at, turns_round}
 use Rattle.ground_turns.specs.Parts.{KeepsPart, NeverTouches}
@@ -146,10 +146,10 @@ module _ (t : Tables) (a : List ℕ) (f : ℕ) (pairs turns : List Connection) (
   flies : (k : ℕ) → k < length legs → Flies t a f (slice_index legs k)
   flies k lt = record {
     known = are.below k lt;
-    flown = eqb-true _ _ (together (λ l. fleet_at a l == f) on_fleet k lt ∙ eq-eqb _ _ least.flies.flown);
+    flown = eqb-true _ _ (together (λ l. choice_at a l == f) on_fleet k lt ∙ eq-eqb _ _ least.flies.flown);
   }
     where
-      on_fleet : KeepsPart turns (λ l. fleet_at a l == f)
+      on_fleet : KeepsPart turns (λ l. choice_at a l == f)
       on_fleet = record { each = λ k lt. eq-eqb _ _ (fitting.map.each k lt).comes_on ∙ sym (eq-eqb _ _ (fitting.map.each k lt).leaves_on) }
 
   some : 0 < length legs
@@ -169,7 +169,7 @@ module _ (t : Tables) (a : List ℕ) (f : ℕ) (pairs turns : List Connection) (
       no_later zero lt e more = absurd (omega (arith, e, more))
       no_later (suc k) lt e more = let less = are.rise 0 (suc k) (omega arith) lt in absurd (omega (arith, e, more, less))
 
-  module _ (other : ℕ) (known : other < legs_in t) (flown : fleet_at a other ≡ f) (differs : label_of labels other ≢ label_of labels first) where
+  module _ (other : ℕ) (known : other < legs_in t) (flown : choice_at a other ≡ f) (differs : label_of labels other ≢ label_of labels first) where
     outside : is_listed legs other ≡ false
     outside = never_passes _ (λ e.
         let found = where_listed legs other e in

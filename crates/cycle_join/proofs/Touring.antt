@@ -7,7 +7,7 @@ use Rattle.sums.proofs.Places.{get_or-list_below, length-list_below}
 use Rattle.sums.proofs.Tests.{same_tests}
 use Rattle.fleet_model.specs.declared.parts.Connection.{Connection}
 use Rattle.fleet_model.specs.declared.tables.Tables.{Tables}
-use Rattle.fleet_model.specs.Counts.{fleet_at}
+use Rattle.fleet_model.specs.Counts.{choice_at}
 use Rattle.fleet_model.specs.Schedule.{legs_in}
 use Rattle.ground_turns.specs.Maps.{HasTurn, Holds, IsFitting, IsSuccessorMap, no_turn, turn_after, turn_at, turns_round}
 use Rattle.ground_turns.specs.Parts.{KeepsPart}
@@ -114,7 +114,7 @@ module _ (t : Tables) (a : List ℕ) (f : ℕ) (turns : List Connection) (map : 
       plain = map.plain;
       each = by_map (IsTurn t a f) (its_turn t a f turns map);
       arrives = λ l below.
-          counted_once (λ k. (turn_at (turns_round legs) k).arriving == l) (length (turns_round legs)) (fleet_at a l == f)
+          counted_once (λ k. (turn_at (turns_round legs) k).arriving == l) (length (turns_round legs)) (choice_at a l == f)
           (λ j k lt lt' e g.
           let within = subst (λ n. j < n) tour_long lt in
           let within' = subst (λ n. k < n) tour_long lt' in
@@ -124,9 +124,9 @@ module _ (t : Tables) (a : List ℕ) (f : ℕ) (turns : List Connection) (map : 
           (found.0, subst (λ n. found.0 < n) (sym tour_long) found.1, eq-eqb _ _ (arriving found.0 found.1 ∙ found.2)))
           (λ k lt e.
           let within = subst (λ n. k < n) tour_long lt in
-          subst (λ q. (fleet_at a q == f) ≡ true) (sym (arriving k within) ∙ eqb-true _ _ e) (eq-eqb _ _ (flies_at k within).flown));
+          subst (λ q. (choice_at a q == f) ≡ true) (sym (arriving k within) ∙ eqb-true _ _ e) (eq-eqb _ _ (flies_at k within).flown));
       departs = λ l below.
-          counted_once (λ k. (turn_at (turns_round legs) k).departing == l) (length (turns_round legs)) (fleet_at a l == f)
+          counted_once (λ k. (turn_at (turns_round legs) k).departing == l) (length (turns_round legs)) (choice_at a l == f)
           (λ j k lt lt' e g.
           let within = subst (λ n. j < n) tour_long lt in
           let within' = subst (λ n. k < n) tour_long lt' in
@@ -137,7 +137,7 @@ module _ (t : Tables) (a : List ℕ) (f : ℕ) (turns : List Connection) (map : 
           (before.0, subst (λ n. before.0 < n) (sym tour_long) before.1, eq-eqb _ _ (departing before.0 before.1 ∙ before.2 ∙ found.2)))
           (λ k lt e.
           let within = subst (λ n. k < n) tour_long lt in
-          subst (λ q. (fleet_at a q == f) ≡ true) (sym (departing k within) ∙ eqb-true _ _ e) (eq-eqb _ _ (its_turn t a f turns map _ (follows k within)).leaves_on));
+          subst (λ q. (choice_at a q == f) ≡ true) (sym (departing k within) ∙ eqb-true _ _ e) (eq-eqb _ _ (its_turn t a f turns map _ (follows k within)).leaves_on));
     }
       where
         arriving : (k : ℕ) → k < length legs → (turn_at (turns_round legs) k).arriving ≡ slice_index legs k
@@ -171,7 +171,7 @@ module _ (t : Tables) (a : List ℕ) (f : ℕ) (turns : List Connection) (map : 
   -- where all the fleet's legs have the label of the first, all are in the round
   pub is_joined : (pairs : List Connection) (labels : List ℕ) → IsFitting t a f turns → Holds turns pairs → length labels ≡ legs_in t
       → ((inside : ℕ → Bool) → KeepsPart turns inside → IsOfLabels labels inside)
-      → IsFirstLeg t a f first → ((l : ℕ) → l < legs_in t → fleet_at a l ≡ f → label_of labels l ≡ label_of labels first) → IsJoined t a f pairs legs
+      → IsFirstLeg t a f first → ((l : ℕ) → l < legs_in t → choice_at a l ≡ f → label_of labels l ≡ label_of labels first) → IsJoined t a f pairs legs
   is_joined pairs labels fitting holds each whole least one = record {
     tour = record { some = round.path.some; fitting = tour_fits all fitting };
     holds = tour_holds all pairs holds;

@@ -3,7 +3,7 @@ use Rattle.std.specs.Prelude.{◌≡◌, ◌≢◌, ℕ, ◌<◌, Bool, IsTrue, 
 use Rattle.std.specs.List.{list_any}
 use Rattle.fleet_model.specs.declared.parts.Connection.{Connection}
 use Rattle.fleet_model.specs.declared.tables.Tables.{Tables}
-use Rattle.fleet_model.specs.Counts.{fleet_at}
+use Rattle.fleet_model.specs.Counts.{choice_at}
 use Rattle.fleet_model.specs.Schedule.{legs_in}
 use Rattle.ground_turns.specs.Maps.{Holds, IsFitting, IsTour, turns_round}
 use Rattle.ground_turns.specs.Parts.{KeepsPart}
@@ -13,7 +13,7 @@ use Rattle.cycle_join.specs.declared.joined.Joined.TheVariants as joined
 -- the fleet flies the leg by the assignment
 pub record Flies (t : Tables) (a : List ℕ) (f l : ℕ) : Type 0 where
   pub known : l < legs_in t
-  pub flown : fleet_at a l ≡ f
+  pub flown : choice_at a l ≡ f
 
 -- it flies some leg
 pub record FliesSome (t : Tables) (a : List ℕ) (f : ℕ) : Type 0 where
@@ -23,7 +23,7 @@ pub record FliesSome (t : Tables) (a : List ℕ) (f : ℕ) : Type 0 where
 -- the least of the fleet's legs
 pub record IsFirstLeg (t : Tables) (a : List ℕ) (f l : ℕ) : Type 0 where
   pub flies : Flies t a f l
-  pub least : (k : ℕ) → k < l → fleet_at a k ≢ f
+  pub least : (k : ℕ) → k < l → choice_at a k ≢ f
 
 -- the leg is one of the list
 abbrev pub is_listed : List ℕ → ℕ → Bool

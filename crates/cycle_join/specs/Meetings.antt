@@ -2,7 +2,7 @@
 use Rattle.std.specs.Prelude.{◌≡◌, ◌≢◌, ℕ, ◌<◌, Bool, true, false, ◌==◌, ◌&&◌, ◌||◌, nat_lt, List, length, slice_index_or}
 use Rattle.fleet_model.specs.declared.parts.Connection.{Connection}
 use Rattle.fleet_model.specs.declared.tables.Tables.{Tables}
-use Rattle.fleet_model.specs.Counts.{fleet_at}
+use Rattle.fleet_model.specs.Counts.{choice_at}
 use Rattle.fleet_model.specs.Legal.{IsAssignment}
 use Rattle.fleet_model.specs.Schedule.{fleets_in, legs_in}
 use Rattle.ground_turns.specs.Maps.{Holds, IsFitting, arrivals_of, turn_at}
@@ -57,10 +57,10 @@ pub record AreApart (g : Ground) (c : Cycles) : Type 0 where
 
 -- all the fleet's legs have the label of the first, or one has another
 pub record HasOneLabel (g : Ground) (c : Cycles) (first : ℕ) : Type 0 where
-  pub each : (l : ℕ) → l < legs_in g.tables.now → fleet_at g.plan.now l ≡ g.fleet → label_of c.labels.items l ≡ label_of c.labels.items first
+  pub each : (l : ℕ) → l < legs_in g.tables.now → choice_at g.plan.now l ≡ g.fleet → label_of c.labels.items l ≡ label_of c.labels.items first
 
 pub record HasOtherLabel (g : Ground) (c : Cycles) (first : ℕ) : Type 0 where
   pub leg : ℕ
   pub known : leg < legs_in g.tables.now
-  pub flown : fleet_at g.plan.now leg ≡ g.fleet
+  pub flown : choice_at g.plan.now leg ≡ g.fleet
   pub other : label_of c.labels.items leg ≢ label_of c.labels.items first

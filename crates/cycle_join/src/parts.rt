@@ -1,6 +1,6 @@
 //! Which of a fleet's legs have one label.
 ghost use Rattle.std.specs.Prelude.{◌≡◌, ◌<◌, ℕ, IfOk, MatchBool, length, slice_index};
-ghost use Rattle.fleet_model.specs.Counts.{fleet_at};
+ghost use Rattle.fleet_model.specs.Counts.{choice_at};
 ghost use Rattle.fleet_model.specs.Schedule.{legs_in};
 ghost use Rattle.cycle_join.specs.Joins.{Flies, FliesSome, IsFirstLeg};
 ghost use Rattle.cycle_join.specs.Labels.{label_of, legs_of};
@@ -18,7 +18,7 @@ pub(crate) fn first_leg(ground: &Ground<'_>) -> u32
     ensures { IsFirstLeg ground.now.tables.now ground.now.plan.now ground.now.fleet result }
 {
     for leg in 0..ground.tables.leg_count() {
-        if ground.plan.fleet(leg) == ground.fleet {
+        if ground.plan.choice(leg) == ground.fleet {
             return leg;
         }
     }
@@ -33,7 +33,7 @@ pub(crate) fn has_one_label(ground: &Ground<'_>, cycles: &Cycles, first: u32) ->
     ensures { MatchBool result (HasOneLabel ground.now cycles.now first) (HasOtherLabel ground.now cycles.now first) }
 {
     for leg in 0..ground.tables.leg_count() {
-        if ground.plan.fleet(leg) == ground.fleet
+        if ground.plan.choice(leg) == ground.fleet
             && cycles.labels[leg as usize] != cycles.labels[first as usize]
         {
             return false;

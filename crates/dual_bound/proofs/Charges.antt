@@ -13,7 +13,6 @@ use Rattle.fleet_model.specs.declared.parts.Pair.{Pair}
 use Rattle.fleet_model.specs.declared.tables.Tables.{Tables}
 use Rattle.fleet_model.specs.Schedule.{IsPair, days_in, fleet_by, fleets_in, leg_of, period_of, stations_in}
 use Rattle.fleet_model.specs.Times.{departure, laps_of, ready_minute}
-use Rattle.fleet_model.proofs.FlownPairs.{pairs_are_flown}
 use Rattle.fleet_model.proofs.PeriodMinutes.{days_are_period}
 use Rattle.dual_bound.specs.Prices.{AreCharges, charge_of, price_of, rent_of, with_charge}
 use Rattle.dual_bound.specs.Worth.{charges_of, cost_units, less_charges, limit_of, pair_worth, where_flown}
@@ -21,7 +20,7 @@ use Rattle.dual_bound.specs.declared.prices.Prices.{Prices}
 
 -- ---- flown pairs
 pub where_flown_is : (t : Tables) (p : Pair) (z : ℤ) → IsPair t p → where_flown t p z ≡ where_true (nat_lt (fleet_by t p) (fleets_in t)) z
-where_flown_is t p z pair = sym (ap (λ b. where_true b z) (lt-ltb _ _ (pairs_are_flown t p pair)))
+where_flown_is t p z pair = refl
 
 pub flown : (t : Tables) (p : Pair) (z : ℤ) → IsPair t p → fleet_by t p < fleets_in t → where_flown t p z ≡ z
 flown t p z pair by = where_flown_is t p z pair ∙ ap (λ b. where_true b z) (lt-ltb _ _ by)

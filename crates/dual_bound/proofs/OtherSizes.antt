@@ -69,6 +69,7 @@ module _ (t : Tables) (fleet count : ℕ) (u : Tables) (is : IsOtherSize t fleet
         let departs = ap (λ (f : Pair → ℕ). f p) (departure_same t fleet count u is) in
         let ready = ap (λ (f : Pair → ℕ). f p) (ready_same t fleet count u is) in
         let laps = ap (λ (f : Pair → ℕ). f p) (laps_same t fleet count u is) in
+        let fleets = fleets_same t fleet count u is in
         cc
 
     leg_worth_same : (l : ℕ) → leg_worth u keeps prices k l ≡ leg_worth t keeps prices k l
@@ -110,15 +111,15 @@ module _ (t : Tables) (fleet count : ℕ) (u : Tables) (is : IsOtherSize t fleet
     worth_other known = omega (arith, ints, legs_worth_same, rents_other known, charges_same)
 
     -- .. as they are added up
-    pub worth_sum : fleet < fleets_in t → (worth own rents : ℤ) → IsUpTo (5 * legs_in t + MAX_AIRCRAFT * fleets_in t + 70000 * stations_in t) worth → IsUpTo MAX_AIRCRAFT own → IsUpTo MAX_AIRCRAFT rents
+    pub worth_sum : fleet < fleets_in t → (worth own rents : ℤ) → IsUpTo (7 * legs_in t + MAX_AIRCRAFT * fleets_in t + 70000 * stations_in t) worth → IsUpTo MAX_AIRCRAFT own → IsUpTo MAX_AIRCRAFT rents
         → worth ≡ worth_of t keeps prices k → own ≡ rents_of t prices fleet → rents ≡ rent_of prices fleet *ℤ pos count
         → held (held (held worth +ℤ held own) -ℤ held rents) ≡ worth_of u keeps prices k
     worth_sum known worth own rents small_worth small_own small_rents worth_is own_is rents_is =
         let legs = t.in_range.legs_fit.few in
         let fleets = t.in_range.fleets_fit.few in
         let stations = t.in_range.stations_fit.few in
-        let few : (5 * legs_in t + MAX_AIRCRAFT * fleets_in t + 70000 * stations_in t) + MAX_AIRCRAFT + MAX_AIRCRAFT ≤ many = omega (arith, legs, fleets, stations) in
-        let both : IsUpTo ((5 * legs_in t + MAX_AIRCRAFT * fleets_in t + 70000 * stations_in t) + MAX_AIRCRAFT) (worth +ℤ own) = record { no_less = omega (arith, ints, small_worth, small_own); no_more = omega (arith, ints, small_worth, small_own) } in
+        let few : (7 * legs_in t + MAX_AIRCRAFT * fleets_in t + 70000 * stations_in t) + MAX_AIRCRAFT + MAX_AIRCRAFT ≤ many = omega (arith, legs, fleets, stations) in
+        let both : IsUpTo ((7 * legs_in t + MAX_AIRCRAFT * fleets_in t + 70000 * stations_in t) + MAX_AIRCRAFT) (worth +ℤ own) = record { no_less = omega (arith, ints, small_worth, small_own); no_more = omega (arith, ints, small_worth, small_own) } in
         ap₂ (λ x y. held (held (x +ℤ y) -ℤ held rents)) (is_held _ worth small_worth (omega (arith, few))) (is_held MAX_AIRCRAFT own small_own (omega arith))
         ∙ taken _ MAX_AIRCRAFT (worth +ℤ own) rents _ _ both small_rents few (ap₂ (λ x y. x +ℤ y) worth_is own_is) rents_is
         ∙ sym (worth_other known)

@@ -29,12 +29,12 @@ pub cost_size : (c : ℤ) → IsCost c → IsUpTo 1 c
 cost_size c cost = record { no_less = omega (arith, ints, cost.no_less, cost.no_more); no_more = omega (arith, ints, cost.no_less, cost.no_more) }
 
 -- a scale times a cost
-pub scaled : (s c : ℤ) → pos 1 ≤ℤ s → s ≤ℤ pos max_scale → IsCost c → IsUpTo 1 (s *ℤ c)
+pub scaled : (s c : ℤ) → pos 1 ≤ℤ s → s ≤ℤ pos max_scale → IsCost c → IsUpTo 3 (s *ℤ c)
 scaled (negsuc n) c some within small = absurd (omega (arith, ints))
 scaled (pos n) c some within small =
-    let ends = between n (10 ^ 12) c small.no_less small.no_more in
+    let ends = between n (3 * 10 ^ 12) c small.no_less small.no_more in
     let few : n ≤ max_scale = omega (arith, ints) in
-    let wide : n * 10 ^ 12 ≤ max_scale * 10 ^ 12 = mul-le-mul_right (10 ^ 12) few in
+    let wide : n * (3 * 10 ^ 12) ≤ max_scale * (3 * 10 ^ 12) = mul-le-mul_right (3 * 10 ^ 12) few in
     record {
       no_less = omega (arith, ints, ends.0, wide);
       no_more = omega (arith, ints, ends.1, wide);

@@ -1,6 +1,6 @@
 -- The bound that prices give in a subproblem, which is Lagrangian: each leg takes the choice that is cheapest by
 -- the prices; the rents of all aircraft are taken off, and charges.
-use Rattle.std.specs.Prelude.{ℕ, zero, suc, ◌+◌, Bool, if◌then◌else◌, ℤ, pos, ◌+ℤ◌, ◌-ℤ◌, ◌*ℤ◌, Option, Some, None, unwrap_or, int_le}
+use Rattle.std.specs.Prelude.{ℕ, zero, suc, ◌+◌, Bool, if◌then◌else◌, ℤ, pos, ◌+ℤ◌, ◌-ℤ◌, ◌*ℤ◌, nat_lt, Option, Some, None, unwrap_or, int_le}
 use Rattle.sums.specs.Below.{sum_below_ℤ}
 use Rattle.fleet_model.specs.Kept.{Domains}
 use Rattle.fleet_model.specs.Legal.{cost_of}
@@ -21,13 +21,13 @@ unfoldable pub least_below : (ℕ → Bool) → (ℕ → ℤ) → ℕ → Option
 least_below keeps f zero = None
 least_below keeps f (suc n) = if keeps n then Some (lesser (least_below keeps f n) (f n)) else least_below keeps f n
 
--- what a pair costs, and 0 where it may not be flown
+-- what a pair costs, and 0 where it may not be taken
 abbrev pub cost_units : Tables → Pair → ℤ
 cost_units t p = unwrap_or (cost_of t p) (pos 0)
 
--- what aircraft add to a pair's worth, where a fleet flies it
+-- what aircraft add to a pair's worth: nothing where no fleet flies it
 abbrev pub where_flown : Tables → Pair → ℤ → ℤ
-where_flown t p worth = worth
+where_flown t p worth = if nat_lt (fleet_by t p) (fleets_in t) then worth else pos 0
 
 -- what a pair costs by prices: k times its cost, what an aircraft is worth where and when it departs, less what
 -- it is worth where and when it is ready, and rent for each period start between

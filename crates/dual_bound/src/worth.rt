@@ -37,7 +37,7 @@ pub(crate) fn total_worth(tables: &Tables, kept: &Kept, prices: &PriceFinder<'_>
     requires within { AreWithin tables.now prices.now }
     requires k { k ≤ 1 }
     ensures value { result ≡ worth_of tables.now (kept_by kept.now) prices.now k }
-    ensures size { IsUpTo (5 * legs_in tables.now + MAX_AIRCRAFT * fleets_in tables.now + 70000 * stations_in tables.now) result }
+    ensures size { IsUpTo (7 * legs_in tables.now + MAX_AIRCRAFT * fleets_in tables.now + 70000 * stations_in tables.now) result }
 {
     legs_worth(tables, kept, prices, k) - all_rents(tables, prices) - all_charges(tables, prices)
 }
@@ -48,7 +48,7 @@ fn legs_worth(tables: &Tables, kept: &Kept, prices: &PriceFinder<'_>, k: u8) -> 
     requires within { AreWithin tables.now prices.now }
     requires k { k ≤ 1 }
     ensures value { result ≡ sum_below_ℤ (leg_worth tables.now (kept_by kept.now) prices.now k) (legs_in tables.now) }
-    ensures size { IsUpTo (5 * legs_in tables.now) result }
+    ensures size { IsUpTo (7 * legs_in tables.now) result }
 {
     let mut sum = 0;
     for leg in 0..tables.leg_count() {
@@ -65,7 +65,7 @@ fn leg_worth(tables: &Tables, kept: &Kept, prices: &PriceFinder<'_>, k: u8, leg:
     requires k { k ≤ 1 }
     requires leg { leg < legs_in tables.now }
     ensures value { result ≡ leg_worth tables.now (kept_by kept.now) prices.now k leg }
-    ensures size { IsUpTo 5 result }
+    ensures size { IsUpTo 7 result }
 {
     let mut least = None;
     for choice in 0..tables.choice_count(leg) {
@@ -94,7 +94,7 @@ fn pair_worth(tables: &Tables, prices: &PriceFinder<'_>, k: u8, pair: Pair) -> i
     requires k { k ≤ 1 }
     requires pair { IsPair tables.now pair }
     ensures value { result ≡ pair_worth tables.now prices.now k pair }
-    ensures size { IsUpTo 5 result }
+    ensures size { IsUpTo 7 result }
 {
     let fleet = tables.fleet_by(pair);
     if fleet >= tables.fleet_count() {
@@ -112,7 +112,7 @@ fn flown_worth(tables: &Tables, prices: &PriceFinder<'_>, k: u8, pair: Pair, fle
     requires by { fleet ≡ fleet_by tables.now pair }
     requires flown { fleet < fleets_in tables.now }
     ensures value { result ≡ pair_worth tables.now prices.now k pair }
-    ensures size { IsUpTo 5 result }
+    ensures size { IsUpTo 7 result }
 {
     if prices.is_idle(fleet) {
         return scaled_cost(tables, prices.scale(), k, pair);
@@ -129,19 +129,19 @@ fn priced_worth(tables: &Tables, prices: &PriceFinder<'_>, k: u8, pair: Pair, fl
     requires by { fleet ≡ fleet_by tables.now pair }
     requires flown { fleet < fleets_in tables.now }
     ensures value { result ≡ pair_worth tables.now prices.now k pair }
-    ensures size { IsUpTo 5 result }
+    ensures size { IsUpTo 7 result }
 {
     scaled_cost(tables, prices.scale(), k, pair)
         + price_fall(tables, prices, pair, fleet)
         + lap_rents(tables, prices, pair, fleet)
 }
 
-// k times the cost of a pair, over the scale; 0 where it may not be flown.
+// k times the cost of a pair, over the scale; 0 where it may not be taken.
 fn scaled_cost(tables: &Tables, scale: &i128, k: u8, pair: Pair) -> i128
     requires scale { IsScale scale.now }
     requires k { k ≤ 1 }
     ensures value { result ≡ pos k *ℤ scale.now *ℤ cost_units tables.now pair }
-    ensures size { IsUpTo 1 result }
+    ensures size { IsUpTo 3 result }
 {
     if k == 0 {
         return 0;
@@ -149,7 +149,7 @@ fn scaled_cost(tables: &Tables, scale: &i128, k: u8, pair: Pair) -> i128
     *scale * cost_units(tables, pair)
 }
 
-// The cost of a pair, and 0 where it may not be flown.
+// The cost of a pair, and 0 where it may not be taken.
 fn cost_units(tables: &Tables, pair: Pair) -> i128
     ensures value { result ≡ cost_units tables.now pair }
     ensures fits { IsCost result }

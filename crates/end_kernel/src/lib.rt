@@ -9,11 +9,13 @@ pub mod lists;
 pub mod number;
 pub mod row;
 pub mod start;
+pub mod triangle;
 
 pub use columns::{Columns, Entry, Unit};
-pub use divider::odd_part;
+pub use divider::{Divider, odd_part};
 pub use kernel::Kernel;
 pub use lists::{at, filled, put};
 pub use number::{Number, common_divisor};
 pub use row::{Part, Row, Sides, Taken};
 pub use start::{NONE, Place, Start};
+pub use triangle::triangular_places;

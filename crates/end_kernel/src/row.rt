@@ -22,8 +22,8 @@ pub struct Row<N> {
     pub den: N,
     /// All bits that one of its sizes has, that of the denominator too.
     pub sizes: N,
-    /// The sum of the squares of its parts, where the row comes to less than 0.
-    pub squares: i128,
+    /// What the square of its distance is divided by where rows are compared, in parts.
+    pub weight: i64,
 }
 
 /// A row that others take, so many times: its parts, and its numbers by all slots.
@@ -34,11 +34,11 @@ pub struct Taken<'a, N> {
     pub numbers: &'a [N],
 }
 
-/// A number of the pivot column and one of the pivot row, in one slot.
+/// A number of the pivot column and one of another sum over lines, in one slot.
 #[derive(Clone, Copy)]
 pub struct Sides<N> {
     pub column: N,
-    pub row: N,
+    pub other: N,
 }
 
 impl<N: Number> Sides<N> {
@@ -46,7 +46,7 @@ impl<N: Number> Sides<N> {
     fn none() -> Sides<N> {
         Sides {
             column: N::of(0),
-            row: N::of(0),
+            other: N::of(0),
         }
     }
 }
@@ -60,11 +60,10 @@ impl<N: Number> Row<N> {
             parts,
             den,
             sizes: den,
-            squares: 0,
+            weight: 1,
         };
         row.survey();
         row.reduce();
-        row.lay_squares();
         row
     }
 
@@ -84,9 +83,6 @@ impl<N: Number> Row<N> {
         self.add_where_it_has(taken.numbers, factor, times, seen, turn);
         self.add_where_it_lacks(taken.parts, times, seen, turn)?;
         self.reduce();
-        if self.own.is_below_0() {
-            self.lay_squares();
-        }
         Ok(())
     }
 
@@ -94,10 +90,10 @@ impl<N: Number> Row<N> {
     pub fn across(&self, sides: &[Sides<N>]) -> Sides<N> {
         let mut sum: Sides<N> = Sides::none();
         for part in &self.parts {
-            let other = at(sides, part.slot as usize, Sides::none());
+            let side = at(sides, part.slot as usize, Sides::none());
             sum = Sides {
-                column: sum.column.plus(other.column.times(part.number)),
-                row: sum.row.plus(other.row.times(part.number)),
+                column: sum.column.plus(side.column.times(part.number)),
+                other: sum.other.plus(side.other.times(part.number)),
             };
         }
         sum
@@ -121,12 +117,9 @@ impl<N: Number> Row<N> {
                 number: part.number.wide(),
             })?;
         }
-        Ok(Row::new(self.column, self.own.wide(), parts, self.den.wide()))
-    }
-
-    /// Reckons the squares anew.
-    pub fn lay_squares(&mut self) {
-        self.squares = squares(&self.parts);
+        let mut row = Row::new(self.column, self.own.wide(), parts, self.den.wide());
+        row.weight = self.weight;
+        Ok(row)
     }
 
     // Changes the parts that the row has, and takes those away that become 0. A part is written also where the next one takes
@@ -210,25 +203,6 @@ impl<N: Number> Row<N> {
             self.survey();
         }
     }
-}
-
-/// The sum of the squares of parts.
-pub fn squares<N: Number>(parts: &[Part<N>]) -> i128 {
-    let mut sum = 0i128;
-    for part in parts {
-        sum = sum.wrapping_add(square(part.number));
-    }
-    sum
-}
-
-// A square, for prices; those of large numbers are capped.
-#[inline(always)]
-fn square<N: Number>(number: N) -> i128 {
-    if number.bits() > 55 {
-        return 1 << 110;
-    }
-    let wide = number.wide();
-    wide.wrapping_mul(wide)
 }
 
 /// All bits that one of the parts' sizes has.

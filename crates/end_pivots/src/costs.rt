@@ -1,7 +1,9 @@
 use crate::frame::Frame;
 use crate::pivot_row::PivotRow;
 use end_kernel::start::weighed;
-use end_kernel::{Columns, NONE, Number, Part, Start, at, common_divisor, filled, put};
+use end_kernel::{
+    Columns, Divider, NONE, Number, Part, Start, at, common_divisor, filled, odd_part, put,
+};
 use entries::NoMemory;
 use std::alloc::Global;
 
@@ -85,6 +87,15 @@ impl Costs {
         Ok(())
     }
 
+    /// Lays what the slots' lines weigh, where none of them has a first column.
+    pub fn lay_slots(&mut self, lines: &[u32], weighed: &[i128]) -> Result<(), NoMemory> {
+        self.slots.clear();
+        for line in lines {
+            self.slots.push(at(weighed, *line as usize, 0))?;
+        }
+        Ok(())
+    }
+
     /// Lets a slot go.
     pub fn close_slot(&mut self, slot: u32) {
         put(self.slots.as_mut_slice(), slot as usize, 0);
@@ -94,10 +105,15 @@ impl Costs {
         if self.den == 1 {
             return;
         }
-        let divisor = shared(&self.slots, shared(&self.columns, self.den));
-        if divisor > 1 {
-            divide(self.columns.as_mut_slice(), divisor);
-            divide(self.slots.as_mut_slice(), divisor);
+        let sizes = sizes_of(&self.columns)
+            .either(sizes_of(&self.slots))
+            .either(self.den);
+        let twos = sizes.lowest_bit();
+        let odd = shared(&self.slots, shared(&self.columns, odd_part(self.den)));
+        let divisor = twos.wrapping_mul(odd);
+        if divisor != 1 {
+            divide(self.columns.as_mut_slice(), twos, odd);
+            divide(self.slots.as_mut_slice(), twos, odd);
             self.den = self.den.over(divisor);
         }
     }
@@ -159,18 +175,18 @@ fn sizes_met<N: Number>(row: &PivotRow<N>) -> i128 {
     sizes.wide()
 }
 
-// The greatest number that divides a divisor and all numbers.
+// The greatest number that divides an odd divisor and all numbers.
 fn shared(numbers: &[i128], divisor: i128) -> i128 {
-    let mut divisor = divisor;
+    let mut divider = Divider::new(divisor);
     for number in numbers {
-        if divisor == 1 {
-            return divisor;
+        if divider.divisor().is_one() {
+            return divider.divisor();
         }
         if *number != 0 {
-            divisor = common_divisor(divisor, *number);
+            divider = divider.with(*number);
         }
     }
-    divisor
+    divider.divisor()
 }
 
 fn multiply(numbers: &mut [i128], factor: i128) {
@@ -179,9 +195,12 @@ fn multiply(numbers: &mut [i128], factor: i128) {
     }
 }
 
-fn divide(numbers: &mut [i128], divisor: i128) {
+// Divides all numbers by a power of 2 and an odd number, which divide them.
+fn divide(numbers: &mut [i128], twos: i128, odd: i128) {
+    let bits = twos.bits().wrapping_sub(1);
+    let inverse = odd.inverse();
     for place in 0..numbers.len() {
-        numbers[place] = numbers[place].over(divisor);
+        numbers[place] = numbers[place].shifted(bits).times(inverse);
     }
 }
 

@@ -1,5 +1,5 @@
 use crate::frame::{Frame, Leaving};
-use crate::pricing::{distance, weight};
+use crate::pricing::distance;
 use crate::values::Values;
 use crate::weights::Weights;
 use end_kernel::{Kernel, NONE, Number};
@@ -27,7 +27,7 @@ pub fn leaving<N: Number>(
             let next = rated(
                 Leaving::Row(place),
                 distance(row.own, row.den),
-                weight(row.squares, row.den),
+                i128::from(row.weight),
             );
             best = better(best, next);
         }

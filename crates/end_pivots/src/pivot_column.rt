@@ -14,9 +14,9 @@ pub struct PivotColumn<N> {
     pub size: N,
     /// Its number in each row, times the row's denominator.
     pub products: Vec<N>,
-    /// What the pivot row and each row come to, slot by slot, times both denominators.
+    /// What each row comes to in a sum over lines beside it, times the row's denominator.
     pub crossings: Vec<N>,
-    /// Its numbers in the slots as the start has them, beside those of the pivot row.
+    /// Its numbers in the slots as the start has them, beside those of the other sum.
     slots: Vec<Sides<N>>,
     sums: Vec<N>,
 }
@@ -33,12 +33,13 @@ impl<N: Number> PivotColumn<N> {
         })
     }
 
-    /// Takes a column, and answers whether its products fit. The pivot row is for the crossings.
+    /// Takes a column, and answers whether its products fit. What the start leaves of another sum is for the crossings.
     pub fn take(
         &mut self,
         frame: &Frame,
         kernel: &Kernel<N>,
         row: &PivotRow<N>,
+        beside: &[i64],
         entering: u32,
     ) -> Result<bool, NoMemory> {
         self.entering = entering;
@@ -51,7 +52,7 @@ impl<N: Number> PivotColumn<N> {
             self.sums.as_mut_slice(),
         );
         frame.start.forward(self.sums.as_mut_slice());
-        let sizes = self.gather(kernel, row)?;
+        let sizes = self.gather(kernel, beside)?;
         self.products.clear();
         self.crossings.clear();
         for other in &kernel.rows {
@@ -66,20 +67,21 @@ impl<N: Number> PivotColumn<N> {
             }
             let sums = other.across(&self.slots);
             self.products.push(sums.column)?;
-            self.crossings.push(sums.row)?;
+            self.crossings.push(sums.other)?;
         }
         Ok(true)
     }
 
     // Gathers the numbers in the slots, and answers all bits of their sizes.
-    fn gather(&mut self, kernel: &Kernel<N>, row: &PivotRow<N>) -> Result<N, NoMemory> {
+    fn gather(&mut self, kernel: &Kernel<N>, beside: &[i64]) -> Result<N, NoMemory> {
         self.slots.clear();
         let mut sizes = N::of(0);
         for slot in 0..kernel.lines.len() {
-            let column = at(&self.sums, kernel.lines[slot] as usize, N::of(0));
+            let line = kernel.lines[slot] as usize;
+            let column = at(&self.sums, line, N::of(0));
             sizes = sizes.either(column.size());
-            let row = at(&row.numbers, slot, N::of(0));
-            self.slots.push(Sides { column, row })?;
+            let other = N::narrowed(i128::from(at(beside, line, 0)));
+            self.slots.push(Sides { column, other })?;
         }
         Ok(sizes)
     }

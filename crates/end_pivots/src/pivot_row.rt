@@ -7,6 +7,9 @@ use end_kernel::{Kernel, NONE, Number, Part, Row, Taken, at, filled, odd_part, p
 use entries::NoMemory;
 use std::alloc::Global;
 
+// How often a pivot passes over lines and columns.
+const PASSES: u64 = 16;
+
 /// The row of what leaves, times any number: what it comes to isn't above 0.
 #[derive(Drop)]
 pub struct PivotRow<N> {
@@ -100,6 +103,16 @@ impl<N: Number> PivotRow<N> {
         price_columns(frame, lines, self.columns.as_mut_slice());
         self.note_met(basic)?;
         Ok(true)
+    }
+
+    /// Turns all that others take to the other sign where the row has a number above 0 in a column.
+    pub fn aim(&mut self, entering: u32) {
+        let number = at(&self.columns, entering as usize, N::of(0));
+        if !number.is_below_0() {
+            self.own = N::of(0).minus(self.own);
+            turn_parts(self.parts.as_mut_slice());
+            lay_parts(&self.parts, self.numbers.as_mut_slice());
+        }
     }
 
     // Notes the columns that are met. Basic ones aren't looked at.
@@ -207,9 +220,10 @@ impl<N: Number> PivotRow<N> {
         }
     }
 
-    /// How many numbers it takes to make the row, by lines and columns.
+    /// How many numbers a pivot on the row looks at, by lines and columns.
     pub fn work(&self) -> u64 {
-        (self.lines.len() as u64).wrapping_add(self.columns.len() as u64)
+        let numbers = (self.lines.len() as u64).wrapping_add(self.columns.len() as u64);
+        numbers.wrapping_mul(PASSES)
     }
 
     // Divides all by what divides all.

@@ -1,29 +1,37 @@
 use crate::frame::Frame;
 use crate::pivot_column::PivotColumn;
 use crate::pivot_row::PivotRow;
-use crate::pricing::{MOST_WEIGHT, PART_BITS, WHOLE, quotient, weight};
+use crate::pricing::{LEAST_WEIGHT, MOST_WEIGHT, PART_BITS, WHOLE, quotient};
 use end_kernel::lists::fill;
 use end_kernel::number::common_scale;
-use end_kernel::row::squares;
 use end_kernel::start::take_column;
 use end_kernel::{Kernel, NONE, Number, at, filled, put};
 use entries::NoMemory;
 use std::alloc::Global;
 
-/// The weights of the rows of what stands in the lines since the start, in parts: the sum of the squares of the row's numbers
-/// in the first columns, which is 1 for all at the start. Rows of the kernel know their own.
+// Numbers of greater size count as this one.
+const MOST_NUMBER: i128 = 1 << 50;
+
+/// The weights of the rows of what stands in the lines since the start, in parts: about the sum of the squares of a row's
+/// multipliers of the lines, and 1 for all at the start. Rows of the kernel know their own.
 #[derive(Drop)]
 pub struct Weights {
     lines: Vec<i64>,
-    /// What the pivot row weighs in each of these rows, in parts, while it is reckoned.
+    /// The row that enters, as multipliers of the lines, in parts.
+    row: Vec<i64>,
+    /// What it weighs in the rows of the lines, while it is reckoned; before that what the start leaves of it.
     crosses: Vec<i64>,
+    /// The weight of the row that enters.
+    entered: i128,
 }
 
 impl Weights {
     pub fn new(alloc: Global, lines: usize) -> Result<Weights, NoMemory> {
         Ok(Weights {
-            lines: filled(alloc, 1 << 20, lines)?,
+            lines: filled(alloc, 1 << PART_BITS, lines)?,
+            row: filled(alloc, 0, lines)?,
             crosses: filled(alloc, 0, lines)?,
+            entered: WHOLE,
         })
     }
 
@@ -32,52 +40,105 @@ impl Weights {
         at(&self.lines, line as usize, 1)
     }
 
-    /// Lays the weight of a line whose first column comes back.
-    pub fn lay(&mut self, line: u32, weight: i128) {
-        put(
-            self.lines.as_mut_slice(),
-            line as usize,
-            i64::narrowed(weight),
-        );
+    /// The weight of the row that entered last.
+    pub fn entered(&self) -> i64 {
+        i64::narrowed(self.entered)
     }
 
-    /// Brings the weights of the lines to what they are after the pivot. The numbers of the column in the lines are laid
-    /// into `numbers`. Where they don't fit the weights stay.
+    /// What the start leaves of the row that enters.
+    pub fn crosses(&self) -> &[i64] {
+        &self.crosses
+    }
+
+    /// Lays the weight of a line whose first column comes back.
+    pub fn lay(&mut self, line: u32, weight: i64) {
+        put(self.lines.as_mut_slice(), line as usize, weight);
+    }
+
+    /// Takes the row of a column that enters, which is the pivot row over its number there.
+    pub fn take<N: Number>(&mut self, frame: &Frame, row: &PivotRow<N>, entering: u32) {
+        let size = at(&row.columns, entering as usize, N::of(1)).size();
+        self.entered = lay_row(self.row.as_mut_slice(), &row.lines, size.wide());
+        copy(self.crosses.as_mut_slice(), &self.row);
+        frame.start.forward(self.crosses.as_mut_slice());
+    }
+
+    /// Brings all weights to what they are after the pivot. The numbers of the column in the lines are laid into `numbers`. Where
+    /// they don't fit the weights stay.
     pub fn change<N: Number>(
         &mut self,
         frame: &Frame,
-        kernel: &Kernel<N>,
-        row: &PivotRow<N>,
+        kernel: &mut Kernel<N>,
         column: &PivotColumn<N>,
         numbers: &mut [N],
     ) {
         let Some(scale) = lay_column(frame, kernel, column, numbers) else {
             return;
         };
-        fill(self.crosses.as_mut_slice(), 0);
-        lay_crosses(
-            frame,
-            kernel,
-            &column.crossings,
-            column.size,
-            self.crosses.as_mut_slice(),
-        );
+        copy(self.crosses.as_mut_slice(), &self.row);
+        self.change_rows(frame, kernel, column);
         frame.start.forward(self.crosses.as_mut_slice());
-        let entered = weight(squares(&row.parts), column.size);
+        self.change_lines(kernel, numbers, scale);
+    }
+
+    // The weights of the kernel's rows. What the row that enters weighs in each is taken from the crosses.
+    fn change_rows<N: Number>(
+        &mut self,
+        frame: &Frame,
+        kernel: &mut Kernel<N>,
+        column: &PivotColumn<N>,
+    ) {
+        let rows = kernel.rows.as_mut_slice();
+        for place in 0..rows.len() {
+            let row = &rows[place];
+            let crossing = at(&column.crossings, place, N::of(0)).wide();
+            let cross = quotient(crossing, row.den.wide());
+            let crosses = self.crosses.as_mut_slice();
+            take_column(&frame.columns, row.column, i64::narrowed(cross), crosses);
+            let number = at(&column.products, place, N::of(0));
+            if !number.is_zero() {
+                let weight = changed(row.weight, number, row.den, cross, self.entered);
+                rows[place].weight = weight;
+            }
+        }
+    }
+
+    // The weights of the lines whose first columns are basic.
+    fn change_lines<N: Number>(&mut self, kernel: &Kernel<N>, numbers: &[N], scale: N) {
         for place in 0..numbers.len() {
             let number = numbers[place];
             if !number.is_zero() && kernel.slot_of((place & 0xffff_ffff) as u32) == NONE {
                 let cross = i128::from(at(&self.crosses, place, 0));
-                let old = i128::from(at(&self.lines, place, 0));
-                let new = changed(old, number, scale, cross, entered);
-                put(self.lines.as_mut_slice(), place, i64::narrowed(new));
+                let old = at(&self.lines, place, 0);
+                let new = changed(old, number, scale, cross, self.entered);
+                put(self.lines.as_mut_slice(), place, new);
             }
         }
     }
 }
 
+// Lays the numbers of a row over one of them, in parts, with the other sign, and answers the sum of their squares.
+fn lay_row<N: Number>(parts: &mut [i64], numbers: &[N], size: i128) -> i128 {
+    let inverse = quotient(WHOLE.wrapping_mul(WHOLE), size);
+    let mut sum = 0i128;
+    for place in 0..parts.len() {
+        let number = at(numbers, place, N::of(0));
+        let part = number.wide().clamp(-MOST_NUMBER, MOST_NUMBER);
+        let part = part.wrapping_mul(inverse).wrapping_shr(PART_BITS);
+        parts[place] = i64::narrowed(part.wrapping_neg());
+        sum = sum.wrapping_add(part.wrapping_mul(part).wrapping_shr(PART_BITS));
+    }
+    sum.clamp(LEAST_WEIGHT, MOST_WEIGHT)
+}
+
+fn copy(numbers: &mut [i64], others: &[i64]) {
+    for place in 0..numbers.len() {
+        numbers[place] = at(others, place, 0);
+    }
+}
+
 // A weight after the pivot: the row gives up the number's part of the row that entered.
-fn changed<N: Number>(old: i128, number: N, scale: N, cross: i128, entered: i128) -> i128 {
+fn changed<N: Number>(old: i64, number: N, scale: N, cross: i128, entered: i128) -> i64 {
     let size = number.size().wide().clamp(0, 1 << 60);
     let scale = scale.wide();
     let part = quotient(size.wrapping_mul(1 << 10), scale).clamp(0, 1 << 30);
@@ -89,9 +150,8 @@ fn changed<N: Number>(old: i128, number: N, scale: N, cross: i128, entered: i128
     } else {
         twice
     };
-    old.wrapping_sub(less)
-        .wrapping_add(more)
-        .clamp(WHOLE, MOST_WEIGHT)
+    let new = i128::from(old).wrapping_sub(less).wrapping_add(more);
+    i64::narrowed(new.clamp(LEAST_WEIGHT, MOST_WEIGHT))
 }
 
 /// Lays the numbers of the column that enters in the lines, over a scale, where they fit.
@@ -137,24 +197,4 @@ fn scale_of<N: Number>(kernel: &Kernel<N>, products: &[N]) -> Option<N> {
         }
     }
     Some(scale)
-}
-
-// Takes from a sum over lines each column that came, as often as its row weighs in the row that entered.
-fn lay_crosses<N: Number>(
-    frame: &Frame,
-    kernel: &Kernel<N>,
-    crossings: &[N],
-    size: N,
-    crosses: &mut [i64],
-) {
-    for place in 0..kernel.rows.len() {
-        let row = &kernel.rows[place];
-        let product = at(crossings, place, N::of(0));
-        if !product.is_zero() {
-            let parts = product.wide().wrapping_mul(WHOLE);
-            let divisor = row.den.wide().wrapping_mul(size.wide());
-            let weighed = quotient(parts, divisor).wrapping_neg();
-            take_column(&frame.columns, row.column, i64::narrowed(weighed), crosses);
-        }
-    }
 }

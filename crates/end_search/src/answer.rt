@@ -23,16 +23,28 @@ pub(crate) fn point_hint<N: Number>(
     {
         return Ok(None);
     }
-    let lines = frame.columns.line_count();
-    let mut duals = first_costs(alloc, &frame.start, costs, lines, above.den)?;
-    add_slots(kernel, &above.slots, duals.as_mut_slice());
-    frame.start.backward(duals.as_mut_slice());
+    let duals = dual_values(alloc, frame, costs, kernel, above)?;
     Ok(Some(Hint::Point(PointHint {
         duals: Entries::from_vec(duals),
         dual_scale: above.den,
         point: Entries::from_vec(point),
         scale,
     })))
+}
+
+/// The dual values of the lines, over the denominator of the costs.
+pub(crate) fn dual_values<N: Number>(
+    alloc: Global,
+    frame: &Frame,
+    costs: &[i128],
+    kernel: &Kernel<N>,
+    above: &Costs,
+) -> Result<Vec<i128>, NoMemory> {
+    let lines = frame.columns.line_count();
+    let mut duals = first_costs(alloc, &frame.start, costs, lines, above.den)?;
+    add_slots(kernel, &above.slots, duals.as_mut_slice());
+    frame.start.backward(duals.as_mut_slice());
+    Ok(duals)
 }
 
 /// The multipliers by which the pivot row refuses all points.

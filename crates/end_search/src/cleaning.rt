@@ -64,10 +64,13 @@ fn trial<N: Number>(
     column: u32,
 ) -> Result<Option<Leaving>, NoMemory> {
     progress.work = progress.work.wrapping_add(workspace.row.work());
-    if !workspace
-        .column
-        .take(frame, kernel, &workspace.row, column)?
-    {
+    if !workspace.column.take(
+        frame,
+        kernel,
+        &workspace.row,
+        progress.weights.crosses(),
+        column,
+    )? {
         return Ok(None);
     }
     let numbers = workspace.row.lines.as_mut_slice();

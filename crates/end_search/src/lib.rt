@@ -3,10 +3,12 @@
 #![tactic(auto)]
 
 mod answer;
+mod basis;
 mod cleaning;
 mod pivot;
 mod places;
 mod progress;
+mod reinversion;
 mod run;
 pub mod search;
 mod turn;

@@ -1,6 +1,5 @@
 use crate::progress::{Progress, Workspace};
 use end_kernel::{Kernel, NONE, Number, Row, at, common_divisor, put};
-use end_pivots::pricing::weight;
 use end_pivots::{Frame, Leaving, PivotRow};
 use entries::NoMemory;
 use std::alloc::Global;
@@ -31,10 +30,14 @@ pub(crate) fn pivot<N: Number>(
     leaves: Leaving,
     column: u32,
 ) -> Result<bool, NoMemory> {
-    if !workspace
-        .column
-        .take(frame, kernel, &workspace.row, column)?
-        || !workspace.column.fits(kernel, &workspace.row)
+    progress.weights.take(frame, &workspace.row, column);
+    if !workspace.column.take(
+        frame,
+        kernel,
+        &workspace.row,
+        progress.weights.crosses(),
+        column,
+    )? || !workspace.column.fits(kernel, &workspace.row)
     {
         return Ok(false);
     }
@@ -44,20 +47,21 @@ pub(crate) fn pivot<N: Number>(
     let numbers = workspace.values.numbers.as_mut_slice();
     progress
         .weights
-        .change(frame, kernel, &workspace.row, &workspace.column, numbers);
+        .change(frame, kernel, &workspace.column, numbers);
     let place = open(kernel, leaves)?;
     progress.costs.open_slots(kernel.lines.len())?;
     progress.costs.change(&workspace.row, step);
     put(progress.basic.as_mut_slice(), column as usize, true);
     progress.work = change_rows(kernel, workspace, place, progress.work)?;
-    lay_entered(alloc, kernel, &workspace.row, column, place)?;
+    let weight = progress.weights.entered();
+    lay_entered(alloc, kernel, &workspace.row, column, weight, place)?;
     come_back(frame, kernel, progress, place)?;
     progress.made = progress.made.wrapping_add(1);
     Ok(true)
 }
 
-// The place of the row that enters, with a slot for a line that leaves.
-fn open<N: Number>(kernel: &mut Kernel<N>, leaves: Leaving) -> Result<usize, NoMemory> {
+/// The place of the row that enters, with a slot for a line that leaves.
+pub(crate) fn open<N: Number>(kernel: &mut Kernel<N>, leaves: Leaving) -> Result<usize, NoMemory> {
     match leaves {
         Leaving::Row(place) => Ok(place),
         Leaving::Line(line) => {
@@ -67,10 +71,10 @@ fn open<N: Number>(kernel: &mut Kernel<N>, leaves: Leaving) -> Result<usize, NoM
     }
 }
 
-// Takes the pivot row from all rows that the column meets but that of what leaves. Answers the work that was done before with that
-// of the pivot: the numbers of the pivot row by lines and columns, the parts of all rows, in which the column is looked for, and
-// twice those of each row that changed and of the pivot row. Wide numbers count twice.
-fn change_rows<N: Number>(
+/// Takes the pivot row from all rows that the column meets but that of what leaves. Answers the work that was done before with that
+/// of the pivot: the numbers of the pivot row by lines and columns, the parts of all rows, in which the column is looked for, and
+/// twice those of each row that changed and of the pivot row. Wide numbers count twice.
+pub(crate) fn change_rows<N: Number>(
     kernel: &mut Kernel<N>,
     workspace: &mut Workspace<N>,
     leaves: usize,
@@ -108,15 +112,17 @@ fn parts_at<N: Number>(rows: &[Row<N>], place: usize) -> u64 {
     }
 }
 
-// Lays the row of the column that enters at its place.
-fn lay_entered<N: Number>(
+/// Lays the row of the column that enters at its place.
+pub(crate) fn lay_entered<N: Number>(
     alloc: Global,
     kernel: &mut Kernel<N>,
     row: &PivotRow<N>,
     column: u32,
+    weight: i64,
     place: usize,
 ) -> Result<(), NoMemory> {
-    let entered = row.entered(alloc, column)?;
+    let mut entered = row.entered(alloc, column)?;
+    entered.weight = weight;
     if place < kernel.rows.len() {
         kernel.rows[place] = entered;
         return Ok(());
@@ -140,8 +146,7 @@ fn come_back<N: Number>(
     if line == NONE || slot == NONE {
         return Ok(());
     }
-    kernel.rows[place].lay_squares();
-    let weight = weight(kernel.rows[place].squares, kernel.rows[place].den);
+    let weight = kernel.rows[place].weight;
     progress.weights.lay(line, weight);
     progress.costs.close_slot(slot);
     kernel.close_slot(place, line)

@@ -1,10 +1,13 @@
-use end_kernel::{Number, at};
+use end_kernel::{Kernel, Number, at};
 use end_pivots::{Costs, Frame, PivotColumn, PivotRow, Values, Weights};
 use entries::NoMemory;
 use std::alloc::Global;
 
 // How many numbers of rows may be written or multiplied: about a minute's on one processor.
 const MOST_WORK: u64 = 20_000_000_000;
+
+// How many columns may come before the kernel is made anew.
+const MOST_ROWS: usize = 100;
 
 /// What a search has come to, but for the rows of the columns that came.
 #[derive(Drop)]
@@ -17,12 +20,19 @@ pub(crate) struct Progress {
     pub made: u64,
     /// How many numbers of rows were written or multiplied.
     pub work: u64,
+    /// How many rows the kernel had when it was made anew.
+    pub reinverted: usize,
 }
 
 impl Progress {
     /// Whether a column is out of the basis and may come in at no cost.
     pub(crate) fn is_free(&self, column: usize) -> bool {
         !at(&self.basic, column, true) && at(&self.costs.columns, column, 1) == 0
+    }
+
+    /// Whether so many columns came that the kernel should be made anew.
+    pub(crate) fn is_reinversion_due<N: Number>(&self, kernel: &Kernel<N>) -> bool {
+        kernel.rows.len() >= self.reinverted.wrapping_add(MOST_ROWS)
     }
 
     /// Whether one more pivot may be made of so many, and with the work that may be done.

@@ -1,6 +1,7 @@
 use crate::answer::{point_hint, refusal_hint};
 use crate::cleaning::make_whole;
 use crate::progress::{Progress, Workspace};
+use crate::reinversion::reinvert;
 use crate::turn::{Turn, take_turn};
 use end_check::Hint;
 use end_kernel::{Kernel, Number};
@@ -21,17 +22,17 @@ pub(crate) enum Ended {
 /// point is made whole, as far as that goes, before it is told: the turns after it lead back to one if that went wrong.
 pub(crate) fn run<N: Number>(
     alloc: Global,
-    frame: &Frame,
+    frame: &mut Frame,
     costs: &[i128],
     kernel: &mut Kernel<N>,
     progress: &mut Progress,
     steps: u64,
 ) -> Result<Ended, NoMemory> {
     let mut workspace = Workspace::new(alloc, frame)?;
-    let end = last_turn(alloc, frame, kernel, progress, &mut workspace, steps)?;
+    let end = last_turn(alloc, frame, costs, kernel, progress, &mut workspace, steps)?;
     if let Turn::Best = end {
         make_whole(alloc, frame, kernel, progress, &mut workspace, steps)?;
-        let end = last_turn(alloc, frame, kernel, progress, &mut workspace, steps)?;
+        let end = last_turn(alloc, frame, costs, kernel, progress, &mut workspace, steps)?;
         return told(alloc, frame, costs, kernel, progress, &workspace, end);
     }
     told(alloc, frame, costs, kernel, progress, &workspace, end)
@@ -40,13 +41,17 @@ pub(crate) fn run<N: Number>(
 // The first turn that makes no pivot.
 fn last_turn<N: Number>(
     alloc: Global,
-    frame: &Frame,
+    frame: &mut Frame,
+    costs: &[i128],
     kernel: &mut Kernel<N>,
     progress: &mut Progress,
     workspace: &mut Workspace<N>,
     steps: u64,
 ) -> Result<Turn, NoMemory> {
     for _turn in 0..u64::MAX {
+        if progress.is_reinversion_due(kernel) {
+            reinvert(alloc, frame, costs, kernel, progress, workspace)?;
+        }
         let may_pivot = progress.may_pivot(steps);
         match take_turn(alloc, frame, kernel, progress, workspace, may_pivot)? {
             Turn::Pivoted => {}

@@ -23,14 +23,14 @@ pub fn find(alloc: Global, program: &Program, steps: u64) -> Result<Option<Hint>
     };
     let places = start_places(alloc, program)?;
     let start = Start::new(alloc, &columns, &places)?;
-    let frame = Frame { columns, start };
-    search(alloc, &frame, program.rows.costs.as_slice(), steps)
+    let mut frame = Frame { columns, start };
+    search(alloc, &mut frame, program.rows.costs.as_slice(), steps)
 }
 
 /// An end of lines from a start, where one is found.
 fn search(
     alloc: Global,
-    frame: &Frame,
+    frame: &mut Frame,
     costs: &[i128],
     steps: u64,
 ) -> Result<Option<Hint>, NoMemory> {
@@ -43,6 +43,7 @@ fn search(
         basic: frame.start.basic_columns(alloc)?,
         made: 0,
         work: 0,
+        reinverted: 0,
     };
     let mut kernel: Kernel<i64> = Kernel::new(alloc, frame.columns.line_count())?;
     match run(alloc, frame, costs, &mut kernel, &mut progress, steps)? {
@@ -54,7 +55,7 @@ fn search(
 // Goes on in wide numbers.
 fn go_on(
     alloc: Global,
-    frame: &Frame,
+    frame: &mut Frame,
     costs: &[i128],
     kernel: &Kernel<i64>,
     progress: &mut Progress,

@@ -6,7 +6,7 @@ use Rattle.std.proofs.lemmas.List.{append-nil}
 use Rattle.sums.proofs.Tests.{none_some, some_is}
 use Rattle.fleet_model.specs.declared.parts.Connection.{Connection}
 use Rattle.fleet_model.specs.declared.tables.Tables.{Tables}
-use Rattle.fleet_model.specs.Counts.{fleet_at}
+use Rattle.fleet_model.specs.Counts.{choice_at}
 use Rattle.euler_rotation.specs.declared.path.Level.{Level}
 use Rattle.euler_rotation.specs.Asked.{followers_of}
 use Rattle.euler_rotation.specs.Prefixes.{is_open, may_follow, may_turn, preorder, preorder_from}
@@ -39,7 +39,7 @@ module _ (t : Tables) (a : List ℕ) (f : ℕ) (pairs : List Connection) (days :
       behind = preorder_from t a f pairs days order (length order - length (x ∷ outer)) (legs_of (x ∷ outer))
 
   -- what a prefix begins, where its last leg is the fleet's
-  pub from_prefix : (path : List Level) (level : Level) (m n : ℕ) → fleet_at a level.leg ≡ f → n ≡ suc m → m ≡ length order - length (level ∷ path)
+  pub from_prefix : (path : List Level) (level : Level) (m n : ℕ) → choice_at a level.leg ≡ f → n ≡ suc m → m ≡ length order - length (level ∷ path)
       → preorder_from t a f pairs days order n (legs_of path) level.leg ≡ legs_of (level ∷ path) ∷ extensions t a f pairs days order (level ∷ path) 0
   from_prefix path level m n own is less =
       ap (λ k. preorder_from t a f pairs days order k (legs_of path) level.leg) is
@@ -50,7 +50,7 @@ module _ (t : Tables) (a : List ℕ) (f : ℕ) (pairs : List Connection) (days :
       ∙ ap (λ k. legs_of (level ∷ path) ∷ flat_map (preorder_from t a f pairs days order k (legs_of (level ∷ path)))
       (filter (is_open t f days (legs_of (level ∷ path))) (drop 0 (followers_of t a f pairs order level.leg)))) less
 
-  pub first_extends : (path : List Level) (top level : Level) (from : ℕ) → top_of path ≡ Some top → length path < length order → fleet_at a level.leg ≡ f
+  pub first_extends : (path : List Level) (top level : Level) (from : ℕ) → top_of path ≡ Some top → length path < length order → choice_at a level.leg ≡ f
       → filter (is_open t f days (legs_of path)) (drop from (followers_of t a f pairs order top.leg))
       ≡ level.leg ∷ filter (is_open t f days (legs_of path)) (drop level.next (followers_of t a f pairs order top.leg))
       → extensions t a f pairs days order path from
@@ -86,7 +86,7 @@ module _ (t : Tables) (a : List ℕ) (f : ℕ) (pairs : List Connection) (days :
       (append_assoc (extensions t a f pairs days order (level ∷ x ∷ outer) 0) (extensions t a f pairs days order (x ∷ outer) level.next) (pending t a f pairs days order outer x.next))
 
   -- the first leg of the order begins all
-  pub preorder_first : (level : Level) → 0 < length order → fleet_at a level.leg ≡ f → level.leg ≡ slice_index order 0
+  pub preorder_first : (level : Level) → 0 < length order → choice_at a level.leg ≡ f → level.leg ≡ slice_index order 0
       → preorder t a f pairs days order ≡ legs_of (level ∷ []) ∷ pending t a f pairs days order (level ∷ []) 0
   unfolding preorder
   preorder_first level some own is =

@@ -13,7 +13,7 @@ use Rattle.sums.proofs.Tests.{both_true, by_test, parts_true}
 use Rattle.sums.proofs.Turned.{turned}
 use Rattle.fleet_model.specs.declared.parts.Connection.{Connection}
 use Rattle.fleet_model.specs.declared.tables.Tables.{Tables}
-use Rattle.fleet_model.specs.Counts.{fleet_at, weights_of}
+use Rattle.fleet_model.specs.Counts.{choice_at, weights_of}
 use Rattle.fleet_model.specs.Schedule.{leg_on, legs_in, period_of}
 use Rattle.fleet_model.specs.Use.{stand_of}
 use Rattle.fleet_model.specs.Plain.{IsPlain}
@@ -83,15 +83,15 @@ next_within : (n k : ℕ) → 0 < n → suc k % n < n
 next_within n k some = mod_below (suc k) n some
 
 -- a weight above 0 is of a leg of the fleet
-own_weight : (a : List ℕ) (f l : ℕ) → 1 ≤ weights_of a (leg_on l f) → fleet_at a l ≡ f
-own_weight a f l some = by_test (fleet_at a l == f) (λ own. eqb-true _ _ own) (λ other. absurd (none (weights_of a (leg_on l f)) some (ap (λ b. if b then 1 else 0) other)))
+own_weight : (a : List ℕ) (f l : ℕ) → 1 ≤ weights_of a (leg_on l f) → choice_at a l ≡ f
+own_weight a f l some = by_test (choice_at a l == f) (λ own. eqb-true _ _ own) (λ other. absurd (none (weights_of a (leg_on l f)) some (ap (λ b. if b then 1 else 0) other)))
   where
     none : (n : ℕ) → 1 ≤ n → n ≡ 0 → ⊥
     none n some e = omega arith
 
 module _ (t : Tables) (a : List ℕ) (f : ℕ) where
   -- a leg of an order is the fleet's
-  pub own_leg : (order : List ℕ) → IsOrder t a f order → (k : ℕ) → k < length order → fleet_at a (slice_index order k) ≡ f
+  pub own_leg : (order : List ℕ) → IsOrder t a f order → (k : ℕ) → k < length order → choice_at a (slice_index order k) ≡ f
   own_leg order is k lt =
       let l = slice_index order k in
       let some = count_below-some (λ j. slice_index order j == l) (length order) k lt (eq-eqb _ _ refl) in

@@ -8,7 +8,7 @@ use Rattle.sums.proofs.Places.{get_or-list_below, length-list_below}
 use Rattle.sums.proofs.Tests.{both_true, none_some, not_true, parts_true, some_is}
 use Rattle.fleet_model.specs.declared.parts.Connection.{Connection}
 use Rattle.fleet_model.specs.declared.tables.Tables.{Tables}
-use Rattle.fleet_model.specs.Counts.{fleet_at}
+use Rattle.fleet_model.specs.Counts.{choice_at}
 use Rattle.fleet_model.specs.Schedule.{legs_in}
 use Rattle.ground_turns.specs.Nights.{nights_in_turn}
 use Rattle.euler_rotation.specs.declared.field.Field.{Field}
@@ -64,16 +64,16 @@ module _ (field : Field) where
     -- a leg of the order
     pub record IsOwn (l : ℕ) : Type 0 where
       pub known : l < legs_in t
-      pub own : fleet_at a l ≡ f
+      pub own : choice_at a l ≡ f
 
     all_own : All IsOwn order
     all_own k d lt =
         subst IsOwn (get_or_default order k 0 d lt) (record { known = is_field.order.known k lt; own = own_leg t a f order is_field.order k lt })
 
     pub follower_own : (l k : ℕ) → k < length (followers_of t a f pairs order l) → IsOwn (slice_index (followers_of t a f pairs order l) k)
-    follower_own l k lt = by_kind (fleet_at a l == f) refl
+    follower_own l k lt = by_kind (choice_at a l == f) refl
       where
-        by_kind : (b : Bool) → (fleet_at a l == f) ≡ b → IsOwn (slice_index (followers_of t a f pairs order l) k)
+        by_kind : (b : Bool) → (choice_at a l == f) ≡ b → IsOwn (slice_index (followers_of t a f pairs order l) k)
         by_kind true e =
             let is : followers_of t a f pairs order l ≡ filter (may_turn t a f pairs l) order = ap (λ b. if b then filter (may_turn t a f pairs l) order else []) e in
             subst (λ (legs : List ℕ). IsOwn (slice_index legs k)) (sym is) (All-filter (may_turn t a f pairs l) IsOwn order all_own k 0 (omega (arith, lt, ap length is)))
@@ -180,8 +180,8 @@ module _ (field : Field) where
       known : level.leg < legs_in t
       known = subst (λ (l : ℕ). l < legs_in t) (sym is) (is_field.order.known 0 is_field.some)
 
-      own : fleet_at a level.leg ≡ f
-      own = ap (fleet_at a) is ∙ own_leg t a f order is_field.order 0 is_field.some
+      own : choice_at a level.leg ≡ f
+      own = ap (choice_at a) is ∙ own_leg t a f order is_field.order 0 is_field.some
 
       fits : IsLevel t a f days [] level
       fits = record { known = known; own = own; new = refl; often = refl; since = since; few = omega (arith, since, is_field.clean.asked.some_days) }

@@ -2,7 +2,7 @@
 use Rattle.std.specs.Prelude.{◌≡◌, ◌≢◌, ℕ, ◌*◌, ◌<◌, ◌≤◌, ◌⊎◌, ◌↔◌, List, length}
 use Rattle.fleet_model.specs.declared.parts.Connection.{Connection}
 use Rattle.fleet_model.specs.declared.tables.Tables.{Tables}
-use Rattle.fleet_model.specs.Counts.{fleet_at}
+use Rattle.fleet_model.specs.Counts.{choice_at}
 use Rattle.fleet_model.specs.Schedule.{legs_in}
 use Rattle.cycle_join.specs.Joins.{FliesSome, IsApart}
 use Rattle.euler_rotation.specs.declared.rotation.Rotation.{Rotation}
@@ -12,7 +12,7 @@ use Rattle.euler_rotation.specs.Tours.{BeginsLeast, HasKeptTour, HasTour, IsKept
 
 -- the fleet has no leg
 pub record IsUnused (t : Tables) (a : List ℕ) (f : ℕ) : Type 0 where
-  pub each : (l : ℕ) → l < legs_in t → fleet_at a l ≢ f
+  pub each : (l : ℕ) → l < legs_in t → choice_at a l ≢ f
 
 -- it has some, and so many nights at maintenance stations, which are too few for the days
 pub record AreTooFew (t : Tables) (a : List ℕ) (f days have used : ℕ) : Type 0 where

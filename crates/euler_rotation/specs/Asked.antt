@@ -3,7 +3,7 @@ use Rattle.std.specs.Prelude.{◌≡◌, ℕ, ◌<◌, ◌≤◌, ◌==◌, ◌&
 use Rattle.std.specs.List.{filter}
 use Rattle.fleet_model.specs.declared.parts.Connection.{Connection}
 use Rattle.fleet_model.specs.declared.tables.Tables.{Tables}
-use Rattle.fleet_model.specs.Counts.{fleet_at}
+use Rattle.fleet_model.specs.Counts.{choice_at}
 use Rattle.fleet_model.specs.Legal.{IsAssignment}
 use Rattle.fleet_model.specs.Schedule.{fleets_in, legs_in, period_of, stations_in}
 use Rattle.fleet_model.specs.Plain.{IsPlain}
@@ -43,7 +43,7 @@ pub record AreKnown (t : Tables) (legs : List ℕ) : Type 0 where
 
 -- the legs that may follow a leg of the fleet, in the search's order
 abbrev pub followers_of : Tables → List ℕ → ℕ → List Connection → List ℕ → ℕ → List ℕ
-followers_of t a f pairs order l = if fleet_at a l == f then filter (may_turn t a f pairs l) order else []
+followers_of t a f pairs order l = if choice_at a l == f then filter (may_turn t a f pairs l) order else []
 
 -- a clean turn at a station
 abbrev pub is_met : Tables → List ℕ → ℕ → Connection → Bool

@@ -4,7 +4,7 @@ use Rattle.std.specs.List.{filter, flat_map}
 use Rattle.sums.specs.Places.{list_below}
 use Rattle.fleet_model.specs.declared.parts.Connection.{Connection}
 use Rattle.fleet_model.specs.declared.tables.Tables.{Tables}
-use Rattle.fleet_model.specs.Counts.{fleet_at}
+use Rattle.fleet_model.specs.Counts.{choice_at}
 use Rattle.fleet_model.specs.Schedule.{legs_in}
 use Rattle.euler_rotation.specs.declared.field.Field.{Field}
 use Rattle.euler_rotation.specs.declared.path.Level.{Level}
@@ -30,7 +30,7 @@ pub record IsField (field : Field) : Type 0 where
 -- a level behind some legs: its leg is the fleet's, no repetition, and the nights up to it are often enough for maintenance
 pub record IsLevel (t : Tables) (a : List ℕ) (f days : ℕ) (front : List ℕ) (x : Level) : Type 0 where
   pub known : x.leg < legs_in t
-  pub own : fleet_at a x.leg ≡ f
+  pub own : choice_at a x.leg ≡ f
   pub new : has_leg front x.leg ≡ false
   pub often : stays_below t days 0 (nights_along t f (front ++ x.leg ∷ [])) ≡ true
   pub since : x.since ≡ nights_since t 0 (nights_along t f (front ++ x.leg ∷ []))

@@ -72,7 +72,7 @@ fn followers(
     ensures { IfOk result (λ legs. legs ≡ followers_of clean.now.asked.now.tables.now clean.now.asked.now.plan.now
         clean.now.asked.now.fleet clean.now.asked.now.pairs.now order.now leg) }
 {
-    if clean.asked.plan.fleet(leg) != clean.asked.fleet {
+    if clean.asked.plan.choice(leg) != clean.asked.fleet {
         return Ok(Entries::from_vec(Vec::new(alloc)));
     }
     Ok(Entries::from_vec(those_that_may(alloc, clean, order, leg)?))

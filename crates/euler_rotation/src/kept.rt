@@ -163,7 +163,7 @@ fn is_order(asked: &Asked<'_>, legs: &[u32]) -> bool
     ensures { IsTrue result ↔ IsOrder asked.now.tables.now asked.now.plan.now asked.now.fleet legs.now }
 {
     for leg in 0..asked.tables.leg_count() {
-        if times_in(legs, leg) != usize::from(asked.plan.fleet(leg) == asked.fleet) {
+        if times_in(legs, leg) != usize::from(asked.plan.choice(leg) == asked.fleet) {
             return false;
         }
     }

@@ -19,7 +19,7 @@ pub(crate) fn first_leg(asked: &Asked<'_>) -> Option<u32>
     ensures { MatchOption result (IsUnused asked.now.tables.now asked.now.plan.now asked.now.fleet) (Flies asked.now.tables.now asked.now.plan.now asked.now.fleet) }
 {
     for leg in 0..asked.tables.leg_count() {
-        if asked.plan.fleet(leg) == asked.fleet {
+        if asked.plan.choice(leg) == asked.fleet {
             return Some(leg);
         }
     }

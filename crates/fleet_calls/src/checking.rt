@@ -55,25 +55,25 @@ pub fn is_of_tables(tables: &Tables, tree: &Tree) -> bool
         Tree::Open(prices, cause) => are_prices_of(tables, prices) && is_cause_of(tables, cause),
         Tree::Trim {
             leg,
-            choice: fleet,
+            choice,
             yes,
             no,
         } => {
             *leg < tables.leg_count()
-                && *fleet < tables.fleet_count()
+                && *choice < tables.choice_count(*leg)
                 && is_of_tables(tables, yes)
                 && is_of_tables(tables, no)
         }
         Tree::Split {
             leg,
-            choice: fleet,
+            choice,
             prices,
             mixed,
             yes,
             no,
         } => {
             *leg < tables.leg_count()
-                && *fleet < tables.fleet_count()
+                && *choice < tables.choice_count(*leg)
                 && are_prices_of(tables, prices)
                 && is_mixed_of(tables, mixed)
                 && is_of_tables(tables, yes)
@@ -143,7 +143,7 @@ fn is_mixed_of(tables: &Tables, mixed: &Mixed) -> bool
 fn is_weight_of(tables: &Tables, weight: &Weight) -> bool
     ensures { MatchBool result (IsWeightOf tables.now weight.now) (¬ (IsWeightOf tables.now weight.now)) }
 {
-    weight.leg < tables.leg_count() && weight.choice < tables.fleet_count()
+    weight.leg < tables.leg_count() && weight.choice < tables.choice_count(weight.leg)
 }
 
 /// Whether all that a cause names is of the tables.

@@ -340,7 +340,11 @@ pub fn reading(day_start: u16, through_max: u16, period: u16) -> TableOptions {
         through_max,
         period,
     };
-    TableOptions { settings }
+    TableOptions {
+        settings,
+        windows: false,
+        optional: false,
+    }
 }
 
 #[test]

@@ -23,7 +23,11 @@ mod fractions;
 #[cfg(test)]
 mod judging;
 #[cfg(test)]
+mod leg_times;
+#[cfg(test)]
 mod model;
+#[cfg(test)]
+mod optional_tables;
 #[cfg(test)]
 mod plan_texts;
 #[cfg(test)]
@@ -38,5 +42,7 @@ mod size_commands;
 mod subproblems;
 #[cfg(test)]
 mod what_if;
+#[cfg(test)]
+mod window_tables;
 #[cfg(test)]
 mod worths;

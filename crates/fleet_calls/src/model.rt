@@ -1,6 +1,6 @@
 //! Times, costs and assignments.
 use crate::assertions::assert_same;
-use fleet_model::{Assignment, Costs, Pair, PairCost, Tables, busy, laps, nights, ready};
+use fleet_model::{Assignment, Costs, PairCost, Tables, busy, laps, nights, ready};
 use std::alloc::Global;
 use std::test::Fail;
 use worked_tables::schedules::{
@@ -62,7 +62,7 @@ fn aircraft_are_ready_again(rt: HostRuntime) -> Result<(), Fail> {
     Ok(())
 }
 
-/// Costs of pairs, by leg and fleet.
+/// Costs, by leg and fleet.
 const RISING: &[(u32, u32, i128)] = &[(0, 0, 100), (0, 1, 80), (1, 0, 100), (1, 1, 130)];
 
 /// The same the other way round.
@@ -86,20 +86,16 @@ fn costs_are_found_in_any_order(rt: HostRuntime) -> Result<(), Fail> {
         let entries = entries_of(rt.alloc(), order)?;
         let costs = Costs::from_vec(entries_of(rt.alloc(), order)?);
         for (leg, fleet, cost) in RISING {
-            let pair = Pair {
-                leg: *leg,
-                choice: *fleet,
-            };
-            assert_same(&rt, costs.get(pair), Some(*cost));
+            assert_same(&rt, costs.get(*leg, *fleet), Some(*cost));
         }
-        assert_same(&rt, costs.get(Pair { leg: 2, choice: 0 }), None);
+        assert_same(&rt, costs.get(2, 0), None);
         assert_same(&rt, costs.as_slice(), entries.as_slice());
     }
     Ok(())
 }
 
 #[test]
-fn an_assignment_is_its_fleets(rt: HostRuntime) {
+fn an_assignment_is_its_choices(rt: HostRuntime) {
     let mut plan = Assignment::empty();
     assert!(rt; plan.is_empty());
     plan.push(3);
@@ -109,8 +105,8 @@ fn an_assignment_is_its_fleets(rt: HostRuntime) {
     assert!(rt; plan.len() == 3 && copy.len() == 2);
     assert_same(
         &rt,
-        (plan.fleet(0), plan.fleet(1), plan.fleet(2)),
+        (plan.choice(0), plan.choice(1), plan.choice(2)),
         (3, 1, 2),
     );
-    assert_same(&rt, (copy.fleet(0), copy.fleet(1)), (3, 1));
+    assert_same(&rt, (copy.choice(0), copy.choice(1)), (3, 1));
 }

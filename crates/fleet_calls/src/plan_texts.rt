@@ -22,7 +22,7 @@ const PLANS: &[(&[u8], &[u32])] = &[
 fn fleets_of(alloc: Global, plan: &Assignment) -> Result<Vec<u32>, NoMemory> {
     let mut fleets = Vec::new(alloc);
     for leg in 0..plan.len() {
-        fleets.push(plan.fleet(leg))?;
+        fleets.push(plan.choice(leg))?;
     }
     Ok(fleets)
 }

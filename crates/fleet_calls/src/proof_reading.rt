@@ -143,6 +143,8 @@ const FIRST_FAULTS: &[(&[u8], Option<(u64, u8)>)] = &[
     (b"fleet proof 1\nplan yes\nsole\nend\nx", Some((5, 2))),
     (b"fleet proof 1\nplan yes\nbare\n", Some((3, 5))),
     (b"fleet proof 1\nplan yes\nbare X9\n", Some((3, 7))),
+    (b"fleet proof 2\nplan yes\ntrim X1 -\n", Some((3, 7))),
+    (b"fleet proof 2\nplan yes\ntrim X1 F1 0\n", Some((3, 5))),
     (b"fleet proof 1\nplan yes\nopen\n", Some((3, 4))),
     (b"fleet proof 1\nplan yes\nopen pivots\n", Some((3, 5))),
     (b"fleet proof 1\nplan yes\nopen pivots 01\n", Some((3, 6))),

@@ -2,13 +2,13 @@
 ghost use Rattle.std.specs.Prelude.{◌≡◌};
 
 use crate::assertions::assert_same;
-use fleet_model::limits::{MAX_FLEETS, MAX_LEGS};
+use fleet_model::limits::{MAX_CHOICES, MAX_LEGS};
 use fleet_model::{Assignment, Kept, LoadError, Step, Tables};
 use std::alloc::Global;
 use std::test::Fail;
 use worked_tables::schedules::{Files, ROUND_TRIP, read};
 
-/// Which pairs of two legs and two fleets are kept, by leg, then fleet.
+/// Which pairs of two legs with two choices are kept, by leg, then choice.
 type Pairs = [[bool; 2]; 2];
 
 /// The ends that a subproblem of two legs may have.
@@ -34,9 +34,9 @@ fn pairs_of(kept: &Kept) -> Pairs {
     ]
 }
 
-fn fleets_of(plan: &Assignment) -> Option<[u32; 2]> {
+fn choices_of(plan: &Assignment) -> Option<[u32; 2]> {
     if plan.len() == 2 {
-        Some([plan.fleet(0), plan.fleet(1)])
+        Some([plan.choice(0), plan.choice(1)])
     } else {
         None
     }
@@ -44,7 +44,7 @@ fn fleets_of(plan: &Assignment) -> Option<[u32; 2]> {
 
 fn ends_of(tables: &Tables, kept: &Kept) -> Ends {
     let sole = match kept.sole(tables) {
-        Some(plan) => fleets_of(&plan),
+        Some(plan) => choices_of(&plan),
         None => None,
     };
     Ends {
@@ -53,12 +53,12 @@ fn ends_of(tables: &Tables, kept: &Kept) -> Ends {
     }
 }
 
-/// What is kept after a step, and the ends then; nothing for a step beyond the most legs and fleets. The step is
+/// What is kept after a step, and the ends then; nothing for a step beyond the most legs and choices. The step is
 /// taken back.
 fn seen_after(tables: &Tables, kept: &mut Kept, step: Step) -> Option<(Pairs, Ends)>
     ensures taken_back { kept.new ≡ kept.old }
 {
-    if step.leg as usize >= MAX_LEGS || step.choice as usize >= MAX_FLEETS {
+    if step.leg as usize >= MAX_LEGS || step.choice as usize >= MAX_CHOICES {
         return None;
     }
     let undo = kept.narrow(step);
@@ -73,7 +73,7 @@ fn all_pairs_that_have_a_cost_are_kept(rt: HostRuntime) -> Result<(), Fail> {
     let kept = Kept::all(&tables);
     assert_same(&rt, pairs_of(&kept), [[true, true], [true, false]]);
     assert!(rt; !kept.kept(2, 0));
-    assert!(rt; !kept.kept(MAX_LEGS as u32 - 1, MAX_FLEETS as u32 - 1));
+    assert!(rt; !kept.kept(MAX_LEGS as u32 - 1, MAX_CHOICES as u32 - 1));
     let no_end = Ends {
         bare_leg: None,
         sole: None,

@@ -17,7 +17,7 @@ use Rattle.fleet_model.specs.Kept.{all_pairs}
 use Rattle.fleet_model.specs.OtherSizes.{IsOtherSize}
 use Rattle.fleet_model.specs.Schedule.{fleet_of}
 use Rattle.fleet_model.specs.declared.tables.Tables.{Tables}
-use Rattle.sched_read.proofs.TablesSame.{tables_same}
+use Rattle.fleet_model.proofs.TablesSame.{tables_same}
 use Rattle.fleet_cli.specs.Answer.{AsksChecked, AsksTree, SaysOfOther, what_if_status}
 use Rattle.fleet_cli.specs.Opened.{CanHave}
 use Rattle.fleet_cli.specs.Refusals.{says}
@@ -29,6 +29,7 @@ use Rattle.fleet_cli.specs.declared.answer.Answer.{Answer}
 one_size : (t : Tables) (fleet count : ℕ) (u v : Tables) → IsOtherSize t fleet count u → IsOtherSize t fleet count v → u ≡ v
 one_size t fleet count u v x y =
     tables_same u v (x.stations ∙ sym y.stations) (x.fleets ∙ sym y.fleets) (x.legs ∙ sym y.legs) (x.costs ∙ sym y.costs) (x.throughs ∙ sym y.throughs) (x.settings ∙ sym y.settings)
+    (x.windows ∙ sym y.windows) (x.optional ∙ sym y.optional)
 
 module _ (t : Tables) (fleet count : ℕ) where
   -- what is answered on whichever tables have that number is told of those that have it

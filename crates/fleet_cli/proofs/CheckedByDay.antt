@@ -4,9 +4,9 @@ use Rattle.std.proofs.lemmas.Bool.{cases_lt}
 use Rattle.bound_cert.proofs.OtherReading.{reads_by}
 use Rattle.cert_check.proofs.OtherSettings.{holds_by, legal_by}
 use Rattle.command_words.specs.Words.{check}
-use Rattle.fleet_model.specs.Legal.{total_cost}
+use Rattle.fleet_model.specs.Legal.{cost_of, total_cost}
 use Rattle.fleet_model.specs.Limits.{AreSettings}
-use Rattle.fleet_model.specs.Schedule.{days_in}
+use Rattle.fleet_model.specs.Schedule.{days_in, fleet_by, slot_by}
 use Rattle.fleet_model.specs.declared.limits.TheConstants.{MINUTES_PER_DAY}
 use Rattle.fleet_model.specs.declared.options.TableOptions.{TableOptions}
 use Rattle.fleet_model.specs.declared.parts.Settings.{Settings}
@@ -46,15 +46,15 @@ module _ (held : Files) (dir : List ℕ) where
     other = with_settings t settings fit as_long
 
     same_total : (plan : List ℕ) → total_cost t plan ≡ total_cost other plan
-    unfolding total_cost
+    unfolding total_cost cost_of fleet_by slot_by
     same_total plan = refl
 
     -- the plan that stands there
     plan_by : (planned : Bool) (cost : Option ℤ) → IsCostThere held dir t planned cost → IsCostThere held dir other planned cost
-    unfolding days_in
+    unfolding days_in fleet_by slot_by
     plan_by planned None none = none
     plan_by planned (Some cost) (is, there) =
-        let legal = legal_by t.stations t.fleets t.legs t.costs t.throughs (t.settings, t.in_range) (settings, other.in_range) as_long there.plan there.legal in (
+        let legal = legal_by t.stations t.fleets t.legs t.costs t.throughs t.departures t.windows t.optional (t.settings, t.in_range) (settings, other.in_range) as_long there.plan there.legal in (
           is,
           record {
             plan = there.plan;
@@ -80,9 +80,9 @@ module _ (held : Files) (dir : List ℕ) where
           bound = x.bound;
           there = x.there;
           reads = reads_by_day (table_bytes (bytes_in held dir)) solving.settings checking.settings alike.day_start alike.days t fit as_long x.reads;
-          proof_reads = reads_by t.stations t.fleets t.legs t.costs t.throughs (t.settings, t.in_range) (checking.settings, u.in_range) as_long (bytes_in held dir file.Proof) x.proof x.proof_reads;
+          proof_reads = reads_by t.stations t.fleets t.legs t.costs t.throughs t.departures t.windows t.optional (t.settings, t.in_range) (checking.settings, u.in_range) as_long (bytes_in held dir file.Proof) x.proof x.proof_reads;
           plan = plan_by t checking.settings fit as_long x.proof.planned x.cost x.plan;
-          holds = holds_by t.stations t.fleets t.legs t.costs t.throughs (t.settings, t.in_range) (checking.settings, u.in_range) as_long x.cost x.proof.tree x.bound x.holds;
+          holds = holds_by t.stations t.fleets t.legs t.costs t.throughs t.departures t.windows t.optional (t.settings, t.in_range) (checking.settings, u.in_range) as_long x.cost x.proof.tree x.bound x.holds;
         }
 
     -- where checking answers at all, its longest wait is within its limit

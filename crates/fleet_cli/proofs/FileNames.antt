@@ -14,9 +14,11 @@ file_at n =
     else if n == 2 then file.Legs
     else if n == 3 then file.Costs
     else if n == 4 then file.Throughs
-    else if n == 5 then file.Tails
-    else if n == 6 then file.Plan
-    else if n == 7 then file.Proof
+    else if n == 5 then file.Windows
+    else if n == 6 then file.Optional
+    else if n == 7 then file.Tails
+    else if n == 8 then file.Plan
+    else if n == 9 then file.Proof
     else file.Rotation
 
 at_number : (f : DeskFile) → file_at (number_of f) ≡ f
@@ -26,6 +28,8 @@ at_number file.Fleets = refl
 at_number file.Legs = refl
 at_number file.Costs = refl
 at_number file.Throughs = refl
+at_number file.Windows = refl
+at_number file.Optional = refl
 at_number file.Tails = refl
 at_number file.Plan = refl
 at_number file.Proof = refl
@@ -41,6 +45,8 @@ self_file file.Fleets = refl
 self_file file.Legs = refl
 self_file file.Costs = refl
 self_file file.Throughs = refl
+self_file file.Windows = refl
+self_file file.Optional = refl
 self_file file.Tails = refl
 self_file file.Plan = refl
 self_file file.Proof = refl
@@ -53,6 +59,8 @@ looked_up c f bytes file.Fleets = refl
 looked_up c f bytes file.Legs = refl
 looked_up c f bytes file.Costs = refl
 looked_up c f bytes file.Throughs = refl
+looked_up c f bytes file.Windows = refl
+looked_up c f bytes file.Optional = refl
 looked_up c f bytes file.Tails = refl
 looked_up c f bytes file.Plan = refl
 looked_up c f bytes file.Proof = refl

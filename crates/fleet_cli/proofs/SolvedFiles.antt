@@ -112,7 +112,7 @@ module _ (t : Tables) (rotations : List FleetRotation) (visits : ℕ) where
         refl,
         record {
           plan = plan;
-          there = held_in stands dir file.Plan (plan_text t plan) (record { stands = there; within = plan_within t plan right.legal.assignment });
+          there = held_in stands dir file.Plan (plan_text t plan) (record { stands = there; within = plan_within t plan });
           reads = subst (λ b. PlanReads t (records_of b) plan) (stands_in stands dir file.Plan (plan_text t plan) there) (reads_what_was_written t plan right.legal.assignment);
           legal = right.legal;
           costs = right.exact;

@@ -30,6 +30,8 @@ file_of_key n =
     else if n == 10807 then file.Legs
     else if n == 9908 then file.Costs
     else if n == 11611 then file.Throughs
+    else if n == 11910 then file.Windows
+    else if n == 11111 then file.Optional
     else if n == 11608 then file.Tails
     else if n == 11207 then file.Plan
     else if n == 11208 then file.Proof
@@ -42,6 +44,8 @@ by_key file.Fleets = refl
 by_key file.Legs = refl
 by_key file.Costs = refl
 by_key file.Throughs = refl
+by_key file.Windows = refl
+by_key file.Optional = refl
 by_key file.Tails = refl
 by_key file.Plan = refl
 by_key file.Proof = refl

@@ -32,10 +32,12 @@ number_of file.Fleets = 1
 number_of file.Legs = 2
 number_of file.Costs = 3
 number_of file.Throughs = 4
-number_of file.Tails = 5
-number_of file.Plan = 6
-number_of file.Proof = 7
-number_of file.Rotation = 8
+number_of file.Windows = 5
+number_of file.Optional = 6
+number_of file.Tails = 7
+number_of file.Plan = 8
+number_of file.Proof = 9
+number_of file.Rotation = 10
 
 -- the two files are one
 abbrev pub same_file : DeskFile → DeskFile → Bool
@@ -54,6 +56,8 @@ content_of c file.Fleets = c.fleets
 content_of c file.Legs = c.legs
 content_of c file.Costs = c.costs
 content_of c file.Throughs = c.throughs
+content_of c file.Windows = c.windows
+content_of c file.Optional = c.optional
 content_of c file.Tails = c.tails
 content_of c file.Plan = c.plan
 content_of c file.Proof = c.proof
@@ -61,7 +65,7 @@ content_of c file.Rotation = c.rotation
 
 -- nothing was read
 abbrev pub no_contents : Contents
-no_contents = record { stations = []; fleets = []; legs = []; costs = []; throughs = []; tails = []; plan = []; proof = []; rotation = [] }
+no_contents = record { stations = []; fleets = []; legs = []; costs = []; throughs = []; windows = []; optional = []; tails = []; plan = []; proof = []; rotation = [] }
 
 -- what was read, with the bytes of one file more
 abbrev pub with_content : Contents → DeskFile → List ℕ → Contents
@@ -71,6 +75,8 @@ with_content c f bytes = record {
   legs = if same_file file.Legs f then bytes else c.legs;
   costs = if same_file file.Costs f then bytes else c.costs;
   throughs = if same_file file.Throughs f then bytes else c.throughs;
+  windows = if same_file file.Windows f then bytes else c.windows;
+  optional = if same_file file.Optional f then bytes else c.optional;
   tails = if same_file file.Tails f then bytes else c.tails;
   plan = if same_file file.Plan f then bytes else c.plan;
   proof = if same_file file.Proof f then bytes else c.proof;

@@ -4,6 +4,7 @@ use Rattle.dual_bound.specs.OfTables.{IsOfTables}
 use Rattle.bound_cert.specs.ReadProof.{ReadsAs}
 use Rattle.bound_cert.specs.declared.reading.Proof.{Proof}
 use Rattle.command_words.specs.Words.{Asked}
+use Rattle.fleet_model.specs.Plain.{IsPlain}
 use Rattle.fleet_model.specs.Schedule.{fleets_in}
 use Rattle.fleet_model.specs.declared.limits.TheConstants.{MAX_AIRCRAFT}
 use Rattle.fleet_model.specs.declared.options.TableOptions.{TableOptions}
@@ -28,6 +29,11 @@ use Rattle.fleet_cli.specs.declared.opened.Opened.TheVariants as opened
 abbrev pub IsLoaded : TableOptions → TableBytes → Loaded → Type 0
 IsLoaded reading bytes (loaded.Refused answer) = RefusesTables bytes reading answer
 IsLoaded reading bytes (loaded.Read tables) = Reads bytes reading.settings tables
+
+-- where they read, each leg has one time
+abbrev pub LoadsPlain : Loaded → Type 0
+LoadsPlain (loaded.Refused answer) = ⊤
+LoadsPlain (loaded.Read tables) = IsPlain tables
 
 -- no further file is asked for, and this is the answer
 pub record Settles (asked : Option Asked) (bytes : FileBytes) (answer : Answer) : Type 0 where

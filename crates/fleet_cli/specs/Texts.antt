@@ -23,6 +23,8 @@ desk_file_of table.Fleets = file.Fleets
 desk_file_of table.Legs = file.Legs
 desk_file_of table.Costs = file.Costs
 desk_file_of table.Throughs = file.Throughs
+desk_file_of table.Windows = file.Windows
+desk_file_of table.Optional = file.Optional
 desk_file_of table.Tails = file.Tails
 
 abbrev pub usage_text : List ℕ

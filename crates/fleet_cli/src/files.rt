@@ -8,7 +8,7 @@ use plan_desk::DeskFile;
 use std::marker::Model;
 
 /// The most files of a list: each that a desk holds, once.
-pub const MOST_FILES: usize = 9;
+pub const MOST_FILES: usize = 11;
 
 /// Files of a folder, in the order in which they are read. Contracts see the list.
 ///

@@ -94,6 +94,8 @@ fn limit_of(file: DeskFile) -> u64
         | DeskFile::Legs
         | DeskFile::Costs
         | DeskFile::Throughs
+        | DeskFile::Windows
+        | DeskFile::Optional
         | DeskFile::Tails
         | DeskFile::Plan
         | DeskFile::Rotation => TABLE_LIMIT,

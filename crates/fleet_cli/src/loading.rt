@@ -1,7 +1,7 @@
 //! The tables of a folder.
 ghost use Rattle.std.specs.Prelude.{IfOk};
 ghost use Rattle.fleet_cli.specs.Contents.{content_of, table_bytes};
-ghost use Rattle.fleet_cli.specs.Opened.{IsLoaded};
+ghost use Rattle.fleet_cli.specs.Opened.{IsLoaded, LoadsPlain};
 ghost use Rattle.fleet_model.specs.Limits.{AreSettings};
 
 use crate::answer::Answer;
@@ -28,7 +28,8 @@ pub fn load_tables(
     contents: &Contents,
 ) -> Result<Loaded, NoMemory>
     requires { AreSettings reading.settings }
-    ensures { IfOk result (IsLoaded reading (table_bytes (content_of contents.now))) }
+    ensures read { IfOk result (IsLoaded reading (table_bytes (content_of contents.now))) }
+    ensures plain { IfOk result LoadsPlain }
 {
     let loaded = load(
         alloc,

@@ -4,6 +4,7 @@ ghost use Rattle.command_words.specs.declared.command.TheConstants.{DEFAULT_OPTI
 ghost use Rattle.fleet_cli.specs.Answer.{GivesSolution, Makes};
 ghost use Rattle.fleet_cli.specs.Skeletons.{TablesRead};
 ghost use Rattle.fleet_cli.specs.Making.{after_files, made_files};
+ghost use Rattle.fleet_model.specs.Plain.{IsPlain};
 ghost use Rattle.sched_read.specs.Reading.{Reads};
 ghost use Rattle.table_maker.specs.Laws.{bytes_of};
 ghost use Rattle.table_maker.specs.Made.{CanBeMade, made_tables};
@@ -42,7 +43,8 @@ fn solve_made(alloc: Global, number: u32, legs: u32, made: &MadeTables) -> Resul
 fn load_made(alloc: Global, number: u32, legs: u32, made: &MadeTables) -> Result<Tables, NoMemory>
     requires can { CanBeMade number legs }
     requires made { made.now ≡ made_tables number legs }
-    ensures { IfOk result (Reads (bytes_of made.now) DEFAULT_READING.settings) }
+    ensures read { IfOk result (Reads (bytes_of made.now) DEFAULT_READING.settings) }
+    ensures plain { IfOk result IsPlain }
 {
     let loaded = load(
         alloc,

@@ -7,6 +7,7 @@ ghost use Rattle.fleet_cli.specs.Skeletons.{OnLegal};
 ghost use Rattle.fleet_cli.specs.Contents.{content_of, table_bytes};
 ghost use Rattle.fleet_model.specs.Legal.{IsAssignment, IsLegal};
 ghost use Rattle.fleet_model.specs.Limits.{AreSettings};
+ghost use Rattle.fleet_model.specs.Plain.{IsPlain};
 
 use crate::answer::Answer;
 use crate::contents::Contents;
@@ -62,6 +63,7 @@ fn due_of_tables(
     tails: &[u8],
     plan: &[u8],
 ) -> Result<Answer, NoMemory>
+    requires plain { IsPlain tables.now }
     requires limits { AreRotationLimits limits }
     requires dates { AreDates dates.now }
     ensures { IfOk result (DueOn limits (dates_by dates.now) tails.now plan.now tables.now) }
@@ -82,6 +84,7 @@ fn due_of_tails(
     tails: &[TailState],
     bytes: &[u8],
 ) -> Result<Answer, NoMemory>
+    requires plain { IsPlain tables.now }
     requires limits { AreRotationLimits limits }
     requires dates { AreDates dates.now }
     ensures { IfOk result (DueWith limits (dates_by dates.now) bytes.now tables.now tails.now) }
@@ -102,6 +105,7 @@ fn due_of_judged(
     tails: &[TailState],
     plan: &Assignment,
 ) -> Result<Answer, NoMemory>
+    requires plain { IsPlain tables.now }
     requires limits { AreRotationLimits limits }
     requires dates { AreDates dates.now }
     requires plan { IsAssignment tables.now plan.now }
@@ -122,6 +126,7 @@ fn due_of_legal(
     tails: &[TailState],
     plan: &Assignment,
 ) -> Result<Answer, NoMemory>
+    requires plain { IsPlain tables.now }
     requires limits { AreRotationLimits limits }
     requires dates { AreDates dates.now }
     requires plan { IsLegal tables.now plan.now }

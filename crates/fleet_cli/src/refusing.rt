@@ -58,6 +58,8 @@ fn desk_file(table: TableFile) -> DeskFile
         TableFile::Legs => DeskFile::Legs,
         TableFile::Costs => DeskFile::Costs,
         TableFile::Throughs => DeskFile::Throughs,
+        TableFile::Windows => DeskFile::Windows,
+        TableFile::Optional => DeskFile::Optional,
         TableFile::Tails => DeskFile::Tails,
     }
 }

@@ -7,6 +7,7 @@ ghost use Rattle.fleet_cli.specs.Answer.{GivesSolution, Solves};
 ghost use Rattle.fleet_cli.specs.Contents.{content_of, table_bytes};
 ghost use Rattle.fleet_cli.specs.Solution.{AreRotationsOf, solved_answer};
 ghost use Rattle.fleet_model.specs.Limits.{AreSettings};
+ghost use Rattle.fleet_model.specs.Plain.{IsPlain};
 ghost use Rattle.fleet_rotations.specs.Rotations.{AreRotations};
 
 use crate::answer::Answer;
@@ -45,7 +46,8 @@ pub fn solve_tables(
     tables: &Tables,
     options: SolveOptions,
 ) -> Result<Answer, NoMemory>
-    requires { AreOptions options }
+    requires plain { IsPlain tables.now }
+    requires options { AreOptions options }
     ensures { IfOk result (GivesSolution options tables.now) }
 {
     let solved = solve(alloc, tables, options.search.nodes, options.search.pivots)?;
@@ -60,6 +62,7 @@ fn rotations_of(
     solved: &Solved,
     limits: RotationLimits,
 ) -> Result<Entries<FleetRotation>, NoMemory>
+    requires plain { IsPlain tables.now }
     requires right { IsRight tables.now solved.now }
     requires limits { AreRotationLimits limits }
     ensures right { IfOk result (AreRotationsOf tables.now limits solved.now) }

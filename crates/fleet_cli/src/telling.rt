@@ -7,6 +7,7 @@ ghost use Rattle.fleet_cli.specs.Skeletons.{OnLegal};
 ghost use Rattle.fleet_cli.specs.Contents.{content_of, table_bytes};
 ghost use Rattle.fleet_model.specs.Legal.{IsAssignment, IsLegal};
 ghost use Rattle.fleet_model.specs.Limits.{AreSettings};
+ghost use Rattle.fleet_model.specs.Plain.{IsPlain};
 
 use crate::answer::Answer;
 use crate::contents::Contents;
@@ -52,6 +53,7 @@ fn tails_of_plan(
     dates: &Dates,
     bytes: &[u8],
 ) -> Result<Answer, NoMemory>
+    requires plain { IsPlain tables.now }
     requires limits { AreRotationLimits limits }
     requires dates { AreDates dates.now }
     ensures { IfOk result (TailsOn limits (dates_by dates.now) bytes.now tables.now) }
@@ -71,6 +73,7 @@ fn tails_of_judged(
     dates: &Dates,
     plan: &Assignment,
 ) -> Result<Answer, NoMemory>
+    requires plain { IsPlain tables.now }
     requires limits { AreRotationLimits limits }
     requires dates { AreDates dates.now }
     requires plan { IsAssignment tables.now plan.now }
@@ -90,6 +93,7 @@ fn tails_of_legal(
     dates: &Dates,
     plan: &Assignment,
 ) -> Result<Answer, NoMemory>
+    requires plain { IsPlain tables.now }
     requires limits { AreRotationLimits limits }
     requires dates { AreDates dates.now }
     requires plan { IsLegal tables.now plan.now }

@@ -86,6 +86,8 @@ pub fn fault_line(file: DeskFile) -> &'static [u8]
         DeskFile::Legs => b"fault: legs.csv\n",
         DeskFile::Costs => b"fault: costs.csv\n",
         DeskFile::Throughs => b"fault: throughs.csv\n",
+        DeskFile::Windows => b"fault: windows.csv\n",
+        DeskFile::Optional => b"fault: optional.csv\n",
         DeskFile::Tails => b"fault: tails.csv\n",
         DeskFile::Plan => b"fault: plan.csv\n",
         DeskFile::Proof => b"fault: proof.txt\n",

@@ -1,6 +1,5 @@
--- What is added up over the choices of legs, and what over the departures of fleets. What the words for them stand for is
--- looked at here and in `PeriodMinutes` alone.
-use Rattle.std.proofs.Common.{◌≡◌, ℕ, ◌*◌, ◌<◌, Bool, true, false, if◌then◌else◌, ◌==◌, ◌&&◌, nat_lt, List, None, ℤ, pos, refl, sym, ◌∙◌, inl, inr, arith}
+-- What is added up over the choices of legs, and what over the departures of fleets.
+use Rattle.std.proofs.Common.{◌≡◌, ℕ, ◌+◌, ◌*◌, ◌<◌, Bool, true, false, if◌then◌else◌, ◌==◌, ◌&&◌, nat_lt, List, slice_index_or, None, ℤ, pos, refl, sym, ◌∙◌, ap, inl, inr, arith}
 use Rattle.std.proofs.lemmas.Bool.{cases_lt}
 use Rattle.std.proofs.lemmas.Bool.Decides.{nat_tests}
 use Rattle.sums.specs.Below.{count_below, sum_below, sum_below_ℤ}
@@ -8,25 +7,27 @@ use Rattle.sums.proofs.Sums.{sum_below-agree, sum_below-at, sum_below-one, sum_b
 use Rattle.sums.proofs.Tests.{none_some}
 use Rattle.sums.proofs.WholeSums.{sum_below_ℤ-same}
 use Rattle.sums.proofs.WholeSwaps.{sum_below_ℤ-one, sum_below_ℤ-swap, sum_below_ℤ-zero, where_true}
+use Rattle.fleet_model.specs.declared.parts.Departure.{Departure}
 use Rattle.fleet_model.specs.declared.parts.Pair.{Pair}
 use Rattle.fleet_model.specs.declared.tables.Tables.{Tables}
-use Rattle.fleet_model.specs.Counts.{fleet_at, pair_at, weights_of}
+use Rattle.fleet_model.specs.Counts.{choice_at, pair_at, weights_of}
 use Rattle.fleet_model.specs.Legal.{HasRoom, IsAssignment}
-use Rattle.fleet_model.specs.Schedule.{IsFlown, choice_on, choices_in, departures_in, fleet_by, fleets_in, leg_at, leg_on, legs_in, pair_on, parking_of, stations_in}
+use Rattle.fleet_model.specs.Schedule.{IsFlown, choice_on, choices_in, departures_in, fleet_by, fleets_in, leg_at, leg_on, legs_in, no_departure, pair_on, parking_of, shifts_in, slot_by, stations_in}
+use Rattle.fleet_model.proofs.Departures.{among, block_fleet, block_flown, in_block, on_fleet, on_fleet_ℤ, over_departures, over_departures_ℤ, place_of, slot_within}
 
 -- ---- departures
 pub of_departure : (t : Tables) (d : ℕ) → d < departures_in t → leg_at t d < legs_in t
-unfolding departures_in leg_at
-of_departure t d below = below
+unfolding leg_at
+of_departure t d below = (among t d below).leg
 
 -- a fleet flies a departure by a choice of its leg
 pub on_departure : (t : Tables) (d f : ℕ) → d < departures_in t → f < fleets_in t → IsFlown t (pair_on t d f)
-unfolding departures_in leg_at choice_on choices_in fleet_by
-on_departure t d f below known = record { pair = record { leg = below; choice = known }; by = known }
+unfolding leg_at choice_on
+on_departure t d f below known = block_flown t (slice_index_or t.departures d no_departure).leg f (slice_index_or t.departures d no_departure).slot (among t d below).leg known (among t d below).slot
 
 pub by_fleet : (t : Tables) (d f : ℕ) → d < departures_in t → f < fleets_in t → fleet_by t (pair_on t d f) ≡ f
-unfolding choice_on fleet_by
-by_fleet t d f below known = refl
+unfolding leg_at choice_on
+by_fleet t d f below known = block_fleet t (slice_index_or t.departures d no_departure).leg f (slice_index_or t.departures d no_departure).slot (among t d below).slot
 
 -- the departure of a pair that is flown
 pub record IsOfDeparture (t : Tables) (p : Pair) (d : ℕ) : Type 0 where
@@ -34,21 +35,30 @@ pub record IsOfDeparture (t : Tables) (p : Pair) (d : ℕ) : Type 0 where
   pub pair : pair_on t d (fleet_by t p) ≡ p
 
 pub of_flown : (t : Tables) (p : Pair) → IsFlown t p → (d : ℕ) × IsOfDeparture t p d
-unfolding departures_in leg_at choice_on fleet_by
-of_flown t p flown = (p.leg, record { within = flown.pair.leg; pair = refl })
+unfolding departures_in leg_at choice_on
+of_flown t p flown =
+    let place = place_of t p.leg (slot_by t p) flown.pair.leg (slot_within t p) in (
+      place.0,
+      record {
+        within = place.1.within;
+        pair = ap (λ (departure : Departure). leg_on departure.leg (fleet_by t p * shifts_in t departure.leg + departure.slot)) place.1.is ∙ ap (leg_on p.leg) (in_block t p);
+      },
+    )
 
 -- ---- pick: the pairs by which a fleet flies, by legs and by departures
 pub pick : (t : Tables) (g : Pair → ℕ) (f : ℕ) → f < fleets_in t
     → sum_below (λ l. sum_below (λ c. if f == fleet_by t (leg_on l c) then g (leg_on l c) else 0) (choices_in t l)) (legs_in t) ≡ sum_below (λ d. g (pair_on t d f)) (departures_in t)
-unfolding departures_in leg_at choice_on choices_in fleet_by
-pick t g f known = sum_below-agree (λ l. sum_below (λ c. if f == c then g (leg_on l c) else 0) (fleets_in t)) (λ l. g (leg_on l f)) (legs_in t)
-    (record { each = λ l below. sum_below-at f (fleets_in t) (λ c. g (leg_on l c)) known })
+pick t g f known =
+    sum_below-agree (λ l. sum_below (λ c. if f == fleet_by t (leg_on l c) then g (leg_on l c) else 0) (choices_in t l)) (λ l. sum_below (λ i. g (leg_on l (f * shifts_in t l + i))) (shifts_in t l)) (legs_in t)
+    (record { each = λ l below. on_fleet t l f known g })
+    ∙ over_departures t f g
 
 pub pick_ℤ : (t : Tables) (g : Pair → ℤ) (f : ℕ) → f < fleets_in t
     → sum_below_ℤ (λ l. sum_below_ℤ (λ c. where_true (f == fleet_by t (leg_on l c)) (g (leg_on l c))) (choices_in t l)) (legs_in t) ≡ sum_below_ℤ (λ d. g (pair_on t d f)) (departures_in t)
-unfolding departures_in leg_at choice_on choices_in fleet_by
-pick_ℤ t g f known = sum_below_ℤ-same (λ l. sum_below_ℤ (λ c. where_true (f == c) (g (leg_on l c))) (fleets_in t)) (λ l. g (leg_on l f)) (legs_in t)
-    (λ l below. sum_below_ℤ-one f (λ c. g (leg_on l c)) (fleets_in t) known)
+pick_ℤ t g f known =
+    sum_below_ℤ-same (λ l. sum_below_ℤ (λ c. where_true (f == fleet_by t (leg_on l c)) (g (leg_on l c))) (choices_in t l)) (λ l. sum_below_ℤ (λ i. g (leg_on l (f * shifts_in t l + i))) (shifts_in t l)) (legs_in t)
+    (λ l below. on_fleet_ℤ t l f known g)
+    ∙ over_departures_ℤ t f g
 
 -- ---- exchange: all pairs by which legs are flown, leg by leg and fleet by fleet
 at_one : (x value n : ℕ) → sum_below (λ f. if f == x then value else 0) n ≡ (if nat_lt x n then value else 0)
@@ -114,7 +124,7 @@ pub planned : (t : Tables) (a : List ℕ) (f : ℕ) → IsAssignment t a → f <
 planned t a f assignment known value =
     sym (pick t (λ p. weights_of a p * value p) f known)
     ∙ sum_below-agree (λ l. sum_below (λ c. if f == fleet_by t (leg_on l c) then weights_of a (leg_on l c) * value (leg_on l c) else 0) (choices_in t l)) (λ l. if fleet_by t (pair_at a l) == f then value (pair_at a l) else 0) (legs_in t)
-    (record { each = λ l below. own_choice (fleet_at a l) f (λ c. fleet_by t (leg_on l c)) (λ c. value (leg_on l c)) (choices_in t l) (assignment.known l below) })
+    (record { each = λ l below. own_choice (choice_at a l) f (λ c. fleet_by t (leg_on l c)) (λ c. value (leg_on l c)) (choices_in t l) (assignment.known l below) })
 
 -- .. where a test passes
 pub planned_where : (t : Tables) (a : List ℕ) (f : ℕ) → IsAssignment t a → f < fleets_in t → (test : Pair → Bool)

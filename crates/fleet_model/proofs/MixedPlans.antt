@@ -10,7 +10,7 @@ use Rattle.sums.proofs.Sums.{sum_below-one}
 use Rattle.sums.proofs.WholeSums.{sum_below_ℤ-same}
 use Rattle.sums.proofs.WholeSwaps.{sum_below_ℤ-one, where_true}
 use Rattle.fleet_model.specs.declared.tables.Tables.{Tables}
-use Rattle.fleet_model.specs.Counts.{fleet_at, weights_of}
+use Rattle.fleet_model.specs.Counts.{choice_at, weights_of}
 use Rattle.fleet_model.specs.Kept.{Domains, IsKeptAssignment}
 use Rattle.fleet_model.specs.Legal.{IsAssignment, cost_of, leg_cost, total_cost}
 use Rattle.fleet_model.specs.Mixed.{LegalIsMixed, mixed_cost, weighted_cost}
@@ -23,19 +23,19 @@ test_times false z = zero-*ℤ z
 
 -- a pair that isn't kept is no pair of the assignment
 no_weight : (t : Tables) (keeps : Domains) (a : List ℕ) → IsKeptAssignment t keeps a → (l f : ℕ) → l < legs_in t → keeps (leg_on l f) ≡ false → weights_of a (leg_on l f) ≡ 0
-no_weight t keeps a kept l f below not_kept = by_test (fleet_at a l == f) refl
+no_weight t keeps a kept l f below not_kept = by_test (choice_at a l == f) refl
   where
-    differs : fleet_at a l ≡ f → ⊥
+    differs : choice_at a l ≡ f → ⊥
     differs same = let there : IsTrue (keeps (leg_on l f)) = subst (λ g. IsTrue (keeps (leg_on l g))) same (kept.kept l below) in false≢true (rw not_kept at there)
 
-    by_test : (b : Bool) → (fleet_at a l == f) ≡ b → ◌≡◌ {A = ℕ} (if fleet_at a l == f then 1 else 0) 0
+    by_test : (b : Bool) → (choice_at a l == f) ≡ b → ◌≡◌ {A = ℕ} (if choice_at a l == f then 1 else 0) 0
     by_test true e = absurd (differs (grind (arith, nat_tests)))
     by_test false e = rw e refl
 
 cost_on : (t : Tables) (a : List ℕ) → IsAssignment t a → (l : ℕ) → l < legs_in t → sum_below_ℤ (weighted_cost t (weights_of a) l) (choices_in t l) ≡ leg_cost t a l
 cost_on t a known l below =
-    sum_below_ℤ-same (weighted_cost t (weights_of a) l) (λ f. where_true (fleet_at a l == f) (units f)) (choices_in t l) (λ f lt. test_times (fleet_at a l == f) (units f))
-    ∙ sum_below_ℤ-one (fleet_at a l) units (choices_in t l) (known.known l below)
+    sum_below_ℤ-same (weighted_cost t (weights_of a) l) (λ f. where_true (choice_at a l == f) (units f)) (choices_in t l) (λ f lt. test_times (choice_at a l == f) (units f))
+    ∙ sum_below_ℤ-one (choice_at a l) units (choices_in t l) (known.known l below)
   where
     units : ℕ → ℤ
     units f = unwrap_or (cost_of t (leg_on l f)) (pos 0)
@@ -45,7 +45,7 @@ unfolding mixed_cost total_cost
 legal_is_mixed t keeps a kept legal = record {
   plan = record {
     kept = λ p known not_kept. no_weight t keeps a kept p.leg p.choice known.leg not_kept;
-    cover = λ l below. sum_below-one (fleet_at a l) 1 (choices_in t l) (kept.assignment.known l below);
+    cover = λ l below. sum_below-one (choice_at a l) 1 (choices_in t l) (kept.assignment.known l below);
     balanced = legal.balanced;
     within = λ f below. omega (arith, legal.within.each f below);
     room = legal.room;

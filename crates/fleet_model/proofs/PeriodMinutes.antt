@@ -1,6 +1,6 @@
--- Minutes and days of the period, and the times of a pair in it. What the words for them stand for is looked at here and in
--- `Choices` alone; all else goes by these facts.
-use Rattle.std.proofs.Common.{◌≡◌, true, ℕ, ◌+◌, ◌-◌, ◌*◌, ◌/◌, ◌%◌, ◌<◌, ◌≤◌, nat_le, refl, sym, ap, subst, inl, inr, arith}
+-- Minutes and days of the period, and the times of a pair in it. What the words for them stand for is looked at here; all else
+-- goes by these facts.
+use Rattle.std.proofs.Common.{◌≡◌, true, ℕ, zero, suc, [], ◌∷◌, length, slice_index_or, ℤ, pos, negsuc, ◌+◌, ◌-◌, ◌*◌, ◌/◌, ◌%◌, ◌<◌, ◌≤◌, nat_le, refl, sym, ap, subst, inl, inr, arith}
 use Rattle.std.proofs.Math.Nat.{div-add-mod, mod-lt, mul-le-mul_left}
 use Rattle.std.proofs.lemmas.Bool.{cases_lt}
 use Rattle.std.proofs.lemmas.Bool.Decides.{nat_tests}
@@ -8,10 +8,13 @@ use Rattle.std.proofs.lemmas.List.{get_or_past}
 use Rattle.fleet_model.specs.declared.limits.TheConstants.{MAX_GROUND_MINUTES, MINUTES_PER_DAY}
 use Rattle.fleet_model.specs.declared.parts.Leg.{Leg}
 use Rattle.fleet_model.specs.declared.parts.Pair.{Pair}
+use Rattle.fleet_model.specs.declared.shifts.Shift.{Shift}
 use Rattle.fleet_model.specs.declared.tables.Tables.{Tables}
 use Rattle.fleet_model.specs.Limits.{IsLeg, IsStation}
-use Rattle.fleet_model.specs.Schedule.{IsPair, day_end, days_in, departures_in, fleet_by, fleet_of, fleets_in, last_of, leg_at, leg_of, legs_in, no_fleet, no_leg, no_station, pair_on, period_of, station_of, stations_in}
+use Rattle.fleet_model.specs.Schedule.{IsPair, day_end, days_in, departures_in, fleet_by, fleet_of, fleets_in, last_of, leg_at, leg_of, legs_in, no_fleet, no_leg, no_station, own_shift, pair_on, period_of, shift_by, slot_by, station_of, stations_in}
 use Rattle.fleet_model.specs.Times.{busy_minutes, departure, laps_of, nights_of, ready_minute}
+use Rattle.fleet_model.specs.Windows.{moved}
+use Rattle.fleet_model.proofs.Departures.{slot_within}
 
 -- ---- the period
 pub days_are_period : (t : Tables) → period_of t ≡ days_in t * MINUTES_PER_DAY
@@ -50,22 +53,33 @@ pub last_day_ends : (t : Tables) → day_end (days_in t) ≡ last_of t
 last_day_ends t = ap (λ n. n - 1) (sym (days_are_period t))
 
 -- ---- the times of a pair
-pub departs_in : (t : Tables) (p : Pair) → IsPair t p → departure t p < period_of t
-unfolding departure period_of
-departs_in t p known = (t.in_range.legs_fit.each p.leg no_leg known.leg).dep
+moved_within : (period minute : ℕ) (by : ℤ) → 0 < period → moved period minute by < period
+moved_within period minute (pos later) some = mod-lt (minute + later) some
+moved_within period minute (negsuc earlier) some = mod-lt (minute + period - suc earlier) some
 
--- .. and what stands for no pair
+-- the one entry of a list, and what stands for it, are the same at each place
+pub only_one : {X : Type 0} (x : X) (k : ℕ) → slice_index_or (x ∷ []) k x ≡ x
+only_one x zero = refl
+only_one x (suc k) = refl
+
+-- a pair departs within the period, and so does what stands for no pair
 pub departs_always : (t : Tables) (p : Pair) → departure t p < period_of t
-unfolding departure period_of
+unfolding departure slot_by period_of
 departs_always t p = elim (cases_lt p.leg (legs_in t)) [
-  | inl below ↦ (t.in_range.legs_fit.each p.leg no_leg below).dep
-  | inr past ↦ subst (λ (leg : Leg). leg.dep < period_of t) (sym (get_or_past t.legs p.leg no_leg past)) (some_minutes t)
+  | inl below ↦
+      let shift = (t.in_range.legs_fit.each p.leg no_leg below).shifts.each (slot_by t p) (own_shift 0) (slot_within t p) in
+      subst (λ n. n < period_of t) (sym shift.at) (moved_within (period_of t) (leg_of t p.leg).dep (shift_by t p).minutes (some_minutes t))
+  | inr past ↦
+      subst (λ (leg : Leg). (slice_index_or leg.shifts (p.choice % length leg.shifts) (own_shift 0)).dep < period_of t) (sym (get_or_past t.legs p.leg no_leg past))
+      (subst (λ (shift : Shift). shift.dep < period_of t) (sym (only_one (own_shift 0) (p.choice % 1))) (some_minutes t))
 ]
+
+pub departs_in : (t : Tables) (p : Pair) → IsPair t p → departure t p < period_of t
+departs_in t p known = departs_always t p
 
 -- a departure is within the period, whichever fleet flies it
 pub departs_on : (t : Tables) (d f : ℕ) → d < departures_in t → departure t (pair_on t d f) < period_of t
-unfolding departure departures_in leg_at period_of
-departs_on t d f below = (t.in_range.legs_fit.each d no_leg below).dep
+departs_on t d f below = departs_always t (pair_on t d f)
 
 -- the turn of a fleet, and of what stands for none
 few_turns : (t : Tables) (f : ℕ) → (fleet_of t f).turn ≤ MAX_GROUND_MINUTES

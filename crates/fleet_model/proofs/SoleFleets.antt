@@ -3,19 +3,19 @@ use Rattle.std.proofs.Common.{◌≡◌, ℕ, ◌<◌, ◌++◌, List, [], ◌�
 use Rattle.std.proofs.lemmas.Bool.{cases_lt}
 use Rattle.std.proofs.lemmas.Grind.{common_steps}
 use Rattle.fleet_model.specs.declared.tables.Tables.{Tables}
-use Rattle.fleet_model.specs.Counts.{fleet_at}
+use Rattle.fleet_model.specs.Counts.{choice_at}
 use Rattle.fleet_model.specs.Kept.{Domains, IsSoleOn}
 
 -- each leg that the plan flies keeps one fleet, and flies it
 pub record FliesSole (t : Tables) (keeps : Domains) (a : List ℕ) : Type 0 where
-  pub each : (l : ℕ) → l < length a → IsSoleOn t keeps l (fleet_at a l)
+  pub each : (l : ℕ) → l < length a → IsSoleOn t keeps l (choice_at a l)
 
 -- the fleet of the leg that was added last
-pub last_fleet : (a : List ℕ) (fleet : ℕ) → fleet_at (a ++ fleet ∷ []) (length a) ≡ fleet
+pub last_fleet : (a : List ℕ) (fleet : ℕ) → choice_at (a ++ fleet ∷ []) (length a) ≡ fleet
 last_fleet a fleet = grind (arith, common_steps)
 
 -- legs that stood before keep their fleet
-pub earlier_fleet : (a : List ℕ) (fleet l : ℕ) → l < length a → fleet_at (a ++ fleet ∷ []) l ≡ fleet_at a l
+pub earlier_fleet : (a : List ℕ) (fleet l : ℕ) → l < length a → choice_at (a ++ fleet ∷ []) l ≡ choice_at a l
 earlier_fleet a fleet l before = grind (arith, common_steps)
 
 -- one leg more

@@ -12,7 +12,7 @@ use Rattle.sums.proofs.Naturals.{by_number, cancel_le, cancel_same, times_below,
 use Rattle.sums.proofs.Tests.{by_test}
 use Rattle.fleet_model.specs.declared.parts.Pair.{Pair}
 use Rattle.fleet_model.specs.declared.tables.Tables.{Tables}
-use Rattle.fleet_model.specs.Counts.{Weights, arrived, coming, departed, fleet_at, has_come, has_left, leaving, pair_at, weights_of}
+use Rattle.fleet_model.specs.Counts.{Weights, arrived, coming, departed, choice_at, has_come, has_left, leaving, pair_at, weights_of}
 use Rattle.fleet_model.specs.Kept.{Domains}
 use Rattle.fleet_model.specs.Legal.{IsAssignment, IsLegal}
 use Rattle.fleet_model.specs.Mixed.{IsMixedPlan}
@@ -142,20 +142,20 @@ module _ (t : Tables) (keeps : Domains) (scale : ℕ) (w : Weights) (some : 0 < 
   one_fleet : (l : ℕ) → l < legs_in t → IsOneOf (λ c. w (leg_on l c)) scale (choices_in t l) (fleet_for l)
   one_fleet l below = one_of (λ c. w (leg_on l c)) scale (choices_in t l) some (λ c known. whole.each (leg_on l c) (record { leg = below; choice = known })) (plan.cover l below)
 
-  fleet_there : (l : ℕ) → l < legs_in t → fleet_at fleets l ≡ fleet_for l
+  fleet_there : (l : ℕ) → l < legs_in t → choice_at fleets l ≡ fleet_for l
   fleet_there l below = get_or-list_below fleet_for (legs_in t) l 0 below
 
   weights_there : (p : Pair) → IsPair t p → w p ≡ scale * weights_of fleets p
   weights_there p known =
       subst (λ j. w p ≡ scale * (if j == p.choice then 1 else 0)) (sym (fleet_there p.leg known.leg)) ((one_fleet p.leg known.leg).each p.choice known.choice)
 
-  known_there : (l : ℕ) → l < legs_in t → fleet_at fleets l < choices_in t l
+  known_there : (l : ℕ) → l < legs_in t → choice_at fleets l < choices_in t l
   known_there l below = subst (λ j. j < choices_in t l) (sym (fleet_there l below)) (one_fleet l below).within
 
   kept_there : (l : ℕ) → l < legs_in t → keeps (pair_at fleets l) ≡ true
   kept_there l below = by_test (keeps (pair_at fleets l)) (λ kept. kept) (λ not_kept.
       let pair : IsPair t (pair_at fleets l) = record { leg = below; choice = known_there l below } in
-      absurd (omega (arith, plan.kept (pair_at fleets l) pair not_kept, weights_there (pair_at fleets l) pair, at_itself scale (fleet_at fleets l))))
+      absurd (omega (arith, plan.kept (pair_at fleets l) pair not_kept, weights_there (pair_at fleets l) pair, at_itself scale (choice_at fleets l))))
 
   same_weights : (f d : ℕ) → f < fleets_in t → d < departures_in t → w (pair_on t d f) ≡ scale * weights_of fleets (pair_on t d f)
   same_weights f d known below = weights_there (pair_on t d f) (on_departure t d f below known).pair

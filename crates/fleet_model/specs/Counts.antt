@@ -11,16 +11,16 @@ use Rattle.fleet_model.specs.Times.{departure, ready_minute}
 abbrev pub Weights : Type 0
 Weights = Pair → ℕ
 
--- the fleet of a leg by an assignment, which is a list of fleets, one a leg
-abbrev pub fleet_at : List ℕ → ℕ → ℕ
-fleet_at a l = slice_index a l
+-- the choice of a leg by an assignment, which is a list of choices, one a leg
+abbrev pub choice_at : List ℕ → ℕ → ℕ
+choice_at a l = slice_index a l
 
 -- the pair that an assignment has of a leg
 abbrev pub pair_at : List ℕ → ℕ → Pair
-pair_at a l = leg_on l (fleet_at a l)
+pair_at a l = leg_on l (choice_at a l)
 
 abbrev pub weights_of : List ℕ → Weights
-weights_of a p = if fleet_at a p.leg == p.choice then 1 else 0
+weights_of a p = if choice_at a p.leg == p.choice then 1 else 0
 
 -- the leg departs from the station by the end of the minute
 abbrev pub has_left : Tables → Pair → ℕ → ℕ → Bool

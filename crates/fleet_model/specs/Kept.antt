@@ -1,4 +1,4 @@
--- Subproblems: which pairs are kept, of all that may be flown.
+-- Subproblems: which pairs are kept, of all that may be taken.
 use Rattle.std.specs.Prelude.{◌≡◌, ℕ, ◌<◌, Bool, IsTrue, true, false, not, ◌==◌, ◌&&◌, if◌then◌else◌, List, [], slice_index_or, slice_set, is_some}
 use Rattle.sums.specs.Below.{count_below, sum_below}
 use Rattle.fleet_model.specs.declared.parts.Pair.{Pair}
@@ -13,7 +13,7 @@ use Rattle.fleet_model.specs.Schedule.{choices_in, leg_on, legs_in}
 abbrev pub Domains : Type 0
 Domains = Pair → Bool
 
--- all pairs that may be flown
+-- all pairs that may be taken
 abbrev pub all_pairs : Tables → Domains
 all_pairs t p = is_some (cost_of t p)
 

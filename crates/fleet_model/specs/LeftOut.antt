@@ -25,6 +25,6 @@ steps_left t keeps = sum_below (steps_on t keeps) (legs_in t)
 pub record KeepLeftOut (t : Tables) (keeps : Domains) : Type 0 where
   pub each : (l c : ℕ) → leaves_out t l c ≡ true → keeps (leg_on l c) ≡ true
 
--- where all pairs are kept, no more is left to step than there are pairs of 1,000 legs and 20 fleets
+-- where all pairs are kept, no more is left to step than legs may have pairs by which they are flown
 abbrev pub StepsAreFew : Type 0
 StepsAreFew = (t : Tables) → steps_left t (all_pairs t) ≤ 20000

@@ -1,4 +1,5 @@
 pub mod Aloft
+pub mod Bits
 pub mod Costs
 pub mod Counts
 pub mod Kept
@@ -15,3 +16,4 @@ pub mod Schedule
 pub mod Times
 pub mod Use
 pub mod Whole
+pub mod Windows

@@ -21,6 +21,9 @@ pub record IsOtherSize (t : Tables) (fleet count : ℕ) (u : Tables) : Type 0 wh
   pub costs : u.costs ≡ t.costs
   pub throughs : u.throughs ≡ t.throughs
   pub settings : u.settings ≡ t.settings
+  pub departures : u.departures ≡ t.departures
+  pub windows : u.windows ≡ t.windows
+  pub optional : u.optional ≡ t.optional
 
 -- there are such tables, whichever fleet it is and however many aircraft a fleet may have
 abbrev pub OtherSizeStands : Type 0

@@ -1,12 +1,14 @@
 -- The parts of tables by their numbers, the period, and the words in which a leg's choices and departures are told.
-use Rattle.std.specs.Prelude.{ℕ, ◌-◌, ◌*◌, ◌<◌, [], length, slice_index_or, false, Option, None}
+use Rattle.std.specs.Prelude.{ℕ, ◌+◌, ◌-◌, ◌*◌, ◌/◌, ◌%◌, ◌<◌, [], length, slice_index_or, false, if◌then◌else◌, Option, None}
 use Rattle.fleet_model.specs.Period.{minutes_of}
 use Rattle.fleet_model.specs.declared.parts.Station.{Station}
 use Rattle.fleet_model.specs.declared.parts.Fleet.{Fleet}
 use Rattle.fleet_model.specs.declared.parts.Leg.{Leg}
 use Rattle.fleet_model.specs.declared.limits.TheConstants.{MINUTES_PER_DAY}
 use Rattle.fleet_model.specs.declared.parts.Pair.{Pair}
+use Rattle.fleet_model.specs.declared.shifts.Shift.{Shift}
 use Rattle.fleet_model.specs.declared.tables.Tables.{Tables}
+pub use Rattle.fleet_model.specs.Windows.{no_departure, no_leg, own_shift}
 
 -- what stands where the number is of no station, fleet or leg
 abbrev pub no_station : Station
@@ -14,9 +16,6 @@ no_station = record { code = []; extra = 0; maintenance = false; parking = None 
 
 abbrev pub no_fleet : Fleet
 no_fleet = record { name = []; aircraft = 0; turn = 0 }
-
-abbrev pub no_leg : Leg
-no_leg = record { flight = []; from = 0; dep = 0; to = 0; block = 0 }
 
 abbrev pub station_of : Tables → ℕ → Station
 station_of t s = slice_index_or t.stations s no_station
@@ -58,17 +57,33 @@ unfoldable pub parking_of : Tables → ℕ → Option ℕ
 parking_of t s = (station_of t s).parking
 
 -- ---- choices: what an assignment chooses of for each leg
--- how many choices a leg has
-abbrev pub choices_in : Tables → ℕ → ℕ
-choices_in t l = fleets_in t
+-- how many times a leg has
+abbrev pub shifts_in : Tables → ℕ → ℕ
+shifts_in t l = length (leg_of t l).shifts
+
+-- how many choices a leg has: each fleet at each of its times, and last, where legs may be left out, to be left out
+unfoldable pub choices_in : Tables → ℕ → ℕ
+choices_in t l = fleets_in t * shifts_in t l + (if t.optional then 1 else 0)
+
+-- the choice by which a leg is left out
+abbrev pub left_out : Tables → ℕ → ℕ
+left_out t l = fleets_in t * shifts_in t l
 
 -- the pair of a leg and one of its choices
 abbrev pub leg_on : ℕ → ℕ → Pair
 leg_on l c = record { leg = l; choice = c }
 
--- the fleet that a pair is flown by
-abbrev pub fleet_by : Tables → Pair → ℕ
-fleet_by t p = p.choice
+-- the fleet that a pair is flown by, and none of the tables where it leaves the leg out
+unfoldable pub fleet_by : Tables → Pair → ℕ
+fleet_by t p = p.choice / shifts_in t p.leg
+
+-- the place of the time at which a pair is flown among those of its leg
+unfoldable pub slot_by : Tables → Pair → ℕ
+slot_by t p = p.choice % shifts_in t p.leg
+
+-- the time at which a pair is flown
+abbrev pub shift_by : Tables → Pair → Shift
+shift_by t p = slice_index_or (leg_of t p.leg).shifts (slot_by t p) (own_shift 0)
 
 -- a leg of the tables with one of its choices
 pub record IsPair (t : Tables) (p : Pair) : Type 0 where
@@ -82,16 +97,16 @@ pub record IsFlown (t : Tables) (p : Pair) : Type 0 where
 
 -- ---- departures: the minutes at which legs may depart, in one list
 -- how many departures there are
-abbrev pub departures_in : Tables → ℕ
-departures_in t = legs_in t
+unfoldable pub departures_in : Tables → ℕ
+departures_in t = length t.departures
 
 -- the leg of a departure
-abbrev pub leg_at : Tables → ℕ → ℕ
-leg_at t d = d
+unfoldable pub leg_at : Tables → ℕ → ℕ
+leg_at t d = (slice_index_or t.departures d no_departure).leg
 
 -- the choice of its leg by which a fleet flies a departure
-abbrev pub choice_on : Tables → ℕ → ℕ → ℕ
-choice_on t d f = f
+unfoldable pub choice_on : Tables → ℕ → ℕ → ℕ
+choice_on t d f = f * shifts_in t (leg_at t d) + (slice_index_or t.departures d no_departure).slot
 
 -- the pair by which a fleet flies a departure
 abbrev pub pair_on : Tables → ℕ → ℕ → Pair

@@ -3,11 +3,11 @@ use Rattle.std.specs.Prelude.{ℕ, ◌+◌, ◌-◌, ◌/◌, ◌%◌}
 use Rattle.fleet_model.specs.declared.parts.Pair.{Pair}
 use Rattle.fleet_model.specs.declared.tables.Tables.{Tables}
 use Rattle.fleet_model.specs.declared.limits.TheConstants.{MINUTES_PER_DAY}
-use Rattle.fleet_model.specs.Schedule.{fleet_by, fleet_of, leg_of, period_of, station_of}
+use Rattle.fleet_model.specs.Schedule.{fleet_by, fleet_of, leg_of, period_of, shift_by, station_of}
 
--- the minute of departure, counted from the day start
-abbrev pub departure : Tables → Pair → ℕ
-departure t p = (leg_of t p.leg).dep
+-- the minute of departure, counted from the start of the period
+unfoldable pub departure : Tables → Pair → ℕ
+departure t p = (shift_by t p).dep
 
 -- minutes from departure until the aircraft can depart again: the flight, the fleet's turn and the station's extra
 abbrev pub busy_minutes : Tables → Pair → ℕ

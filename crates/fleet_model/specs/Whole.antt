@@ -12,7 +12,7 @@ use Rattle.fleet_model.specs.Schedule.{IsPair}
 pub record IsWhole (t : Tables) (scale : ℕ) (w : Weights) : Type 0 where
   pub each : (p : Pair) → IsPair t p → w p ≢ 0 → w p ≡ scale
 
--- only pairs that may be flown are kept
+-- only pairs that may be taken are kept
 pub record KeepAllowed (t : Tables) (keeps : Domains) : Type 0 where
   pub each : (p : Pair) → IsPair t p → keeps p ≡ true → IsSome (cost_of t p)
 

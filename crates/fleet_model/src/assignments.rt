@@ -4,19 +4,19 @@ ghost use Rattle.fleet_model.specs.declared.limits.TheConstants.{MAX_LEGS};
 use crate::limits::MAX_LEGS;
 use std::marker::Model;
 
-/// An assignment: a fleet for each leg, by number, in the order of the legs. Contracts see the list of fleets.
+/// An assignment: a choice for each leg, by number, in the order of the legs. Contracts see the list of choices.
 ///
 /// It lies in a row of fixed size, so that no call on it takes memory.
 #[derive(Debug, Drop)]
 pub struct Assignment {
-    fleets: [u32; MAX_LEGS],
+    choices: [u32; MAX_LEGS],
     legs: usize,
 }
 
 impl Model for Assignment {
     ghost Value = { List ℕ };
 
-    ghost view = { λ assignment. take assignment.legs assignment.fleets };
+    ghost view = { λ assignment. take assignment.legs assignment.choices };
 
     ghost invariant = { λ assignment. assignment.legs ≤ MAX_LEGS };
 }
@@ -27,36 +27,36 @@ impl Assignment {
         ensures { result ≡ [] }
     {
         Assignment {
-            fleets: [0; MAX_LEGS],
+            choices: [0; MAX_LEGS],
             legs: 0,
         }
     }
 
-    /// Flies the next leg with a fleet.
-    pub fn push(&mut self, fleet: u32)
+    /// Takes a choice for the next leg.
+    pub fn push(&mut self, choice: u32)
         requires { length self.old < MAX_LEGS }
-        ensures { self.new ≡ self.old ++ fleet ∷ [] }
+        ensures { self.new ≡ self.old ++ choice ∷ [] }
     {
-        self.fleets[self.legs] = fleet;
+        self.choices[self.legs] = choice;
         self.legs += 1;
     }
 
-    /// The fleet of a leg.
-    pub fn fleet(&self, leg: u32) -> u32
+    /// The choice of a leg.
+    pub fn choice(&self, leg: u32) -> u32
         requires { leg < length self.now }
         ensures { result ≡ slice_index self.now leg }
     {
-        self.fleets[leg as usize]
+        self.choices[leg as usize]
     }
 
-    /// How many legs have a fleet.
+    /// How many legs have a choice.
     pub fn len(&self) -> u32
         ensures { result ≡ length self.now }
     {
         self.legs as u32
     }
 
-    /// Whether no leg has a fleet.
+    /// Whether no leg has a choice.
     pub fn is_empty(&self) -> bool
         ensures { IsTrue result ↔ (self.now ≡ []) }
     {
@@ -68,7 +68,7 @@ impl Assignment {
         ensures { result ≡ self.now }
     {
         Assignment {
-            fleets: self.fleets,
+            choices: self.choices,
             legs: self.legs,
         }
     }

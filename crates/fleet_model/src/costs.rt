@@ -1,10 +1,11 @@
 ghost use Rattle.std.specs.Prelude.{◌≡◌, IsTrue};
 ghost use Rattle.fleet_model.specs.Costs.{Rise, cost_in};
 
-use crate::parts::{Pair, PairCost};
+use crate::parts::PairCost;
 use std::marker::Model;
 
-/// What pairs cost: a list with one entry for each pair that may be flown. Contracts see the list.
+/// What it costs to fly legs with fleets: a list with one entry for each leg and each fleet that may fly it. Contracts see
+/// the list.
 ///
 /// It remembers whether its entries rise by leg and fleet, as they mostly do in a file, and then finds one by
 /// bisection.
@@ -27,15 +28,22 @@ impl Model for Costs {
     ghost invariant = { λ costs. IsTrue costs.rising → Rise costs.entries.items };
 }
 
+// A leg and a fleet, by which costs are found.
+#[derive(Clone, Copy, PartialEq, Eq, PartialOrd, Ord)]
+struct Key {
+    leg: u32,
+    fleet: u32,
+}
+
 impl PairCost {
-    /// The pair that the cost is for.
-    pub fn pair(&self) -> Pair
+    // The leg and the fleet that the cost is for.
+    fn key(&self) -> Key
         ensures leg { result.leg ≡ self.now.leg }
-        ensures fleet { result.choice ≡ self.now.fleet }
+        ensures fleet { result.fleet ≡ self.now.fleet }
     {
-        Pair {
+        Key {
             leg: self.leg,
-            choice: self.fleet,
+            fleet: self.fleet,
         }
     }
 }
@@ -56,42 +64,43 @@ impl Costs {
         self.entries.as_slice()
     }
 
-    /// The cost of a pair, in cost units: that of its first entry, and none where the pair may not be flown.
-    pub fn get(&self, pair: Pair) -> Option<i128>
-        ensures { result ≡ cost_in self.now pair }
+    /// What it costs to fly a leg with a fleet, in cost units: that of the first entry, and none where there is no entry.
+    pub fn get(&self, leg: u32, fleet: u32) -> Option<i128>
+        ensures { result ≡ cost_in self.now leg fleet }
     {
+        let key = Key { leg, fleet };
         if self.rising {
-            bisect(&self.entries, pair)
+            bisect(&self.entries, key)
         } else {
-            scan(&self.entries, pair)
+            scan(&self.entries, key)
         }
     }
 }
 
-// Whether each entry's pair comes before the next one's.
+// Whether each entry comes before the next one.
 fn rises(entries: &[PairCost]) -> bool
     ensures { IsTrue result → Rise entries.now }
 {
-    entries.is_sorted_by(|a, b| a.pair() < b.pair())
+    entries.is_sorted_by(|a, b| a.key() < b.key())
 }
 
-// The cost of a pair among entries that rise.
-fn bisect(entries: &[PairCost], pair: Pair) -> Option<i128>
+// The cost of a leg and a fleet among entries that rise.
+fn bisect(entries: &[PairCost], key: Key) -> Option<i128>
     requires { Rise entries.now }
-    ensures { result ≡ cost_in entries.now pair }
+    ensures { result ≡ cost_in entries.now key.leg key.fleet }
 {
-    match entries.binary_search_by_key(&pair, |entry| entry.pair()) {
+    match entries.binary_search_by_key(&key, |entry| entry.key()) {
         Ok(place) => Some(units_of(&entries[place])),
         Err(_) => None,
     }
 }
 
-// The cost of a pair among entries in any order.
-fn scan(entries: &[PairCost], pair: Pair) -> Option<i128>
-    ensures { result ≡ cost_in entries.now pair }
+// The cost of a leg and a fleet among entries in any order.
+fn scan(entries: &[PairCost], key: Key) -> Option<i128>
+    ensures { result ≡ cost_in entries.now key.leg key.fleet }
 {
     for entry in entries {
-        if entry.pair() == pair {
+        if entry.key() == key {
             return Some(units_of(entry));
         }
     }

@@ -1,11 +1,13 @@
-ghost use Rattle.std.specs.Prelude.{◌≡◌, ◌<◌, ℕ, ◌==◌, ◌&&◌, ◌||◌, false, slice_index_or};
+ghost use Rattle.std.specs.Prelude.{◌≡◌, ◌<◌, ℕ, ◌==◌, ◌&&◌, ◌||◌, false, slice_index_or, is_some};
 ghost use Rattle.fleet_model.specs.declared.limits.TheConstants.{MAX_CHOICES, MAX_LEGS};
 ghost use Rattle.fleet_model.specs.declared.parts.Pair.{Pair};
+ghost use Rattle.fleet_model.specs.Costs.{cost_in, is_of};
 ghost use Rattle.fleet_model.specs.Kept.{all_pairs, kept_by, leaves, narrowed, put_back};
-ghost use Rattle.fleet_model.specs.Schedule.{leg_on};
+ghost use Rattle.fleet_model.specs.Schedule.{fleet_by, fleets_in, left_out, leg_of, leg_on, legs_in};
 
 use crate::limits::{MAX_CHOICES, MAX_LEGS};
-use crate::parts::Pair;
+use crate::parts::{Pair, PairCost};
+use crate::saved::SavedRow;
 use crate::tables::Tables;
 use crate::undoing::Undo;
 use std::marker::Model;
@@ -38,15 +40,54 @@ impl Model for Kept {
 }
 
 impl Kept {
-    /// All pairs of the tables that may be flown. Takes no memory.
+    /// All pairs of the tables that may be taken: by which legs may be flown or left out. Takes no memory.
     pub fn all(tables: &Tables) -> Self
         ensures { kept_by result ≡ all_pairs tables.now }
     {
-        let mut kept = Kept::none();
-        for entry in tables.costs.as_slice() {
-            kept.keep(entry.pair());
+        let mut kept = Kept::flown(tables);
+        for leg in 0..tables.leg_count() {
+            kept.keep_left_out(tables, leg);
         }
         kept
+    }
+
+    // All pairs by which legs may be flown.
+    fn flown(tables: &Tables) -> Self
+        ensures { (p : Pair) → kept_by result p ≡ is_some (cost_in tables.now.costs p.leg (fleet_by tables.now p)) }
+    {
+        let mut kept = Kept::none();
+        for entry in tables.costs.as_slice() {
+            kept.keep_times(tables, entry);
+        }
+        kept
+    }
+
+    // Keeps the pair by which a leg is left out, where it may be.
+    fn keep_left_out(&mut self, tables: &Tables, leg: u32)
+        requires { leg < legs_in tables.now }
+        ensures { (p : Pair) → kept_by self.new p ≡ (kept_by self.old p || ((p.leg == leg) && ((p.choice == left_out tables.now leg) && is_some (leg_of tables.now leg).skip))) }
+    {
+        if tables.leg(leg).skip.is_some() {
+            self.keep(Pair {
+                leg,
+                choice: tables.left_out(leg),
+            });
+        }
+    }
+
+    // Keeps a leg's pairs with a fleet, at each of its times.
+    fn keep_times(&mut self, tables: &Tables, entry: &PairCost)
+        requires leg { entry.now.leg < legs_in tables.now }
+        requires fleet { entry.now.fleet < fleets_in tables.now }
+        ensures { (p : Pair) → kept_by self.new p ≡ (kept_by self.old p || is_of p.leg (fleet_by tables.now p) entry.now) }
+    {
+        let times = tables.shift_count(entry.leg);
+        for slot in 0..times {
+            self.keep(Pair {
+                leg: entry.leg,
+                choice: entry.fleet * times + slot,
+            });
+        }
     }
 
     /// Whether a pair is kept. Takes constant time and no memory.
@@ -69,7 +110,10 @@ impl Kept {
         let leg = step.leg;
         let row = self.rows[leg as usize];
         self.rows[leg as usize] = row_after(row, step);
-        Undo { leg, row }
+        Undo {
+            leg,
+            row: SavedRow::of(&row),
+        }
     }
 
     /// Takes a step back: the pairs of its leg are again as `narrow` found them. Takes no memory.
@@ -77,8 +121,7 @@ impl Kept {
     pub fn undo(&mut self, undo: Undo)
         ensures { self.new ≡ put_back self.old undo }
     {
-        let row = undo.row;
-        self.rows[undo.leg as usize] = row;
+        self.rows[undo.leg as usize] = undo.row.row();
     }
 
     // No pair.

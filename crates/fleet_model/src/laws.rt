@@ -1,8 +1,8 @@
 //! The laws of need and use, over all tables and weights, of kept pairs and of mixed plans. Each function is a law:
 //! its contract is the statement, and it does nothing.
 ghost use Rattle.std.specs.Prelude.{◌≡◌, ◌<◌, ℕ, List, pos};
-ghost use Rattle.fleet_model.specs.declared.limits.TheConstants.{MAX_AIRCRAFT, MAX_CHOICES, MAX_COST, MAX_DEPARTURES, MAX_FLEETS, MAX_GROUND_MINUTES, MAX_LEGS, MAX_PARKING, MAX_PERIOD, MAX_STATIONS, MAX_THROUGHS, MINUTES_PER_DAY};
-ghost use Rattle.fleet_model.specs.declared.refusals.TheConstants.{BAD_FIELD, DUPLICATE, NOT_TEXT, TOO_LONG, TOO_MANY, TO_ITSELF, UNKNOWN_FLEET, UNKNOWN_FLIGHT, UNKNOWN_STATION, WRONG_HEADER, WRONG_WIDTH, ZERO_BLOCK};
+ghost use Rattle.fleet_model.specs.declared.limits.TheConstants.{MAX_AIRCRAFT, MAX_CHOICES, MAX_COST, MAX_DEPARTURES, MAX_FLEETS, MAX_GROUND_MINUTES, MAX_LEGS, MAX_PARKING, MAX_PERIOD, MAX_SHIFT, MAX_SHIFTS, MAX_STATIONS, MAX_THROUGHS, MAX_TRIPLES, MINUTES_PER_DAY};
+ghost use Rattle.fleet_model.specs.declared.refusals.TheConstants.{BAD_FIELD, DUPLICATE, NOT_TEXT, TOO_LONG, TOO_MANY, TOO_MANY_CHOICES, TOO_MANY_OF_FLIGHT, TO_ITSELF, UNKNOWN_FLEET, UNKNOWN_FLIGHT, UNKNOWN_STATION, WRONG_HEADER, WRONG_WIDTH, ZERO_BLOCK};
 ghost use Rattle.fleet_model.specs.declared.tables.Tables.{Tables};
 ghost use Rattle.fleet_model.specs.Legal.{IsAssignment};
 ghost use Rattle.fleet_model.specs.Schedule.{fleets_in};
@@ -69,7 +69,7 @@ pub fn sole_is_one()
     ensures { SoleIsOne }
 {}
 
-/// Where all pairs are kept, no more is left to step than there are pairs of 1,000 legs and 20 fleets.
+/// Where all pairs are kept, no more is left to step than legs may have pairs by which they are flown.
 pub fn steps_are_few()
     ensures { StepsAreFew }
 {}
@@ -94,8 +94,11 @@ pub fn limits_in_numbers()
     ensures stations { MAX_STATIONS ≡ 200 }
     ensures fleets { MAX_FLEETS ≡ 20 }
     ensures legs { MAX_LEGS ≡ 1000 }
-    ensures choices { MAX_CHOICES ≡ 20 }
-    ensures departures { MAX_DEPARTURES ≡ 1000 }
+    ensures shifts { MAX_SHIFTS ≡ 9 }
+    ensures shift { MAX_SHIFT ≡ pos 720 }
+    ensures choices { MAX_CHOICES ≡ 181 }
+    ensures departures { MAX_DEPARTURES ≡ 9000 }
+    ensures triples { MAX_TRIPLES ≡ 20000 }
     ensures throughs { MAX_THROUGHS ≡ 2000 }
     ensures aircraft { MAX_AIRCRAFT ≡ 500 }
     ensures ground_minutes { MAX_GROUND_MINUTES ≡ 600 }
@@ -119,4 +122,6 @@ pub fn kinds_in_numbers()
     ensures to_itself { TO_ITSELF ≡ 10 }
     ensures too_many { TOO_MANY ≡ 11 }
     ensures too_long { TOO_LONG ≡ 12 }
+    ensures too_many_of_flight { TOO_MANY_OF_FLIGHT ≡ 13 }
+    ensures too_many_choices { TOO_MANY_CHOICES ≡ 14 }
 {}

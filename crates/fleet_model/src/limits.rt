@@ -13,11 +13,20 @@ pub const MAX_FLEETS: usize = 20;
 /// The most legs that tables have.
 pub const MAX_LEGS: usize = 1000;
 
-/// The most choices of a leg.
-pub const MAX_CHOICES: usize = MAX_FLEETS;
+/// The most times at which a leg may depart, its own with them.
+pub const MAX_SHIFTS: usize = 9;
+
+/// The most minutes by which a leg may depart later or earlier than at its own time.
+pub const MAX_SHIFT: i16 = 720;
+
+/// The most choices of a leg: each fleet at each time, and to be left out.
+pub const MAX_CHOICES: usize = MAX_FLEETS * MAX_SHIFTS + 1;
 
 /// The most departures that legs have.
-pub const MAX_DEPARTURES: usize = MAX_LEGS;
+pub const MAX_DEPARTURES: usize = MAX_LEGS * MAX_SHIFTS;
+
+/// The most pairs by which legs may be flown: of each leg the fleets that it has a cost with, each at each of its times.
+pub const MAX_TRIPLES: usize = 20_000;
 
 /// The most through pairs that tables have.
 pub const MAX_THROUGHS: usize = 2000;
@@ -31,5 +40,5 @@ pub const MAX_GROUND_MINUTES: u16 = 600;
 /// The greatest limit of parking at a station.
 pub const MAX_PARKING: u32 = 10_000;
 
-/// The greatest size of a cost, and the greatest value of a through pair, in cost units.
+/// The greatest size of a cost that tables name, and the greatest value of a through pair, in cost units.
 pub const MAX_COST: i128 = 1_000_000_000_000;

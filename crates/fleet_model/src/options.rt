@@ -6,4 +6,8 @@ use crate::parts::Settings;
 pub struct TableOptions {
     /// The settings that the tables then hold.
     pub settings: Settings,
+    /// Whether the table of windows is read.
+    pub windows: bool,
+    /// Whether the table of optional legs is read.
+    pub optional: bool,
 }

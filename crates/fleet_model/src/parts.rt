@@ -1,3 +1,4 @@
+use crate::shifts::Shifts;
 use entries::Entries;
 
 /// A station.
@@ -31,16 +32,28 @@ pub struct Leg {
     pub flight: Entries<u8>,
     /// The station of departure, by its number.
     pub from: u32,
-    /// The minute of departure, counted from the start of the period.
+    /// The minute of departure at the leg's own time, counted from the start of the period.
     pub dep: u16,
     /// The station of arrival, by its number.
     pub to: u32,
     /// Minutes from departure to arrival.
     pub block: u16,
+    /// The times at which it may depart, its own among them.
+    pub shifts: Shifts,
+    /// What it costs to leave it out, in cost units, and none where it must be flown.
+    pub skip: Option<i128>,
 }
 
-/// A leg flown by a fleet, both by number: what an assignment chooses, a cost is for and a subproblem keeps.
-/// Pairs are ordered by leg, then fleet.
+/// A leg at one of its times.
+#[derive(Clone, Copy, Debug, PartialEq, Eq)]
+pub struct Departure {
+    pub leg: u32,
+    /// The place of the time among those of the leg.
+    pub slot: u32,
+}
+
+/// A leg with one of its choices, both by number: what an assignment chooses and a subproblem keeps. The choices of a leg are
+/// its fleets, each at each of its times, and last to be left out. Pairs are ordered by leg, then choice.
 #[derive(Clone, Copy, Debug, PartialEq, Eq, PartialOrd, Ord, Hash)]
 pub struct Pair {
     pub leg: u32,

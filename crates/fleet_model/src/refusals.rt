@@ -14,6 +14,8 @@ pub enum TableFile {
     Legs,
     Costs,
     Throughs,
+    Windows,
+    Optional,
     Tails,
 }
 
@@ -95,3 +97,9 @@ pub const TOO_MANY: u8 = 11;
 
 /// The file is longer than the limit.
 pub const TOO_LONG: u8 = 12;
+
+/// There is one record of a flight more than a flight may have.
+pub const TOO_MANY_OF_FLIGHT: u8 = 13;
+
+/// With this record there are more pairs by which legs may be flown than the limit.
+pub const TOO_MANY_CHOICES: u8 = 14;

@@ -1,5 +1,7 @@
 -- Records that read as costs keep what costs keep.
-use Rattle.std.proofs.Common.{◌≡◌, ◌&&◌, ℕ, false, not, neg_ℤ, List, [], ◌∷◌, length, map, slice_index_or, Ok, refl, subst}
+use Rattle.std.proofs.Common.{◌≡◌, ◌&&◌, ℕ, ℤ, false, not, neg_ℤ, List, [], ◌∷◌, length, map, slice_index_or, All, Ok, refl, subst, arith}
+use Rattle.std.specs.Prelude.{◌≤ℤ◌}
+use Rattle.std.proofs.lemmas.Int.{ints}
 use Rattle.std.proofs.lemmas.List.{length-map}
 use Rattle.std.specs.Str.{is_utf8}
 use Rattle.csv_fields.specs.Name.{name_of}
@@ -9,7 +11,7 @@ use Rattle.fleet_model.specs.declared.parts.Fleet.{Fleet}
 use Rattle.fleet_model.specs.declared.parts.Leg.{Leg}
 use Rattle.fleet_model.specs.declared.parts.PairCost.{PairCost}
 use Rattle.fleet_model.specs.declared.refusals.TheConstants.{DUPLICATE, NOT_TEXT, UNKNOWN_FLEET, UNKNOWN_FLIGHT}
-use Rattle.fleet_model.specs.Limits.{AreCosts, IsPairCost, SamePair}
+use Rattle.fleet_model.specs.Limits.{AreCosts, IsCostUpTo, IsPairCost, SamePair}
 use Rattle.table_rows.specs.Fields.{three_of}
 use Rattle.table_rows.specs.Names.{is_among, number_of}
 use Rattle.table_rows.specs.Rows.{Fields}
@@ -21,7 +23,15 @@ use Rattle.fleet_tables.specs.Fleets.{fleet_name_of}
 -- what a record that reads as a cost below others shows
 record IsNewCost (flights fleets earlier : List (List ℕ)) (entry : PairCost) : Type 0 where
   fits : IsPairCost (length flights) (length fleets) entry
+  named : IsCostUpTo 1 entry.cost
   fresh : is_among (pair_of entry) earlier ≡ false
+
+-- a cost that a table names
+within_twice : (cost : ℤ) → neg_ℤ MAX_COST ≤ℤ cost → cost ≤ℤ MAX_COST → IsCostUpTo 2 cost
+within_twice cost least most = record { no_less = omega (arith, ints, least); no_more = omega (arith, ints, most) }
+
+within_once : (cost : ℤ) → neg_ℤ MAX_COST ≤ℤ cost → cost ≤ℤ MAX_COST → IsCostUpTo 1 cost
+within_once cost least most = record { no_less = omega (arith, ints, least); no_more = omega (arith, ints, most) }
 
 new_cost : (flights fleets earlier : List (List ℕ)) (fields : Fields) (entry : PairCost) → cost_read flights fleets earlier fields ≡ Ok entry → IsNewCost flights fleets earlier entry
 unfolding cost_read
@@ -41,8 +51,9 @@ new_cost flights fleets earlier fields entry reads =
       fits = subst (IsPairCost (length flights) (length fleets)) same (record {
         leg = number_within wide.0.0 flights leg_known.0 leg_known.1;
         fleet = number_within wide.0.1 fleets fleet_known.0 fleet_known.1;
-        cost = record { no_less = in_range.0; no_more = in_range.1 };
+        cost = within_twice units.0 in_range.0 in_range.1;
       });
+      named = subst (λ (e : PairCost). IsCostUpTo 1 e.cost) same (within_once units.0 in_range.0 in_range.1);
       fresh = subst (λ (e : PairCost). is_among (pair_of e) earlier ≡ false) same fresh.0;
     }
 
@@ -63,3 +74,8 @@ pub costs_keep : (legs : List Leg) (fleets : List Fleet) (records : List Fields)
 costs_keep legs fleets records costs reads =
     subst (λ n. AreCosts (length legs) n costs) (length-map fleets fleet_name_of)
     (subst (λ n. AreCosts n (length (map fleet_name_of fleets)) costs) (length-map legs flight_of) (by_names (map flight_of legs) (map fleet_name_of fleets) records costs reads))
+
+-- costs that were read are such as a table names
+pub costs_named : (flights fleets : List (List ℕ)) (records : List Fields) (costs : List PairCost) → CostsRead flights fleets records costs → All (λ entry. IsCostUpTo 1 entry.cost) costs
+costs_named flights fleets records costs reads =
+    front_each pair_of (cost_read flights fleets) (λ entry. IsCostUpTo 1 entry.cost) (λ e f s r. (new_cost flights fleets e f s r).named) reads.rest costs reads.rows.reads

@@ -9,7 +9,7 @@ use Rattle.sums.proofs.Naturals.{plus_0}
 use Rattle.sums.proofs.NumberTests.{some_tested}
 use Rattle.fleet_model.specs.declared.parts.Connection.{Connection}
 use Rattle.fleet_model.specs.declared.tables.Tables.{Tables}
-use Rattle.fleet_model.specs.Counts.{fleet_at}
+use Rattle.fleet_model.specs.Counts.{choice_at}
 use Rattle.fleet_model.specs.Schedule.{leg_of, leg_on, legs_in, no_leg, period_of, stations_in}
 use Rattle.fleet_model.specs.Times.{departure, ready_minute}
 use Rattle.fleet_model.proofs.PeriodMinutes.{in_period}
@@ -51,15 +51,15 @@ module _ (t : Tables) (a : List ℕ) (f : ℕ) (given turns other : List Connect
       (found.0, found.1, parts.0, parts.1)
 
   -- each leg of the fleet arrives in a turn of the first map, and departs in one
-  arrives_in : (l : ℕ) → l < legs_in t → fleet_at a l ≡ f → (q : ℕ) × (q < length turns) × ((turn_at turns q).arriving ≡ l)
+  arrives_in : (l : ℕ) → l < legs_in t → choice_at a l ≡ f → (q : ℕ) × (q < length turns) × ((turn_at turns q).arriving ≡ l)
   arrives_in l below flies =
-      let one : bit (fleet_at a l == f) ≡ 1 = ap bit (eq-eqb _ _ flies) in
+      let one : bit (choice_at a l == f) ≡ 1 = ap bit (eq-eqb _ _ flies) in
       let found = some_counted (λ q. (turn_at turns q).arriving == l) (length turns) (omega (arith, fitting.map.arrives l below, one)) in
       (found.0, found.1, eqb-true _ _ found.2)
 
-  departs_in : (l : ℕ) → l < legs_in t → fleet_at a l ≡ f → (q : ℕ) × (q < length turns) × ((turn_at turns q).departing ≡ l)
+  departs_in : (l : ℕ) → l < legs_in t → choice_at a l ≡ f → (q : ℕ) × (q < length turns) × ((turn_at turns q).departing ≡ l)
   departs_in l below flies =
-      let one : bit (fleet_at a l == f) ≡ 1 = ap bit (eq-eqb _ _ flies) in
+      let one : bit (choice_at a l == f) ≡ 1 = ap bit (eq-eqb _ _ flies) in
       let found = some_counted (λ q. (turn_at turns q).departing == l) (length turns) (omega (arith, fitting.map.departs l below, one)) in
       (found.0, found.1, eqb-true _ _ found.2)
 

@@ -8,7 +8,7 @@ use Rattle.sums.proofs.Maxima.{max_below-upper}
 use Rattle.sums.proofs.Sums.{sum_below-agree, sum_below-add, sum_below-le, sum_below-one, sum_below-zero}
 use Rattle.fleet_model.specs.declared.parts.Connection.{Connection}
 use Rattle.fleet_model.specs.declared.tables.Tables.{Tables}
-use Rattle.fleet_model.specs.Counts.{fleet_at, weights_of}
+use Rattle.fleet_model.specs.Counts.{choice_at, weights_of}
 use Rattle.fleet_model.specs.Schedule.{leg_of, leg_on, legs_in, period_of, stations_in}
 use Rattle.fleet_model.specs.Times.{departure, ready_minute}
 use Rattle.ground_turns.specs.FirstOut.{AreFirstOut, departs_before, departure_place, free_departed, free_excess, free_landed, free_landings, free_need, is_before, is_free_departure, is_free_landing, landing_place, lands_before}
@@ -157,7 +157,7 @@ module _ (t : Tables) (a : List ℕ) (f : ℕ) (given turns : List Connection) (
       (record { each = λ k lt. low_turn first s k lt }) in
       let over = over_departures t a f turns map h in
       let same = sum_below-agree (λ l. weights_of a (leg_on l f) * h l) (λ l. bit (is_free_departure t a f given s l && low l)) (legs_in t)
-      (record { each = λ l below. landed_part (fleet_at a l == f) ((leg_of t l).from == s) (low l) (departures_of given l == 0) }) in
+      (record { each = λ l below. landed_part (choice_at a l == f) ((leg_of t l).from == s) (low l) (departures_of given l == 0) }) in
       omega (arith, less, over, same, few_low s)
 
 pub first_out_fits : FirstOutFits

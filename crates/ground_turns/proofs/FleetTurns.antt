@@ -11,7 +11,7 @@ use Rattle.sums.proofs.Counts.{count_below-no_two}
 use Rattle.sums.proofs.SumBounds.{term_le}
 use Rattle.fleet_model.specs.declared.parts.Connection.{Connection}
 use Rattle.fleet_model.specs.declared.tables.Tables.{Tables}
-use Rattle.fleet_model.specs.Counts.{fleet_at, weights_of}
+use Rattle.fleet_model.specs.Counts.{choice_at, weights_of}
 use Rattle.fleet_model.specs.Schedule.{leg_on, legs_in}
 use Rattle.fleet_model.specs.Plain.{IsPlain}
 use Rattle.ground_turns.specs.Laws.{NextIsMap}
@@ -48,10 +48,10 @@ without_more : (xs : List Connection) → xs ++ [] ≡ xs
 without_more xs = append-nil xs
 
 module _ (a : List ℕ) (f : ℕ) (next : ℕ → ℕ) where
-  pub each_turn : (P : Connection → Type 0) (n : ℕ) → ((l : ℕ) → l < n → fleet_at a l ≡ f → P (turn_by next l))
+  pub each_turn : (P : Connection → Type 0) (n : ℕ) → ((l : ℕ) → l < n → choice_at a l ≡ f → P (turn_by next l))
       → (k : ℕ) → k < length (turns_by a f next n) → P (turn_at (turns_by a f next n) k)
   each_turn P zero h k lt = absurd (omega arith)
-  each_turn P (suc n) h k lt = by_last (fleet_at a n == f) (λ e. h n (omega arith) (eqb-true _ _ e)) (each_turn P n (λ l less. h l (omega arith))) k lt
+  each_turn P (suc n) h k lt = by_last (choice_at a n == f) (λ e. h n (omega arith) (eqb-true _ _ e)) (each_turn P n (λ l less. h l (omega arith))) k lt
     where
       by_last : (b : Bool) → (b ≡ true → P (turn_by next n)) → ((k : ℕ) → k < length (turns_by a f next n) → P (turn_at (turns_by a f next n) k))
           → (k : ℕ) → k < length (turns_by a f next n ++ (if b then turn_by next n ∷ [] else [])) → P (turn_at (turns_by a f next n ++ (if b then turn_by next n ∷ [] else [])) k)
@@ -60,13 +60,13 @@ module _ (a : List ℕ) (f : ℕ) (next : ℕ → ℕ) where
 
   -- a sum over the turns is one over the legs
   pub over_turns : (g : Connection → ℕ) (n : ℕ)
-      → sum_below (λ k. g (turn_at (turns_by a f next n) k)) (length (turns_by a f next n)) ≡ sum_below (λ l. bit (fleet_at a l == f) * g (turn_by next l)) n
+      → sum_below (λ k. g (turn_at (turns_by a f next n) k)) (length (turns_by a f next n)) ≡ sum_below (λ l. bit (choice_at a l == f) * g (turn_by next l)) n
   over_turns g zero = refl
-  over_turns g (suc n) = by_last (fleet_at a n == f) (over_turns g n)
+  over_turns g (suc n) = by_last (choice_at a n == f) (over_turns g n)
     where
-      by_last : (b : Bool) → sum_below (λ k. g (turn_at (turns_by a f next n) k)) (length (turns_by a f next n)) ≡ sum_below (λ l. bit (fleet_at a l == f) * g (turn_by next l)) n
+      by_last : (b : Bool) → sum_below (λ k. g (turn_at (turns_by a f next n) k)) (length (turns_by a f next n)) ≡ sum_below (λ l. bit (choice_at a l == f) * g (turn_by next l)) n
           → sum_below (λ k. g (turn_at (turns_by a f next n ++ (if b then turn_by next n ∷ [] else [])) k)) (length (turns_by a f next n ++ (if b then turn_by next n ∷ [] else [])))
-          ≡ sum_below (λ l. bit (fleet_at a l == f) * g (turn_by next l)) n + bit b * g (turn_by next n)
+          ≡ sum_below (λ l. bit (choice_at a l == f) * g (turn_by next l)) n + bit b * g (turn_by next n)
       by_last true rest = omega (arith, with_one g (turns_by a f next n) (turn_by next n), rest)
       by_last false rest = omega (arith, ap (λ xs. sum_below (λ k. g (turn_at xs k)) (length xs)) (without_more (turns_by a f next n)), rest)
 
@@ -97,7 +97,7 @@ both false c = omega arith
 
 module _ (t : Tables) (a : List ℕ) (f : ℕ) (next : ℕ → ℕ) (plain : IsPlain t) (leads : IsNext t a f next) where
   abbrev in_fleet : ℕ → Bool
-  in_fleet l = fleet_at a l == f
+  in_fleet l = choice_at a l == f
 
   turns : List Connection
   turns = turns_by a f next (legs_in t)

@@ -11,7 +11,7 @@ use Rattle.sums.proofs.Tests.{not_true, same_tests}
 use Rattle.sums.proofs.NumberTests.{some_tested}
 use Rattle.fleet_model.specs.declared.parts.Connection.{Connection}
 use Rattle.fleet_model.specs.declared.tables.Tables.{Tables}
-use Rattle.fleet_model.specs.Counts.{fleet_at, weights_of}
+use Rattle.fleet_model.specs.Counts.{choice_at, weights_of}
 use Rattle.fleet_model.specs.Schedule.{leg_of, leg_on, legs_in, period_of}
 use Rattle.fleet_model.specs.Times.{departure, ready_minute}
 use Rattle.ground_turns.specs.FirstOut.{free_departed, free_excess, free_landed, free_landings, free_need}
@@ -70,13 +70,13 @@ module _ (t : Tables) (a : List ℕ) (f : ℕ) (given turns : List Connection) (
   one_arriving : (j k : ℕ) → j < length turns → k < length turns → (turn_at turns j).arriving ≡ (turn_at turns k).arriving → j ≡ k
   one_arriving j k first second e =
       once (λ q. (turn_at turns q).arriving == (turn_at turns k).arriving) (length turns) j k
-      (omega (arith, map.arrives (turn_at turns k).arriving (map.each k second).arriving, bit_few (fleet_at a (turn_at turns k).arriving == f)))
+      (omega (arith, map.arrives (turn_at turns k).arriving (map.each k second).arriving, bit_few (choice_at a (turn_at turns k).arriving == f)))
       first second (eq-eqb _ _ e) (eq-eqb _ _ refl)
 
   one_departing : (j k : ℕ) → j < length turns → k < length turns → (turn_at turns j).departing ≡ (turn_at turns k).departing → j ≡ k
   one_departing j k first second e =
       once (λ q. (turn_at turns q).departing == (turn_at turns k).departing) (length turns) j k
-      (omega (arith, map.departs (turn_at turns k).departing (map.each k second).departing, bit_few (fleet_at a (turn_at turns k).departing == f)))
+      (omega (arith, map.departs (turn_at turns k).departing (map.each k second).departing, bit_few (choice_at a (turn_at turns k).departing == f)))
       first second (eq-eqb _ _ e) (eq-eqb _ _ refl)
 
   -- the turn of a leg that a given pair has is that pair
@@ -122,13 +122,13 @@ module _ (t : Tables) (a : List ℕ) (f : ℕ) (given turns : List Connection) (
   unfolding there is_free free_landings
   all_there s =
       over_arrivals t a f turns map (λ l. bit (((leg_of t l).to == s) && (arrivals_of given l == 0)))
-      ∙ sum_below-agree _ _ (legs_in t) (record { each = λ l below. bit_times_both (fleet_at a l == f) ((leg_of t l).to == s) (arrivals_of given l == 0) })
+      ∙ sum_below-agree _ _ (legs_in t) (record { each = λ l below. bit_times_both (choice_at a l == f) ((leg_of t l).to == s) (arrivals_of given l == 0) })
 
   all_landed : (s m : ℕ) → count_below (λ k. there s k && nat_le (ready_at t f (turn_at turns k)) m) (length turns) ≡ free_landed t a f given s m
   unfolding there is_free free_landed
   all_landed s m =
       over_arrivals t a f turns map (λ l. bit ((((leg_of t l).to == s) && (arrivals_of given l == 0)) && nat_le (ready_minute t (leg_on l f)) m))
-      ∙ sum_below-agree _ _ (legs_in t) (record { each = λ l below. landed_part (fleet_at a l == f) ((leg_of t l).to == s) (nat_le (ready_minute t (leg_on l f)) m) (arrivals_of given l == 0) })
+      ∙ sum_below-agree _ _ (legs_in t) (record { each = λ l below. landed_part (choice_at a l == f) ((leg_of t l).to == s) (nat_le (ready_minute t (leg_on l f)) m) (arrivals_of given l == 0) })
 
   -- it is there as one that departs
   pub there_is : (s k : ℕ) → k < length turns → there s k ≡ (((leg_of t (turn_at turns k).departing).from == s) && (departures_of given (turn_at turns k).departing == 0))
@@ -142,7 +142,7 @@ module _ (t : Tables) (a : List ℕ) (f : ℕ) (given turns : List Connection) (
   all_departed s m =
       sum_below-agree _ _ (length turns) (record { each = λ k lt. ap (λ free. bit (free && nat_le (departs_at t f (turn_at turns k)) m)) (there_is s k lt) })
       ∙ over_departures t a f turns map (λ l. bit ((((leg_of t l).from == s) && (departures_of given l == 0)) && nat_le (departure t (leg_on l f)) m))
-      ∙ sum_below-agree _ _ (legs_in t) (record { each = λ l below. landed_part (fleet_at a l == f) ((leg_of t l).from == s) (nat_le (departure t (leg_on l f)) m) (departures_of given l == 0) })
+      ∙ sum_below-agree _ _ (legs_in t) (record { each = λ l below. landed_part (choice_at a l == f) ((leg_of t l).from == s) (nat_le (departure t (leg_on l f)) m) (departures_of given l == 0) })
 
   -- how many free turns wait at a station at a moment
   unfoldable pub free_waiting : ℕ → ℕ → ℕ

@@ -9,7 +9,7 @@ use Rattle.sums.proofs.Sums.{sum_below-agree, sum_below-le, sum_below-zero}
 use Rattle.sums.proofs.Naturals.{none_below_0, some_above}
 use Rattle.fleet_model.specs.declared.parts.Connection.{Connection}
 use Rattle.fleet_model.specs.declared.tables.Tables.{Tables}
-use Rattle.fleet_model.specs.Counts.{arrived, departed, fleet_at, weights_of}
+use Rattle.fleet_model.specs.Counts.{arrived, departed, choice_at, weights_of}
 use Rattle.fleet_model.specs.Schedule.{fleets_in, last_of, leg_of, leg_on, legs_in, no_leg, period_of, stations_in}
 use Rattle.fleet_model.specs.Times.{departure, ready_minute}
 use Rattle.fleet_model.specs.Use.{IsBalanced, excess, need_of}
@@ -55,13 +55,13 @@ module _ (t : Tables) (a : List ℕ) (f : ℕ) (s : ℕ) (plain : IsPlain t) whe
   landed_all : (m : ℕ) → free_landed t a f [] s m ≡ arrived t (weights_of a) f s m
   unfolding free_landed
   landed_all m =
-      sum_below-agree _ _ (legs_in t) (record { each = λ l below. free_part (fleet_at a l == f) ((leg_of t l).to == s) (nat_le (ready_minute t (leg_on l f)) m) })
+      sum_below-agree _ _ (legs_in t) (record { each = λ l below. free_part (choice_at a l == f) ((leg_of t l).to == s) (nat_le (ready_minute t (leg_on l f)) m) })
       ∙ sym (plain_arrived t (weights_of a) f s m plain)
 
   departed_all : (m : ℕ) → free_departed t a f [] s m ≡ departed t (weights_of a) f s m
   unfolding free_departed
   departed_all m =
-      sum_below-agree _ _ (legs_in t) (record { each = λ l below. free_part (fleet_at a l == f) ((leg_of t l).from == s) (nat_le (departure t (leg_on l f)) m) })
+      sum_below-agree _ _ (legs_in t) (record { each = λ l below. free_part (choice_at a l == f) ((leg_of t l).from == s) (nat_le (departure t (leg_on l f)) m) })
       ∙ sym (plain_departed t (weights_of a) f s m plain)
 
   need_all : free_need t a f [] s ≡ need_of t (weights_of a) f s
@@ -73,7 +73,7 @@ module _ (t : Tables) (a : List ℕ) (f : ℕ) (s : ℕ) (plain : IsPlain t) whe
   landings_all =
       sum_below-agree _ _ (legs_in t) (record {
         each = λ l below.
-            all_part (fleet_at a l == f) ((leg_of t l).to == s) (nat_le (ready_minute t (leg_on l f)) (last_of t))
+            all_part (choice_at a l == f) ((leg_of t l).to == s) (nat_le (ready_minute t (leg_on l f)) (last_of t))
             (by_last t (ready_minute t (leg_on l f)) (in_period t _));
       })
       ∙ sym (plain_arrived t (weights_of a) f s (last_of t) plain)
@@ -82,7 +82,7 @@ module _ (t : Tables) (a : List ℕ) (f : ℕ) (s : ℕ) (plain : IsPlain t) whe
   departures_all =
       sum_below-agree _ _ (legs_in t) (record {
         each = λ l below.
-            all_part (fleet_at a l == f) ((leg_of t l).from == s) (nat_le (departure t (leg_on l f)) (last_of t))
+            all_part (choice_at a l == f) ((leg_of t l).from == s) (nat_le (departure t (leg_on l f)) (last_of t))
             (by_last t (departure t (leg_on l f)) (plain_departs t l f plain below));
       })
       ∙ sym (plain_departed t (weights_of a) f s (last_of t) plain)
@@ -99,7 +99,7 @@ module _ (t : Tables) (a : List ℕ) (f : ℕ) (s : ℕ) (plain : IsPlain t) whe
 
 module _ (t : Tables) (a : List ℕ) (f : ℕ) (plain : IsPlain t) (balanced : IsBalanced t (weights_of a)) (known : f < fleets_in t) where
   abbrev in_fleet : ℕ → Bool
-  in_fleet l = fleet_at a l == f
+  in_fleet l = choice_at a l == f
 
   -- the place of the departure that follows a leg
   next_place : ℕ → ℕ → ℕ

@@ -3,7 +3,7 @@ use Rattle.std.specs.Prelude.{◌≡◌, ℕ, ◌+◌, ◌-◌, ◌%◌, ◌<◌
 use Rattle.sums.specs.Below.{count_below, max_below}
 use Rattle.fleet_model.specs.declared.parts.Connection.{Connection}
 use Rattle.fleet_model.specs.declared.tables.Tables.{Tables}
-use Rattle.fleet_model.specs.Counts.{fleet_at}
+use Rattle.fleet_model.specs.Counts.{choice_at}
 use Rattle.fleet_model.specs.Schedule.{leg_of, leg_on, legs_in, period_of}
 use Rattle.fleet_model.specs.Times.{departure, ready_minute}
 use Rattle.ground_turns.specs.Maps.{arrivals_of, departures_of, turn_at}
@@ -11,11 +11,11 @@ use Rattle.ground_turns.specs.Turns.{station_at}
 
 -- a leg of the fleet lands at the station, and no given pair says what follows
 abbrev pub is_free_landing : Tables → List ℕ → ℕ → List Connection → ℕ → ℕ → Bool
-is_free_landing t a f given s l = (fleet_at a l == f) && ((leg_of t l).to == s) && (arrivals_of given l == 0)
+is_free_landing t a f given s l = (choice_at a l == f) && ((leg_of t l).to == s) && (arrivals_of given l == 0)
 
 -- a leg of the fleet departs from the station, and no given pair says what comes before
 abbrev pub is_free_departure : Tables → List ℕ → ℕ → List Connection → ℕ → ℕ → Bool
-is_free_departure t a f given s l = (fleet_at a l == f) && ((leg_of t l).from == s) && (departures_of given l == 0)
+is_free_departure t a f given s l = (choice_at a l == f) && ((leg_of t l).from == s) && (departures_of given l == 0)
 
 -- an earlier minute, or the same minute and a lower leg
 abbrev pub is_before : ℕ → ℕ → ℕ → ℕ → Bool

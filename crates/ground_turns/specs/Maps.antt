@@ -4,7 +4,7 @@ use Rattle.sums.specs.Below.{count_below}
 use Rattle.sums.specs.Places.{list_below}
 use Rattle.fleet_model.specs.declared.parts.Connection.{Connection}
 use Rattle.fleet_model.specs.declared.tables.Tables.{Tables}
-use Rattle.fleet_model.specs.Counts.{fleet_at, weights_of}
+use Rattle.fleet_model.specs.Counts.{choice_at, weights_of}
 use Rattle.fleet_model.specs.Schedule.{leg_on, legs_in}
 use Rattle.fleet_model.specs.Use.{laps_flown, used_of}
 use Rattle.fleet_model.specs.Plain.{IsPlain}
@@ -38,12 +38,12 @@ turn_by next l = record { arriving = l; departing = next l }
 
 abbrev pub turns_by : List ℕ → ℕ → (ℕ → ℕ) → ℕ → List Connection
 turns_by a f next zero = []
-turns_by a f next (suc n) = turns_by a f next n ++ (if fleet_at a n == f then turn_by next n ∷ [] else [])
+turns_by a f next (suc n) = turns_by a f next n ++ (if choice_at a n == f then turn_by next n ∷ [] else [])
 
 -- the next of each of the fleet's legs makes a turn with it, and no two have the same
 pub record IsNext (t : Tables) (a : List ℕ) (f : ℕ) (next : ℕ → ℕ) : Type 0 where
-  pub turn : (l : ℕ) → l < legs_in t → fleet_at a l ≡ f → IsTurn t a f (turn_by next l)
-  pub once : (l k : ℕ) → l < legs_in t → k < legs_in t → fleet_at a l ≡ f → fleet_at a k ≡ f → next l ≡ next k → l ≡ k
+  pub turn : (l : ℕ) → l < legs_in t → choice_at a l ≡ f → IsTurn t a f (turn_by next l)
+  pub once : (l k : ℕ) → l < legs_in t → k < legs_in t → choice_at a l ≡ f → choice_at a k ≡ f → next l ≡ next k → l ≡ k
 
 -- all turns are clean
 pub record AreClean (t : Tables) (a : List ℕ) (f : ℕ) (turns : List Connection) : Type 0 where

@@ -4,7 +4,7 @@ use Rattle.std.specs.Prelude.{◌≡◌, ◌≢◌, ℕ, ◌+◌, ◌-◌, ◌/�
 use Rattle.fleet_model.specs.declared.limits.TheConstants.{MINUTES_PER_DAY}
 use Rattle.fleet_model.specs.declared.parts.Connection.{Connection}
 use Rattle.fleet_model.specs.declared.tables.Tables.{Tables}
-use Rattle.fleet_model.specs.Counts.{fleet_at, weights_of}
+use Rattle.fleet_model.specs.Counts.{choice_at, weights_of}
 use Rattle.fleet_model.specs.Schedule.{leg_of, leg_on, legs_in, period_of}
 use Rattle.fleet_model.specs.Times.{departure, ready_minute}
 use Rattle.fleet_model.specs.Use.{stand_of}
@@ -52,8 +52,8 @@ nights_waited t f turn = (ready_at t f turn + wait_of t f turn) / MINUTES_PER_DA
 pub record IsTurn (t : Tables) (a : List ℕ) (f : ℕ) (pair : Connection) : Type 0 where
   pub arriving : pair.arriving < legs_in t
   pub departing : pair.departing < legs_in t
-  pub comes_on : fleet_at a pair.arriving ≡ f
-  pub leaves_on : fleet_at a pair.departing ≡ f
+  pub comes_on : choice_at a pair.arriving ≡ f
+  pub leaves_on : choice_at a pair.departing ≡ f
   pub meets : (leg_of t pair.arriving).to ≡ (leg_of t pair.departing).from
 
 -- no moment at which none of the fleet's aircraft stands at the station lies in the wait

@@ -3,7 +3,7 @@
 use Rattle.std.specs.Prelude.{ℕ, ◌<◌, ◌≤◌, List, length, Option, None, IsSome, MatchOption, ℤ, pos, ◌-ℤ◌, ◌≡◌}
 use Rattle.sums.specs.Below.{sum_below}
 use Rattle.fleet_model.specs.declared.tables.Tables.{Tables}
-use Rattle.fleet_model.specs.Counts.{fleet_at}
+use Rattle.fleet_model.specs.Counts.{choice_at}
 use Rattle.fleet_model.specs.Legal.{cost_of}
 use Rattle.fleet_model.specs.OwnTimes.{own_pair}
 use Rattle.fleet_model.specs.Schedule.{fleet_of, fleets_in, legs_in}
@@ -13,7 +13,7 @@ use Rattle.stand_counts.specs.Flights.{Flights, used_by}
 -- a fleet for each leg
 pub record AreFleetsOf (t : Tables) (a : List ℕ) : Type 0 where
   pub each_leg : length a ≡ legs_in t
-  pub known : (l : ℕ) → l < legs_in t → fleet_at a l < fleets_in t
+  pub known : (l : ℕ) → l < legs_in t → choice_at a l < fleets_in t
 
 -- none of the first fleets may fly the leg
 abbrev pub NoneFlies : Tables → ℕ → ℕ → Type 0

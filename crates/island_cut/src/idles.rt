@@ -1,6 +1,6 @@
 //! The idle minutes of islands.
 ghost use Rattle.std.specs.Prelude.{◌≡◌, ◌≤◌, ◌*◌, ◌++◌, ◌∷◌, [], if◌then◌else◌, IfOk, OnOk, map, true};
-ghost use Rattle.fleet_model.specs.Counts.{fleet_at};
+ghost use Rattle.fleet_model.specs.Counts.{choice_at};
 ghost use Rattle.fleet_model.specs.Schedule.{stations_in};
 ghost use Rattle.fleet_model.specs.declared.limits.TheConstants.{MAX_LEGS};
 ghost use Rattle.island_cut.specs.Islands.{has_islands, have_pairs, idle_at, idle_minutes, idles_of};
@@ -46,7 +46,7 @@ fn has_islands(alloc: Global, tables: &Tables, plan: &Assignment) -> Result<bool
     requires plan { AreFleetsOf tables.now plan.now }
     requires day { is_plain_day tables.now ≡ true }
     requires pairs { have_pairs tables.now ≡ true }
-    requires quickest { AreQuickest tables.now (fleet_at plan.now) }
+    requires quickest { AreQuickest tables.now (choice_at plan.now) }
     ensures { IfOk result (λ has. has ≡ has_islands tables.now) }
 {
     let mut uneven = 0;
@@ -64,12 +64,12 @@ fn has_islands(alloc: Global, tables: &Tables, plan: &Assignment) -> Result<bool
 #[tactic(auto, unfolding(stand_counts::specs::Flights::laps_by))]
 fn lapping(tables: &Tables, plan: &Assignment) -> u32
     requires { AreFleetsOf tables.now plan.now }
-    ensures value { result ≡ laps_by tables.now (joined tables.now (fleet_at plan.now)) }
+    ensures value { result ≡ laps_by tables.now (joined tables.now (choice_at plan.now)) }
     ensures few { result ≤ 2 * MAX_LEGS }
 {
     let mut sum = 0;
     for leg in 0..tables.leg_count() {
-        sum += tables.laps(tables.own_pair(leg, plan.fleet(leg)));
+        sum += tables.laps(tables.own_pair(leg, plan.choice(leg)));
     }
     sum
 }
@@ -83,7 +83,7 @@ fn push_idles(
     station: u32,
 ) -> Result<(), NoMemory>
     requires plan { AreFleetsOf tables.now plan.now }
-    requires quickest { AreQuickest tables.now (fleet_at plan.now) }
+    requires quickest { AreQuickest tables.now (choice_at plan.now) }
     requires islands { has_islands tables.now ≡ true }
     ensures { OnOk result (idles.new.items ≡ idles.old.items ++ map (idle_at station) (idle_minutes tables.now station)) }
 {

@@ -1,6 +1,6 @@
 //! The joined schedule: all legs on one fleet, which flies each as fast as any fleet that may.
 ghost use Rattle.std.specs.Prelude.{◌≡◌, ◌+◌, ◌<◌, ◌≤◌, ⊤, MatchBool};
-ghost use Rattle.fleet_model.specs.Counts.{fleet_at};
+ghost use Rattle.fleet_model.specs.Counts.{choice_at};
 ghost use Rattle.fleet_model.specs.Schedule.{fleets_in, legs_in};
 ghost use Rattle.island_cut.specs.Islands.{have_pairs};
 ghost use Rattle.island_cut.specs.Spare.{AreFleetsOf, AreQuickest, HavePairs, IsBest, IsQuickest, joined};
@@ -15,7 +15,7 @@ pub(crate) struct Joined<'a> {
 }
 
 impl Flights for Joined<'_> {
-    ghost flights = { λ t it. joined t (fleet_at it.plan.now) };
+    ghost flights = { λ t it. joined t (choice_at it.plan.now) };
 
     ghost fit = { λ t it. AreFleetsOf t it.plan.now };
 
@@ -26,7 +26,7 @@ impl Flights for Joined<'_> {
     }
 
     fn pair(&self, tables: &Tables, leg: u32) -> Pair {
-        tables.own_pair(leg, self.plan.fleet(leg))
+        tables.own_pair(leg, self.plan.choice(leg))
     }
 
     fn weight(&self, _tables: &Tables, _pair: Pair) -> u128 {
@@ -38,7 +38,7 @@ impl Flights for Joined<'_> {
 pub(crate) fn quickest(tables: &Tables) -> Assignment
     requires { HavePairs tables.now }
     ensures fleets { AreFleetsOf tables.now result }
-    ensures quickest { AreQuickest tables.now (fleet_at result) }
+    ensures quickest { AreQuickest tables.now (choice_at result) }
 {
     let mut plan = Assignment::empty();
     for leg in 0..tables.leg_count() {

@@ -1,6 +1,6 @@
 //! How many flights of the joined schedule have left a station, and how many have come to it, by the end of each minute.
 ghost use Rattle.std.specs.Prelude.{◌≡◌, ◌==◌, ◌<◌, ◌≤◌, ◌+◌, IfOk, if◌then◌else◌, length, nat_le, slice_index};
-ghost use Rattle.fleet_model.specs.Counts.{fleet_at};
+ghost use Rattle.fleet_model.specs.Counts.{choice_at};
 ghost use Rattle.fleet_model.specs.OwnTimes.{own_pair};
 ghost use Rattle.fleet_model.specs.Schedule.{fleets_in, last_of, leg_of, legs_in, period_of};
 ghost use Rattle.fleet_model.specs.Times.{departure, ready_minute};
@@ -22,11 +22,11 @@ pub(crate) fn departures(
 ) -> Result<Vec<u32>, NoMemory>
     requires { AreFleetsOf tables.now plan.now }
     ensures counts { IfOk result (λ counts. AreCounts (period_of tables.now) MAX_LEGS counts.items) }
-    ensures value { IfOk result (λ counts. TellEach (period_of tables.now) (departed_by tables.now (joined tables.now (fleet_at plan.now)) station) counts.items) }
+    ensures value { IfOk result (λ counts. TellEach (period_of tables.now) (departed_by tables.now (joined tables.now (choice_at plan.now)) station) counts.items) }
 {
     let mut counts = no_counts(alloc, tables)?;
     for leg in 0..tables.leg_count() {
-        let from = left_from(tables, leg, plan.fleet(leg), station);
+        let from = left_from(tables, leg, plan.choice(leg), station);
         raise_from(tables, &mut counts, from, leg);
     }
     Ok(counts)
@@ -41,11 +41,11 @@ pub(crate) fn arrivals(
 ) -> Result<Vec<u32>, NoMemory>
     requires { AreFleetsOf tables.now plan.now }
     ensures counts { IfOk result (λ counts. AreCounts (period_of tables.now) MAX_LEGS counts.items) }
-    ensures value { IfOk result (λ counts. TellEach (period_of tables.now) (arrived_by tables.now (joined tables.now (fleet_at plan.now)) station) counts.items) }
+    ensures value { IfOk result (λ counts. TellEach (period_of tables.now) (arrived_by tables.now (joined tables.now (choice_at plan.now)) station) counts.items) }
 {
     let mut counts = no_counts(alloc, tables)?;
     for leg in 0..tables.leg_count() {
-        let from = there_from(tables, leg, plan.fleet(leg), station);
+        let from = there_from(tables, leg, plan.choice(leg), station);
         raise_from(tables, &mut counts, from, leg);
     }
     Ok(counts)

@@ -80,7 +80,7 @@ fn comes_in(tables: &Tables, plan: &Assignment, station: u32, pair: Pair) -> u16
     requires pair { IsPair tables.now pair }
     ensures { result ≡ comes_in tables.now (weights_of plan.now) station pair }
 {
-    if tables.leg(pair.leg).to == station && plan.fleet(pair.leg) == pair.choice {
+    if tables.leg(pair.leg).to == station && plan.choice(pair.leg) == pair.choice {
         tables.ready(pair)
     } else {
         tables.period()
@@ -93,7 +93,7 @@ fn leaves_in(tables: &Tables, plan: &Assignment, station: u32, pair: Pair) -> u1
     requires pair { IsPair tables.now pair }
     ensures { result ≡ leaves_in tables.now (weights_of plan.now) station pair }
 {
-    if tables.leg(pair.leg).from == station && plan.fleet(pair.leg) == pair.choice {
+    if tables.leg(pair.leg).from == station && plan.choice(pair.leg) == pair.choice {
         tables.departure(pair)
     } else {
         tables.period()

@@ -4,7 +4,7 @@ use Rattle.std.proofs.lemmas.List.{append-nil}
 use Rattle.std.proofs.lemmas.Bool.{eq-eqb}
 use Rattle.fleet_model.specs.declared.parts.Connection.{Connection}
 use Rattle.fleet_model.specs.declared.tables.Tables.{Tables}
-use Rattle.fleet_model.specs.Counts.{fleet_at}
+use Rattle.fleet_model.specs.Counts.{choice_at}
 use Rattle.fleet_model.specs.Schedule.{legs_in}
 use Rattle.ground_turns.specs.FirstOut.{AreFirstOut, IsFirstOut}
 use Rattle.ground_turns.specs.Maps.{HasTurn, Holds, IsHeld, arrivals_of, turn_at, turn_by, turns_by}
@@ -22,11 +22,11 @@ turns_below t a f given n = turns_by a f (next t a f given) n
 pub no_turns : (t : Tables) (a : List ℕ) (f : ℕ) (given : List Connection) → [] ≡ turns_below t a f given 0
 no_turns t a f given = refl
 
-one_more : (t : Tables) (a : List ℕ) (f : ℕ) (given : List Connection) (n : ℕ) → turns_below t a f given (n + 1) ≡ turns_below t a f given n ++ (if fleet_at a n == f then turn_by (next t a f given) n ∷ [] else [])
+one_more : (t : Tables) (a : List ℕ) (f : ℕ) (given : List Connection) (n : ℕ) → turns_below t a f given (n + 1) ≡ turns_below t a f given n ++ (if choice_at a n == f then turn_by (next t a f given) n ∷ [] else [])
 one_more t a f given n = ap (turns_by a f (next t a f given)) (add-one n)
 
 pub turn_more : (t : Tables) (a : List ℕ) (f : ℕ) (given : List Connection) (held : IsHeld t a f given) (n q : ℕ) (turns : List Connection)
-    → turns ≡ turns_below t a f given n → n < legs_in t → (fleet_at a n == f) ≡ true → Follows t a f given n q
+    → turns ≡ turns_below t a f given n → n < legs_in t → (choice_at a n == f) ≡ true → Follows t a f given n q
     → turns ++ record { arriving = n; departing = q } ∷ [] ≡ turns_below t a f given (n + 1)
 turn_more t a f given held n q turns same below on follows =
     let next_is = one_follows t a f given held n q (next t a f given n) follows (next_follows t a f given held n below on) in
@@ -36,7 +36,7 @@ turn_more t a f given held n q turns same below on follows =
     ∙ sym (one_more t a f given n)
 
 pub no_turn_more : (t : Tables) (a : List ℕ) (f : ℕ) (given : List Connection) (n : ℕ) (turns : List Connection)
-    → turns ≡ turns_below t a f given n → (fleet_at a n == f) ≡ false → turns ≡ turns_below t a f given (n + 1)
+    → turns ≡ turns_below t a f given n → (choice_at a n == f) ≡ false → turns ≡ turns_below t a f given (n + 1)
 no_turn_more t a f given n turns same off =
     same ∙ sym (append-nil (turns_below t a f given n))
     ∙ ap (λ b. turns_below t a f given n ++ (if b then turn_by (next t a f given) n ∷ [] else [])) (sym off)
@@ -54,7 +54,7 @@ module _ (t : Tables) (a : List ℕ) (f : ℕ) (given : List Connection) (held :
       has g within =
           let l = (turn_at given g).arriving in
           let turn = given_turn t a f given held g within in
-          let on : (fleet_at a l == f) ≡ true = eq-eqb _ _ turn.comes_on in
+          let on : (choice_at a l == f) ≡ true = eq-eqb _ _ turn.comes_on in
           let there = has_turn_by a f (next t a f given) (legs_in t) l turn.arriving turn.comes_on in
           let pair : Follows t a f given l (turn_at given g).departing = partner_follows t a f given l (turn_at given g).departing (record { place = g; within = within; there = refl }) in
           let same = one_follows t a f given held l (next t a f given l) (turn_at given g).departing (next_follows t a f given held l turn.arriving on) pair in

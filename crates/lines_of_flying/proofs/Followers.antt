@@ -11,7 +11,7 @@ use Rattle.sums.proofs.NumberTests.{some_tested}
 use Rattle.sums.proofs.Naturals.{none_is_some, some_above, zero_number}
 use Rattle.fleet_model.specs.declared.parts.Connection.{Connection}
 use Rattle.fleet_model.specs.declared.tables.Tables.{Tables}
-use Rattle.fleet_model.specs.Counts.{fleet_at}
+use Rattle.fleet_model.specs.Counts.{choice_at}
 use Rattle.fleet_model.specs.Schedule.{leg_of, leg_on, legs_in, period_of}
 use Rattle.fleet_model.specs.Times.{departure}
 use Rattle.ground_turns.specs.FirstOut.{departure_place, free_departed, free_excess, free_landings, free_need, is_free_departure, is_free_landing, landing_place}
@@ -44,7 +44,7 @@ module _ (t : Tables) (a : List ℕ) (f : ℕ) (given : List Connection) (held :
   map = held.fitting.map
 
   abbrev flies : ℕ → Bool
-  flies l = fleet_at a l == f
+  flies l = choice_at a l == f
 
   -- as many departures are free at a station as landings
   free_departures : (s : ℕ) → count_below (is_free_departure t a f given s) (legs_in t) ≡ free_landings t a f given s
@@ -219,14 +219,14 @@ module _ (t : Tables) (a : List ℕ) (f : ℕ) (given : List Connection) (held :
   }
 
   -- a free landing is one of some
-  pub some_landings : (l station n : ℕ) → l < legs_in t → fleet_at a l ≡ f → arrivals_of given l ≡ 0 → station ≡ landing_at t l → n ≡ free_landings t a f given station → 0 < n
+  pub some_landings : (l station n : ℕ) → l < legs_in t → choice_at a l ≡ f → arrivals_of given l ≡ 0 → station ≡ landing_at t l → n ≡ free_landings t a f given station → 0 < n
   some_landings l station n below on free same count =
       let low = place_low l below (eq-eqb _ _ on) free in
       let there = ap (free_landings t a f given) same in
       omega (arith, low, there, count)
 
   -- not all departures are none that follows a free landing
-  pub some_follows : (l : ℕ) → l < legs_in t → fleet_at a l ≡ f → arrivals_of given l ≡ 0 → ¬ ((q : ℕ) → q < legs_in t → ¬ (IsFirstOutNext t a f given l q))
+  pub some_follows : (l : ℕ) → l < legs_in t → choice_at a l ≡ f → arrivals_of given l ≡ 0 → ¬ ((q : ℕ) → q < legs_in t → ¬ (IsFirstOutNext t a f given l q))
   some_follows l below on free none = let found = next_found l below (eq-eqb _ _ on) free in none found.0 found.1.known found.1
 
 -- a partner follows

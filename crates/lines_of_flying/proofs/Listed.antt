@@ -3,7 +3,7 @@ use Rattle.std.proofs.Common.{◌≡◌, ℕ, zero, suc, ◌<◌, Bool, true, fa
 use Rattle.std.proofs.lemmas.List.{append-nil, get_or_append_left, get_or_push, length_push}
 use Rattle.std.proofs.lemmas.Bool.{cases_lt, eq-eqb}
 use Rattle.fleet_model.specs.declared.parts.Connection.{Connection}
-use Rattle.fleet_model.specs.Counts.{fleet_at}
+use Rattle.fleet_model.specs.Counts.{choice_at}
 use Rattle.ground_turns.specs.Maps.{HasTurn, no_turn, turn_at, turn_by, turns_by}
 use Rattle.ground_turns.proofs.FleetTurns.{of_one_more}
 
@@ -47,7 +47,7 @@ has_last xs y = record { place = length xs; within = omega (arith, length_push x
 module _ (a : List ℕ) (f : ℕ) (next : ℕ → ℕ) where
   pub by_arriving_rise : (n : ℕ) → Rise (turns_by a f next n) n
   by_arriving_rise zero = record { each = λ j k order within. absurd (omega arith); below = λ k within. absurd (omega arith) }
-  by_arriving_rise (suc n) = by_last (fleet_at a n == f) (by_arriving_rise n)
+  by_arriving_rise (suc n) = by_last (choice_at a n == f) (by_arriving_rise n)
     where
       wider : (xs : List Connection) → Rise xs n → Rise xs (suc n)
       wider xs rise = record { each = rise.each; below = λ k within. let few = rise.below k within in omega arith }
@@ -57,14 +57,14 @@ module _ (a : List ℕ) (f : ℕ) (next : ℕ → ℕ) where
       by_last false rise = subst (λ xs. Rise xs (suc n)) (sym (append-nil (turns_by a f next n))) (wider (turns_by a f next n) rise)
 
   -- each leg of the fleet has its turn in the list
-  pub has_turn_by : (n l : ℕ) → l < n → fleet_at a l ≡ f → HasTurn (turns_by a f next n) (turn_by next l)
+  pub has_turn_by : (n l : ℕ) → l < n → choice_at a l ≡ f → HasTurn (turns_by a f next n) (turn_by next l)
   has_turn_by zero l below flies = absurd (omega arith)
-  has_turn_by (suc n) l below flies = by_last (fleet_at a n == f) refl (λ before. has_turn_by n l before flies)
+  has_turn_by (suc n) l below flies = by_last (choice_at a n == f) refl (λ before. has_turn_by n l before flies)
     where
-      earlier : l ≡ n → (fleet_at a n == f) ≡ false → ⊥
-      earlier same e = let clash : true ≡ false = sym (eq-eqb _ _ flies) ∙ ap (λ k. fleet_at a k == f) same ∙ e in cc
+      earlier : l ≡ n → (choice_at a n == f) ≡ false → ⊥
+      earlier same e = let clash : true ≡ false = sym (eq-eqb _ _ flies) ∙ ap (λ k. choice_at a k == f) same ∙ e in cc
 
-      by_last : (b : Bool) → (fleet_at a n == f) ≡ b → (l < n → HasTurn (turns_by a f next n) (turn_by next l))
+      by_last : (b : Bool) → (choice_at a n == f) ≡ b → (l < n → HasTurn (turns_by a f next n) (turn_by next l))
           → HasTurn (turns_by a f next n ++ (if b then turn_by next n ∷ [] else [])) (turn_by next l)
       by_last true e before = elim (cases_lt l n) [
         | inl less ↦ has_old (turns_by a f next n) (turn_by next n) (turn_by next l) (before less)

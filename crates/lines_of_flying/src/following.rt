@@ -1,6 +1,6 @@
 //! The leg that follows a leg.
 ghost use Rattle.std.specs.Prelude.{◌≡◌, ◌≢◌, ◌<◌, true, MatchOption};
-ghost use Rattle.fleet_model.specs.Counts.{fleet_at};
+ghost use Rattle.fleet_model.specs.Counts.{choice_at};
 ghost use Rattle.fleet_model.specs.Schedule.{legs_in};
 ghost use Rattle.ground_turns.specs.Maps.{HasTurn, IsHeld, arrivals_of};
 ghost use Rattle.lines_of_flying.specs.Following.{Follows, IsFirstOutNext, next_place};
@@ -18,7 +18,7 @@ pub(crate) fn follower(ground: &Ground<'_>, places: &Places, leg: u32) -> u32
     requires places { ArePlaces ground.now places.now }
     requires held { IsHeld ground.now.tables.now ground.now.plan.now ground.now.fleet ground.now.pairs.now }
     requires leg { leg < legs_in ground.now.tables.now }
-    requires flies { fleet_at ground.now.plan.now leg ≡ ground.now.fleet }
+    requires flies { choice_at ground.now.plan.now leg ≡ ground.now.fleet }
     ensures { Follows ground.now.tables.now ground.now.plan.now ground.now.fleet ground.now.pairs.now leg result }
 {
     match partner(ground.pairs, leg) {
@@ -46,7 +46,7 @@ fn next_place(ground: &Ground<'_>, places: &Places, leg: u32) -> u32
     requires places { ArePlaces ground.now places.now }
     requires held { IsHeld ground.now.tables.now ground.now.plan.now ground.now.fleet ground.now.pairs.now }
     requires leg { leg < legs_in ground.now.tables.now }
-    requires flies { fleet_at ground.now.plan.now leg ≡ ground.now.fleet }
+    requires flies { choice_at ground.now.plan.now leg ≡ ground.now.fleet }
     requires free { arrivals_of ground.now.pairs.now leg ≡ 0 }
     ensures { result ≡ next_place ground.now.tables.now ground.now.plan.now ground.now.fleet ground.now.pairs.now leg }
 {
@@ -60,7 +60,7 @@ fn first_out(ground: &Ground<'_>, places: &Places, leg: u32) -> u32
     requires places { ArePlaces ground.now places.now }
     requires held { IsHeld ground.now.tables.now ground.now.plan.now ground.now.fleet ground.now.pairs.now }
     requires leg { leg < legs_in ground.now.tables.now }
-    requires flies { fleet_at ground.now.plan.now leg ≡ ground.now.fleet }
+    requires flies { choice_at ground.now.plan.now leg ≡ ground.now.fleet }
     requires free { arrivals_of ground.now.pairs.now leg ≡ 0 }
     ensures { IsFirstOutNext ground.now.tables.now ground.now.plan.now ground.now.fleet ground.now.pairs.now leg result }
 {

@@ -13,7 +13,7 @@ pub(crate) fn lands_free(ground: &Ground<'_>, station: u32, leg: u32) -> bool
     requires leg { leg < legs_in ground.now.tables.now }
     ensures { result ≡ lands_free ground.now station leg }
 {
-    ground.plan.fleet(leg) == ground.fleet
+    ground.plan.choice(leg) == ground.fleet
         && ground.tables.leg(leg).to == station
         && ground.lands[leg as usize]
 }
@@ -24,7 +24,7 @@ pub(crate) fn departs_free(ground: &Ground<'_>, station: u32, leg: u32) -> bool
     requires leg { leg < legs_in ground.now.tables.now }
     ensures { result ≡ departs_free ground.now station leg }
 {
-    ground.plan.fleet(leg) == ground.fleet
+    ground.plan.choice(leg) == ground.fleet
         && ground.tables.leg(leg).from == station
         && ground.departs[leg as usize]
 }

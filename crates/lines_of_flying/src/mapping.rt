@@ -50,7 +50,7 @@ fn turns_of(
 {
     let mut turns = Vec::new(alloc);
     for leg in 0..ground.tables.leg_count() {
-        if ground.plan.fleet(leg) == ground.fleet {
+        if ground.plan.choice(leg) == ground.fleet {
             turns.push(Connection {
                 arriving: leg,
                 departing: follower(ground, places, leg),

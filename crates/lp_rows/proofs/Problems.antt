@@ -4,16 +4,16 @@ use Rattle.std.specs.Prelude.{unwrap_or}
 use Rattle.std.proofs.lemmas.Bool.{cases_lt}
 use Rattle.std.proofs.lemmas.Int.{ints}
 use Rattle.std.proofs.lemmas.List.{length-map, length_push}
-use Rattle.std.proofs.lemmas.List.Elements.{All-map, recursion_from_All}
+use Rattle.std.proofs.lemmas.List.Elements.{All-map}
 use Rattle.sums.proofs.Sums.{sum_below-bound}
 use Rattle.frac_row.specs.Outgrown.{IsWithin}
 use Rattle.fleet_model.specs.declared.tables.Tables.{Tables}
 use Rattle.fleet_model.specs.Kept.{Domains}
 use Rattle.fleet_model.specs.Legal.{cost_of}
-use Rattle.fleet_model.specs.Limits.{IsCost, IsFleet, IsPairCost}
-use Rattle.fleet_model.specs.Schedule.{fleet_by, fleet_of, fleets_in, legs_in, no_fleet}
+use Rattle.fleet_model.specs.Limits.{IsCost, IsFleet}
+use Rattle.fleet_model.specs.Schedule.{fleet_by, fleet_of, no_fleet}
 use Rattle.fleet_model.specs.Times.{laps_of}
-use Rattle.fleet_model.proofs.CostLookup.{found_fits}
+use Rattle.fleet_model.proofs.PairCosts.{cost_fits}
 use Rattle.fleet_model.proofs.PeriodMinutes.{few_laps}
 use Rattle.fleet_model.proofs.ParkingLimits.{few_at}
 use Rattle.row_store.specs.Problem.{IsProblem, entry}
@@ -75,8 +75,7 @@ cost_within (Some c) fits = within_of c fits
 cost_within None fits = omega arith
 
 small_cost : (t : Tables) (column : Column) → IsWithin (column_cost t column)
-small_cost t (Flight p) =
-    cost_within (cost_of t p) (found_fits t.costs p (legs_in t) (fleets_in t) (recursion_from_All (IsPairCost (legs_in t) (fleets_in t)) t.costs t.in_range.costs_fit.each))
+small_cost t (Flight p) = cost_within (cost_of t p) (cost_fits t p)
 small_cost t (Ground a) = omega arith
 small_cost t (Slack f) = omega arith
 small_cost t (Room p) = omega arith

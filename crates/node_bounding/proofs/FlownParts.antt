@@ -2,7 +2,7 @@
 -- that is flown in part.
 use Rattle.std.proofs.Common.{◌≡◌, ℕ, ◌<◌, ◌++◌, List, [], ◌∷◌, length, length-append, inl, inr, arith}
 use Rattle.std.proofs.lemmas.Bool.{cases_lt}
-use Rattle.fleet_model.specs.Counts.{fleet_at}
+use Rattle.fleet_model.specs.Counts.{choice_at}
 use Rattle.fleet_model.specs.Schedule.{choices_in, legs_in}
 use Rattle.fleet_model.specs.declared.tables.Tables.{Tables}
 use Rattle.fleet_model.proofs.SoleFleets.{earlier_fleet, last_fleet}
@@ -12,7 +12,7 @@ use Rattle.node_bounding.specs.Causes.{ComesBefore}
 use Rattle.node_bounding.specs.Wholes.{FliesPart, IsFirstPartialOn, IsSplitPair}
 
 pub record FliesSoFar (t : Tables) (mixed : Mixed) (a : List ℕ) : Type 0 where
-  pub each : (l : ℕ) → l < length a → FliesPart t mixed l (fleet_at a l)
+  pub each : (l : ℕ) → l < length a → FliesPart t mixed l (choice_at a l)
 
 -- one leg more
 pub flies_more : (t : Tables) (mixed : Mixed) (a : List ℕ) (fleet : ℕ) → FliesSoFar t mixed a → FliesPart t mixed (length a) fleet → FliesSoFar t mixed (a ++ fleet ∷ [])

@@ -10,7 +10,7 @@ use Rattle.sums.proofs.Integers.{*ℤ_assoc, *ℤ_cancel}
 use Rattle.sums.proofs.WholeSums.{*ℤ-sum_below_ℤ, sum_below_ℤ-same}
 use Rattle.sums.proofs.Sizes.{size_of_zero, zero_size}
 use Rattle.frac_row.specs.Ratio.{IsCeiling}
-use Rattle.fleet_model.specs.Counts.{Weights, fleet_at, weights_of}
+use Rattle.fleet_model.specs.Counts.{Weights, choice_at, weights_of}
 use Rattle.fleet_model.specs.Kept.{Domains, IsKeptAssignment}
 use Rattle.fleet_model.specs.Legal.{IsLegal, cost_of, total_cost}
 use Rattle.fleet_model.specs.Mixed.{mixed_cost, weighted_cost}
@@ -76,21 +76,21 @@ module _ (t : Tables) (keeps : Domains) (mixed : Mixed) (a : List ℕ) (allowed 
   other = legal_by.0
 
   -- the fleet that flies a part of a leg is the one that flies all of it
-  same_fleet : (l : ℕ) → l < legs_in t → fleet_at a l ≡ fleet_at other l
+  same_fleet : (l : ℕ) → l < legs_in t → choice_at a l ≡ choice_at other l
   same_fleet l below =
-      by_test (fleet_at other l == fleet_at a l) refl
+      by_test (choice_at other l == choice_at a l) refl
     where
       within : l < length a
       within = omega (arith, below, flies.each_leg)
 
-      there : parts_in mixed (leg_on l (fleet_at a l)) ≡ parts_of_leg mixed * weights_of other (leg_on l (fleet_at a l))
-      there = legal_by.1.weights (leg_on l (fleet_at a l)) (record { leg = below; choice = (flies.parts l within).known })
+      there : parts_in mixed (leg_on l (choice_at a l)) ≡ parts_of_leg mixed * weights_of other (leg_on l (choice_at a l))
+      there = legal_by.1.weights (leg_on l (choice_at a l)) (record { leg = below; choice = (flies.parts l within).known })
 
-      by_test : (b : Bool) → (fleet_at other l == fleet_at a l) ≡ b → fleet_at a l ≡ fleet_at other l
+      by_test : (b : Bool) → (choice_at other l == choice_at a l) ≡ b → choice_at a l ≡ choice_at other l
       by_test true e = grind (arith, nat_tests)
       by_test false e =
-          let none : weights_of other (leg_on l (fleet_at a l)) ≡ 0 = rw e refl in
-          absurd ((flies.parts l within).some (zero_size (weight_in mixed (leg_on l (fleet_at a l))) (there ∙ ap (λ n. parts_of_leg mixed * n) none ∙ omega arith)))
+          let none : weights_of other (leg_on l (choice_at a l)) ≡ 0 = rw e refl in
+          absurd ((flies.parts l within).some (zero_size (weight_in mixed (leg_on l (choice_at a l))) (there ∙ ap (λ n. parts_of_leg mixed * n) none ∙ omega arith)))
 
   same_plan : a ≡ other
   same_plan = same_number_lists a other (flies.each_leg ∙ sym legal_by.1.legal.assignment.each_leg) (λ l within. same_fleet l (omega (arith, within, flies.each_leg)))

@@ -1,6 +1,6 @@
 -- Whole fractional assignments as assignments, and the first pair of one that is not whole.
 use Rattle.std.specs.Prelude.{◌≡◌, ◌≢◌, ℕ, ◌<◌, List, length, pos, ◌<ℤ◌}
-use Rattle.fleet_model.specs.Counts.{fleet_at}
+use Rattle.fleet_model.specs.Counts.{choice_at}
 use Rattle.fleet_model.specs.Schedule.{IsPair, choices_in, leg_on, legs_in}
 use Rattle.fleet_model.specs.declared.parts.Pair.{Pair}
 use Rattle.fleet_model.specs.declared.tables.Tables.{Tables}
@@ -37,4 +37,4 @@ pub record HasChoices (t : Tables) (mixed : Mixed) : Type 0 where
 -- an assignment has for each leg a choice by which a part of it is flown
 pub record FliesParts (t : Tables) (mixed : Mixed) (a : List ℕ) : Type 0 where
   pub each_leg : length a ≡ legs_in t
-  pub parts : (l : ℕ) → l < length a → FliesPart t mixed l (fleet_at a l)
+  pub parts : (l : ℕ) → l < length a → FliesPart t mixed l (choice_at a l)

@@ -1,7 +1,7 @@
 -- The names of the files.
 use Rattle.std.specs.Prelude.{ℕ, List, ◌++◌, codes}
 use Rattle.plan_desk.specs.declared.file.DeskFile.{DeskFile}
-use Rattle.plan_desk.specs.declared.file.DeskFile.TheVariants.{Stations, Fleets, Legs, Costs, Throughs, Tails, Plan, Proof, Rotation}
+use Rattle.plan_desk.specs.declared.file.DeskFile.TheVariants.{Stations, Fleets, Legs, Costs, Throughs, Windows, Optional, Tails, Plan, Proof, Rotation}
 
 -- the file's name in its folder
 abbrev pub file_name : DeskFile → List ℕ
@@ -10,6 +10,8 @@ file_name Fleets = codes "fleets.csv"
 file_name Legs = codes "legs.csv"
 file_name Costs = codes "costs.csv"
 file_name Throughs = codes "throughs.csv"
+file_name Windows = codes "windows.csv"
+file_name Optional = codes "optional.csv"
 file_name Tails = codes "tails.csv"
 file_name Plan = codes "plan.csv"
 file_name Proof = codes "proof.txt"

@@ -13,7 +13,7 @@ pub(crate) fn first_not_allowed(tables: &Tables, plan: &Assignment) -> Option<u3
     ensures { MatchOption result (IsAllowed tables.now plan.now) (FirstNotAllowed tables.now plan.now) }
 {
     for leg in 0..tables.leg_count() {
-        let choice = plan.fleet(leg);
+        let choice = plan.choice(leg);
         if tables.cost(Pair { leg, choice }).is_none() {
             return Some(leg);
         }
@@ -43,6 +43,6 @@ fn leg_units(tables: &Tables, plan: &Assignment, leg: u32) -> i128
     ensures value { result ≡ leg_cost tables.now plan.now leg }
     ensures fits { IsCost result }
 {
-    let choice = plan.fleet(leg);
+    let choice = plan.choice(leg);
     tables.cost(Pair { leg, choice }).unwrap()
 }

@@ -39,8 +39,8 @@ pub text_more : (b c : TextWriter) (xs ys : List Fields) → text_in b ≡ csv_t
 text_more b c xs ys front rest = rest.text ∙ ap (λ text. text ++ csv_text ys) front ∙ sym (csv_text-append xs ys)
 
 -- the record of a leg more
-pub leg_more : (t : Tables) (a : List ℕ) (leg : ℕ) (b c : TextWriter) → text_in b ≡ csv_text (plan_header ∷ leg_records t a leg)
-    → HasWritten b c (leg_record t a leg ∷ []) → text_in c ≡ csv_text (plan_header ∷ leg_records t a (leg + 1))
+pub leg_more : (t : Tables) (a : List ℕ) (leg : ℕ) (b c : TextWriter) → text_in b ≡ csv_text (plan_header t ∷ leg_records t a leg)
+    → HasWritten b c (leg_record t a leg ∷ []) → text_in c ≡ csv_text (plan_header t ∷ leg_records t a (leg + 1))
 leg_more t a leg b c front rest =
-    text_more b c (plan_header ∷ leg_records t a leg) (leg_record t a leg ∷ []) front rest
-    ∙ ap (λ rows. csv_text (plan_header ∷ rows)) (sym (map-range_with_len_more (leg_record t a) 0 leg leg (omega arith)))
+    text_more b c (plan_header t ∷ leg_records t a leg) (leg_record t a leg ∷ []) front rest
+    ∙ ap (λ rows. csv_text (plan_header t ∷ rows)) (sym (map-range_with_len_more (leg_record t a) 0 leg leg (omega arith)))

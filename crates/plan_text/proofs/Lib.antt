@@ -1,6 +1,10 @@
+pub mod ChoiceTexts
 pub mod CsvWriting
+pub mod FieldTexts
+pub mod FleetNames
 pub mod Lines
 pub mod NameText
+pub mod PlanLength
 pub mod ReadOrNot
 pub mod Records
 pub mod SoFar

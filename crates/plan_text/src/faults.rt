@@ -59,14 +59,15 @@ impl From<PlanFault> for PlanError {
 /// The first record is not the header.
 pub const WRONG_HEADER: u8 = 1;
 
-/// A record is not two fields of UTF-8.
+/// A record is not two fields of UTF-8, or three where legs may have other times than their own.
 pub const WRONG_FIELDS: u8 = 2;
 
 /// The flight is not the one that the schedule has at this place.
 pub const WRONG_FLIGHT: u8 = 3;
 
-/// The fleet is not in the table of fleets.
-pub const UNKNOWN_FLEET: u8 = 4;
+/// The fleet is not in the table of fleets, or the leg has not this time, as it is written; or the fleet is `-` where no
+/// leg may be left out, or beside a time other than 0.
+pub const UNKNOWN_CHOICE: u8 = 4;
 
 /// There is a record beyond the legs, whatever it holds, or the record of a leg is missing.
 pub const WRONG_COUNT: u8 = 5;

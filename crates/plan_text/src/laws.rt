@@ -8,7 +8,7 @@ ghost use Rattle.fleet_model.specs.Legal.{IsAssignment};
 ghost use Rattle.fleet_model.specs.declared.tables.Tables.{Tables};
 ghost use Rattle.plan_text.specs.Reading.{PlanReads, ReadsOrNot};
 ghost use Rattle.plan_text.specs.Text.{plan_records, plan_text};
-ghost use Rattle.plan_text.specs.declared.faults.TheConstants.{UNKNOWN_FLEET, WRONG_COUNT, WRONG_FIELDS, WRONG_FLIGHT, WRONG_HEADER};
+ghost use Rattle.plan_text.specs.declared.faults.TheConstants.{UNKNOWN_CHOICE, WRONG_COUNT, WRONG_FIELDS, WRONG_FLIGHT, WRONG_HEADER};
 
 /// Any records are those of one plan, or they have one first fault, and not both.
 pub fn reads_or_not()
@@ -30,6 +30,6 @@ pub fn kinds_in_numbers()
     ensures wrong_header { WRONG_HEADER ≡ 1 }
     ensures wrong_fields { WRONG_FIELDS ≡ 2 }
     ensures wrong_flight { WRONG_FLIGHT ≡ 3 }
-    ensures unknown_fleet { UNKNOWN_FLEET ≡ 4 }
+    ensures unknown_choice { UNKNOWN_CHOICE ≡ 4 }
     ensures wrong_count { WRONG_COUNT ≡ 5 }
 {}

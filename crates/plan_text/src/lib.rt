@@ -1,6 +1,7 @@
 //! The text of a plan, both ways: `plan.csv`.
 #![tactic(auto)]
 
+mod choices;
 pub mod faults;
 pub mod laws;
 pub mod reading;

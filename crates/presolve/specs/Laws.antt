@@ -17,6 +17,6 @@ BusyIsUnderWay = (t : Tables) (p : Pair) (m : ℕ) → IsPair t p → m < period
 abbrev pub RemovalsAreOne : Type 0
 RemovalsAreOne = (t : Tables) (keeps : Domains) (place : Pair) (xs ys : List Trim) → AreRemovals t keeps place xs → AreRemovals t keeps place ys → map pair_of xs ≡ map pair_of ys
 
--- no more pairs are removed than tables may have: those of 1,000 legs and 20 fleets
+-- no more pairs are removed than tables may have by which legs are flown
 abbrev pub RemovalsAreFew : Type 0
 RemovalsAreFew = (t : Tables) (trims : List Trim) → AreRemovals t (all_pairs t) first_place trims → length trims ≤ 20000

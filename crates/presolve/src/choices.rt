@@ -29,7 +29,7 @@ pub(crate) struct Choices {
 }
 
 impl Choices {
-    /// All pairs that may be flown.
+    /// All pairs that may be taken.
     pub(crate) fn all(alloc: Global, tables: &Tables) -> Result<Choices, NoMemory>
         ensures choices { IfOk result (AreChoices tables.now) }
         ensures all { IfOk result (λ choices. kept_by choices.kept ≡ all_pairs tables.now) }

@@ -11,6 +11,10 @@ pub chosen : {A : Type 0} (b : Bool) (x y : A) → b ≡ true → cond b x y ≡
 chosen true x y is = refl
 chosen false x y is = absurd (cc is)
 
+pub refused : {A : Type 0} (b : Bool) (x y : A) → b ≡ false → cond b x y ≡ y
+refused true x y is = absurd (cc is)
+refused false x y is = refl
+
 -- one of two ways went well, where the other is a flaw
 pub record Chose {A : Type 0} (b : Bool) (x : Result A Flaw) (z : A) : Type 0 where
   pub test : b ≡ true

@@ -7,6 +7,7 @@ pub mod ReadLines
 pub mod Shapes
 pub mod ShortestDigits
 pub mod Spaces
+pub mod ToldChoices
 pub mod WordForms
 pub mod WrittenLines
 pub mod WrittenNumbers

@@ -1,17 +1,17 @@
 -- What reads as a line is what that line is written as.
-use Rattle.std.proofs.Common.{◌≡◌, ℕ, zero, suc, ◌≤◌, ◌==◌, ◌&&◌, ◌||◌, Bool, true, false, cond, not, List, [], ◌∷◌, length, ℤ, Option, Some, None, Ok, Err, bytes_eq, refl, sym, ap, subst, ◌∙◌, arith}
+use Rattle.std.proofs.Common.{◌≡◌, ℕ, zero, suc, ◌+◌, ◌≤◌, ◌++◌, ◌==◌, ◌&&◌, ◌||◌, Bool, true, false, cond, not, List, [], ◌∷◌, length, ℤ, Option, Some, None, Ok, Err, bytes_eq, refl, sym, ap, subst, ◌∙◌, arith}
 use Rattle.std.specs.Fmt.{decimal}
 use Rattle.std.proofs.lemmas.Bool.Decides.{nat_tests}
 use Rattle.sums.proofs.Tests.{first_true, second_true}
 use Rattle.fleet_model.specs.Schedule.{days_in, last_of}
 use Rattle.fleet_model.specs.declared.tables.Tables.{Tables}
 use Rattle.proof_lines.specs.Figures.{count_in, day_in, minute_in, natural_in, number_in, signed_in, some_day, version_in, version_word}
-use Rattle.proof_lines.specs.Forms.{all_forms, first_form, form_in, form_of, has_form, keywords, of_version, opens, width}
+use Rattle.proof_lines.specs.Forms.{all_forms, first_form, form_in, form_of, has_form, keywords, of_version, opens, pair_end, width}
 use Rattle.proof_lines.specs.Flaws.{both}
-use Rattle.proof_lines.specs.Known.{fleet_in, leg_in, names_in, pair_in, station_in}
+use Rattle.proof_lines.specs.Known.{fleet_in, leg_in, names_in, station_in}
 use Rattle.proof_lines.specs.Laws.{AreBytesOf, IsLineOf}
 use Rattle.proof_lines.specs.LineText.{IsCount, line_words}
-use Rattle.proof_lines.specs.Reading.{fields_in, line_in, of_form}
+use Rattle.proof_lines.specs.Reading.{fields_in, line_in, of_form, pair_at}
 use Rattle.proof_lines.specs.Words.{Word, is_plain, is_word, joined, parts_of, stands, word_at, words_of}
 use Rattle.proof_lines.specs.declared.flaws.Flaw.TheVariants as flaw
 use Rattle.proof_lines.specs.declared.forms.Form.{Form}
@@ -24,7 +24,7 @@ use Rattle.proof_lines.proofs.Choosing.{both_read, chose, figure_some, made_by}
 use Rattle.proof_lines.proofs.FigureWords.{same_bytes}
 use Rattle.proof_lines.proofs.LineWords.{first_told}
 use Rattle.proof_lines.proofs.Naming.{fleet_read, leg_read, pair_read, station_read}
-use Rattle.proof_lines.proofs.Shapes.{five_words, four_words, one_word, three_words, two_words}
+use Rattle.proof_lines.proofs.Shapes.{five_words, four_words, one_word, pair_alone, pair_before, three_words, two_words}
 use Rattle.proof_lines.proofs.Spaces.{line_back}
 use Rattle.proof_lines.proofs.WrittenNumbers.{IsNumberWritten, IsWritten, natural_read, number_read}
 
@@ -107,12 +107,17 @@ day_was days word n e = some_was days word (natural_in days word) n refl (figure
 version_was : (word : Word) (v : Version) → version_in word ≡ Ok v → word ≡ version_word v
 version_was word v e = by_one (bytes_eq word (version_word version.One)) refl e
   where
-    by_two : (b : Bool) → bytes_eq word (version_word version.Two) ≡ b → cond b (Ok version.Two) (Err flaw.Number) ≡ Ok v → word ≡ version_word v
+    by_three : (b : Bool) → bytes_eq word (version_word version.Three) ≡ b → cond b (Ok version.Three) (Err flaw.Number) ≡ Ok v → word ≡ version_word v
+    by_three true is e = let same : version.Three ≡ v = cc e in subst (λ v. word ≡ version_word v) same (same_bytes word (version_word version.Three) is)
+    by_three false is e = absurd (cc e)
+
+    by_two : (b : Bool) → bytes_eq word (version_word version.Two) ≡ b → cond b (Ok version.Two) (cond (bytes_eq word (version_word version.Three)) (Ok version.Three) (Err flaw.Number)) ≡ Ok v → word ≡ version_word v
     by_two true is e = let same : version.Two ≡ v = cc e in subst (λ v. word ≡ version_word v) same (same_bytes word (version_word version.Two) is)
-    by_two false is e = absurd (cc e)
+    by_two false is e = by_three (bytes_eq word (version_word version.Three)) refl e
 
     by_one : (b : Bool) → bytes_eq word (version_word version.One) ≡ b
-        → cond b (Ok version.One) (cond (bytes_eq word (version_word version.Two)) (Ok version.Two) (Err flaw.Number)) ≡ Ok v → word ≡ version_word v
+        → cond b (Ok version.One) (cond (bytes_eq word (version_word version.Two)) (Ok version.Two) (cond (bytes_eq word (version_word version.Three)) (Ok version.Three) (Err flaw.Number))) ≡ Ok v
+        → word ≡ version_word v
     by_one true is e = let same : version.One ≡ v = cc e in subst (λ v. word ≡ version_word v) same (same_bytes word (version_word version.One) is)
     by_one false is e = by_two (bytes_eq word (version_word version.Two)) refl e
 
@@ -202,19 +207,19 @@ module _ (v : Version) (t : Tables) (words : List Word) (it : Line) where
       let at = count_was (word_at words 3) made.value.1 counts.second in
       subst (AreWordsOf t words) made.line_is (record { is = four_words words many ∙ (λ i. first_is words form.OpenLift told i ∷ second_is words form.OpenLift refl told i ∷ step.word_is i ∷ at.word_is i ∷ []); of_tables = record { named = tt; figures = (step.count, at.count) } })
 
-  trim_was : opens words form.Trim ≡ true → length words ≡ 3 → fields_in (names_in v t) form.Trim words ≡ Ok it → AreWordsOf t words it
+  trim_was : opens words form.Trim ≡ true → length words ≡ pair_end t.windows → fields_in (names_in v t) form.Trim words ≡ Ok it → AreWordsOf t words it
   unfolding fields_in
   trim_was told many e =
-      let made = made_by _ (pair_in (names_in v t) (word_at words 1) (word_at words 2)) it e in
-      let pair = pair_read v t (word_at words 1) (word_at words 2) made.value made.is in
-      subst (AreWordsOf t words) made.line_is (record { is = three_words words many ∙ (λ i. first_is words form.Trim told i ∷ pair.leg_is i ∷ pair.choice_is i ∷ []); of_tables = record { named = pair.known; figures = tt } })
+      let made = made_by _ (pair_at (names_in v t) words) it e in
+      let pair = pair_read v t (word_at words 1) (word_at words 2) (word_at words 3) made.value made.is in
+      subst (AreWordsOf t words) made.line_is (record { is = pair_alone t.windows words many ∙ (λ i. first_is words form.Trim told i ∷ pair.leg_is i ∷ pair.flier_is i ∷ (pair.shift_is i ++ [])); of_tables = record { named = pair.known; figures = tt } })
 
-  split_was : opens words form.Split ≡ true → length words ≡ 3 → fields_in (names_in v t) form.Split words ≡ Ok it → AreWordsOf t words it
+  split_was : opens words form.Split ≡ true → length words ≡ pair_end t.windows → fields_in (names_in v t) form.Split words ≡ Ok it → AreWordsOf t words it
   unfolding fields_in
   split_was told many e =
-      let made = made_by _ (pair_in (names_in v t) (word_at words 1) (word_at words 2)) it e in
-      let pair = pair_read v t (word_at words 1) (word_at words 2) made.value made.is in
-      subst (AreWordsOf t words) made.line_is (record { is = three_words words many ∙ (λ i. first_is words form.Split told i ∷ pair.leg_is i ∷ pair.choice_is i ∷ []); of_tables = record { named = pair.known; figures = tt } })
+      let made = made_by _ (pair_at (names_in v t) words) it e in
+      let pair = pair_read v t (word_at words 1) (word_at words 2) (word_at words 3) made.value made.is in
+      subst (AreWordsOf t words) made.line_is (record { is = pair_alone t.windows words many ∙ (λ i. first_is words form.Split told i ∷ pair.leg_is i ∷ pair.flier_is i ∷ (pair.shift_is i ++ [])); of_tables = record { named = pair.known; figures = tt } })
 
   scale_was : opens words form.Scale ≡ true → length words ≡ 2 → fields_in (names_in v t) form.Scale words ≡ Ok it → AreWordsOf t words it
   unfolding fields_in
@@ -263,14 +268,14 @@ module _ (v : Version) (t : Tables) (words : List Word) (it : Line) where
       let number = number_was (word_at words 4) made.value.1.1 figures.second in
       subst (AreWordsOf t words) made.line_is (record { is = five_words words many ∙ (λ i. first_is words form.At told i ∷ fleet.is i ∷ station.is i ∷ minute.word_is i ∷ number.word_is i ∷ []); of_tables = record { named = (fleet.known, station.known); figures = (minute.within, number.figure) } })
 
-  weight_was : opens words form.Weight ≡ true → length words ≡ 4 → fields_in (names_in v t) form.Weight words ≡ Ok it → AreWordsOf t words it
+  weight_was : opens words form.Weight ≡ true → length words ≡ pair_end t.windows + 1 → fields_in (names_in v t) form.Weight words ≡ Ok it → AreWordsOf t words it
   unfolding fields_in
   weight_was told many e =
-      let made = made_by _ (both (pair_in (names_in v t) (word_at words 1) (word_at words 2)) (number_in (word_at words 3))) it e in
-      let read = both_read (pair_in (names_in v t) (word_at words 1) (word_at words 2)) (number_in (word_at words 3)) made.value made.is in
-      let pair = pair_read v t (word_at words 1) (word_at words 2) made.value.0 read.first in
-      let number = number_was (word_at words 3) made.value.1 read.second in
-      subst (AreWordsOf t words) made.line_is (record { is = four_words words many ∙ (λ i. first_is words form.Weight told i ∷ pair.leg_is i ∷ pair.choice_is i ∷ number.word_is i ∷ []); of_tables = record { named = pair.known; figures = number.figure } })
+      let made = made_by _ (both (pair_at (names_in v t) words) (number_in (word_at words (pair_end t.windows)))) it e in
+      let read = both_read (pair_at (names_in v t) words) (number_in (word_at words (pair_end t.windows))) made.value made.is in
+      let pair = pair_read v t (word_at words 1) (word_at words 2) (word_at words 3) made.value.0 read.first in
+      let number = number_was (word_at words (pair_end t.windows)) made.value.1 read.second in
+      subst (AreWordsOf t words) made.line_is (record { is = pair_before t.windows words many ∙ (λ i. first_is words form.Weight told i ∷ pair.leg_is i ∷ pair.flier_is i ∷ (pair.shift_is i ++ number.word_is i ∷ [])); of_tables = record { named = pair.known; figures = number.figure } })
 
   end_was : opens words form.End ≡ true → length words ≡ 1 → fields_in (names_in v t) form.End words ≡ Ok it → AreWordsOf t words it
   unfolding fields_in
@@ -278,7 +283,7 @@ module _ (v : Version) (t : Tables) (words : List Word) (it : Line) where
       let same : line.End ≡ it = cc e in
       subst (AreWordsOf t words) same (record { is = one_word words many ∙ (λ i. first_is words form.End told i ∷ []); of_tables = record { named = tt; figures = tt } })
 
-  words_were : (form : Form) → opens words form ≡ true → length words ≡ width form → fields_in (names_in v t) form words ≡ Ok it → AreWordsOf t words it
+  words_were : (form : Form) → opens words form ≡ true → length words ≡ width t.windows form → fields_in (names_in v t) form words ≡ Ok it → AreWordsOf t words it
   words_were form.Head = head_was
   words_were form.PlanYes = plan_yes_was
   words_were form.PlanNo = plan_no_was
@@ -313,9 +318,9 @@ written_as_read v t bytes line e = by_form (form_in v words) refl (chose (is_pla
     by_form : (o : Option Form) → form_in v words ≡ o → of_form (names_in v t) parts words o ≡ Ok line → AreBytesOf v t bytes line
     by_form None told e = absurd (cc e)
     by_form (Some form) told e =
-        let wide = chose ((length words == parts) && (length words == width form)) _ flaw.Width line e in
-        let spaced = first_true (length words == parts) (length words == width form) wide.test in
-        let many : length words ≡ width form = grind (arith, nat_tests, second_true (length words == parts) (length words == width form) wide.test) in
+        let wide = chose ((length words == parts) && (length words == width t.windows form)) _ flaw.Width line e in
+        let spaced = first_true (length words == parts) (length words == width t.windows form) wide.test in
+        let many : length words ≡ width t.windows form = grind (arith, nat_tests, second_true (length words == parts) (length words == width t.windows form) wide.test) in
         let first = was_found v words form told in
         let were = words_were v t words line form (found words all_forms form first.first) many wide.is in
         let same : form ≡ form_of line = some_form form (form_of line) (sym first.first ∙ ap (λ words. first_form words all_forms) were.is ∙ first_told t line) in

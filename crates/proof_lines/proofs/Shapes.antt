@@ -1,5 +1,7 @@
 -- Words by their places, where it is known how many there are.
-use Rattle.std.proofs.Common.{◌≡◌, List, [], ◌∷◌, length, refl, arith}
+use Rattle.std.proofs.Common.{◌≡◌, ◌+◌, Bool, true, false, List, [], ◌∷◌, ◌++◌, length, refl, arith}
+use Rattle.proof_lines.specs.Forms.{pair_end}
+use Rattle.proof_lines.specs.LineText.{shift_words}
 use Rattle.proof_lines.specs.Words.{Word, word_at}
 
 pub one_word : (words : List Word) → length words ≡ 1 → words ≡ word_at words 0 ∷ []
@@ -36,3 +38,13 @@ five_words (a ∷ b ∷ []) e = absurd (omega (arith, e))
 five_words (a ∷ b ∷ c ∷ []) e = absurd (omega (arith, e))
 five_words (a ∷ b ∷ c ∷ d ∷ []) e = absurd (omega (arith, e))
 five_words (a ∷ b ∷ c ∷ d ∷ f ∷ g ∷ words) e = absurd (omega (arith, e))
+
+-- a pair, with its shift where there is one, and alone or before one word more
+pub pair_alone : (b : Bool) (words : List Word) → length words ≡ pair_end b → words ≡ word_at words 0 ∷ word_at words 1 ∷ word_at words 2 ∷ (shift_words b (word_at words 3) ++ [])
+pair_alone true words e = four_words words e
+pair_alone false words e = three_words words e
+
+pub pair_before : (b : Bool) (words : List Word) → length words ≡ pair_end b + 1
+    → words ≡ word_at words 0 ∷ word_at words 1 ∷ word_at words 2 ∷ (shift_words b (word_at words 3) ++ word_at words (pair_end b) ∷ [])
+pair_before true words e = five_words words e
+pair_before false words e = four_words words e

@@ -1,5 +1,5 @@
 -- What is a word that no space breaks: words of the definitions, numbers, names.
-use Rattle.std.proofs.Common.{◌≡◌, ℕ, zero, suc, ◌<◌, ◌/◌, ◌%◌, ◌&&◌, ◌==◌, Bool, true, false, cond, List, [], ◌∷◌, ℤ, pos, negsuc, nat_le, arith}
+use Rattle.std.proofs.Common.{◌≡◌, ℕ, zero, suc, ◌<◌, ◌/◌, ◌%◌, ◌&&◌, ◌==◌, Bool, true, false, cond, List, [], ◌∷◌, ℤ, pos, negsuc, nat_le, codes, refl, arith}
 use Rattle.std.specs.Prelude.{All}
 use Rattle.std.specs.Char.{IsAsciiUppercase}
 use Rattle.std.specs.Fmt.{decimal, digit_glyph, digits, digits_onto, signed_decimal}
@@ -8,10 +8,9 @@ use Rattle.std.proofs.lemmas.Bool.Decides.{nat_tests}
 use Rattle.std.proofs.lemmas.List.Elements.{All-cons, All-nil, All-weaker}
 use Rattle.sums.proofs.Tests.{first_true, second_true}
 use Rattle.entries.specs.Names.{IsName, IsNameByte, IsStationCode}
-use Rattle.fleet_model.proofs.FlownPairs.{pairs_are_flown}
-use Rattle.fleet_model.specs.Schedule.{IsPair, fleet_by, fleets_in, leg_on, legs_in, no_fleet, no_leg, no_station, stations_in}
+use Rattle.fleet_model.specs.Schedule.{fleet_by, fleets_in, leg_on, legs_in, no_fleet, no_leg, no_station, stations_in}
 use Rattle.fleet_model.specs.declared.tables.Tables.{Tables}
-use Rattle.proof_lines.specs.LineText.{choice_word, fleet_word, leg_word, station_word}
+use Rattle.proof_lines.specs.LineText.{fleet_word, flier_word, is_flown, leg_word, shift_words, station_word}
 use Rattle.proof_lines.specs.Words.{IsVisible, IsWord}
 
 -- words that stand in the definitions
@@ -79,8 +78,17 @@ leg_is t l leg = name_word (leg_word t l) (t.in_range.legs_fit.each l no_leg leg
 pub fleet_is : (t : Tables) (f : ℕ) → f < fleets_in t → IsWord (fleet_word t f)
 fleet_is t f fleet = name_word (fleet_word t f) (t.in_range.fleets_fit.each f no_fleet fleet).name
 
-pub choice_is : (t : Tables) (l c : ℕ) → IsPair t (leg_on l c) → IsWord (choice_word t l c)
-choice_is t l c pair = fleet_is t (fleet_by t (leg_on l c)) (pairs_are_flown t (leg_on l c) pair)
+-- `-` is a word, so what flies a leg is one
+pub flier_is : (t : Tables) (l c : ℕ) → IsWord (flier_word t l c)
+flier_is t l c = by_flown (is_flown t l c) refl
+  where
+    by_flown : (b : Bool) → is_flown t l c ≡ b → IsWord (cond b (fleet_word t (fleet_by t (leg_on l c))) (codes "-"))
+    by_flown true is = fleet_is t (fleet_by t (leg_on l c)) (grind (arith, nat_tests, is))
+    by_flown false is = written _ _ refl
+
+pub shift_is : (b : Bool) (z : ℤ) → All IsWord (shift_words b (signed_decimal z))
+shift_is true z = All-cons IsWord (signed_decimal z) [] (signed_word z) (All-nil IsWord)
+shift_is false z = All-nil IsWord
 
 pub station_is : (t : Tables) (s : ℕ) → s < stations_in t → IsWord (station_word t s)
 station_is t s station = code_word (station_word t s) (t.in_range.stations_fit.each s no_station station).code

@@ -59,9 +59,11 @@ day_in days word = figure (some_day (natural_in days word))
 abbrev pub version_word : Version → List ℕ
 version_word version.One = codes "1"
 version_word version.Two = codes "2"
+version_word version.Three = codes "3"
 
 abbrev pub version_in : List ℕ → Result Version Flaw
 version_in word =
     if bytes_eq word (version_word version.One) then Ok version.One
     else if bytes_eq word (version_word version.Two) then Ok version.Two
+    else if bytes_eq word (version_word version.Three) then Ok version.Three
     else Err flaw.Number

@@ -1,5 +1,5 @@
 -- The forms of lines: the words with which a line of each begins, how many it has, and which versions of the text have it.
-use Rattle.std.specs.Prelude.{ℕ, ◌&&◌, ◌||◌, Bool, true, false, not, if◌then◌else◌, List, [], ◌∷◌, codes, Option, Some, None}
+use Rattle.std.specs.Prelude.{ℕ, ◌+◌, ◌&&◌, ◌||◌, Bool, true, false, not, if◌then◌else◌, List, [], ◌∷◌, codes, Option, Some, None}
 use Rattle.proof_lines.specs.Words.{Word, is_word, stands, word_at}
 use Rattle.proof_lines.specs.declared.forms.Form.{Form}
 use Rattle.proof_lines.specs.declared.forms.Form.TheVariants as form
@@ -31,28 +31,33 @@ keywords form.Mixed = codes "mixed" ∷ []
 keywords form.Weight = codes "weight" ∷ []
 keywords form.End = codes "end" ∷ []
 
--- how many words a line has
-abbrev pub width : Form → ℕ
-width form.Head = 3
-width form.PlanYes = 2
-width form.PlanNo = 2
-width form.Bare = 2
-width form.Sole = 1
-width form.Refuted = 1
-width form.Priced = 1
-width form.OpenNodes = 2
-width form.OpenPivots = 3
-width form.OpenGrew = 5
-width form.OpenLift = 4
-width form.Trim = 3
-width form.Split = 3
-width form.Scale = 2
-width form.Rent = 3
-width form.Charge = 4
-width form.At = 5
-width form.Mixed = 2
-width form.Weight = 4
-width form.End = 1
+-- how many words a line that tells a pair has up to and with the pair: its first word, the flight, the fleet, and where the
+-- tables have windows the shift
+abbrev pub pair_end : Bool → ℕ
+pair_end windows = if windows then 4 else 3
+
+-- how many words a line has, where the tables have windows or haven't
+abbrev pub width : Bool → Form → ℕ
+width windows form.Head = 3
+width windows form.PlanYes = 2
+width windows form.PlanNo = 2
+width windows form.Bare = 2
+width windows form.Sole = 1
+width windows form.Refuted = 1
+width windows form.Priced = 1
+width windows form.OpenNodes = 2
+width windows form.OpenPivots = 3
+width windows form.OpenGrew = 5
+width windows form.OpenLift = 4
+width windows form.Trim = pair_end windows
+width windows form.Split = pair_end windows
+width windows form.Scale = 2
+width windows form.Rent = 3
+width windows form.Charge = 4
+width windows form.At = 5
+width windows form.Mixed = 2
+width windows form.Weight = pair_end windows + 1
+width windows form.End = 1
 
 -- the words begin as those of a form
 abbrev pub opens : List Word → Form → Bool
@@ -73,10 +78,17 @@ all_forms =
 abbrev pub has_charges : Version → Bool
 has_charges version.One = false
 has_charges version.Two = true
+has_charges version.Three = true
 
 abbrev pub has_form : Version → Form → Bool
 has_form v form.Charge = has_charges v
 has_form v other = true
+
+-- a text of this version tells each pair with the shift of its leg
+abbrev pub has_shifts : Version → Bool
+has_shifts version.One = false
+has_shifts version.Two = false
+has_shifts version.Three = true
 
 -- a form that was found, where a text of this version may have lines of it
 abbrev pub of_version : Version → Option Form → Option Form

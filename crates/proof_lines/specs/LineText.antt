@@ -1,7 +1,7 @@
 -- The text of a line: its words.
-use Rattle.std.specs.Prelude.{ℕ, ◌<◌, ◌≤◌, ◌^◌, ⊤, List, [], ◌∷◌, ◌++◌}
+use Rattle.std.specs.Prelude.{ℕ, ◌<◌, ◌≤◌, ◌^◌, ⊤, nat_lt, Bool, true, false, if◌then◌else◌, List, [], ◌∷◌, ◌++◌, codes, ℤ, pos}
 use Rattle.std.specs.Fmt.{decimal, signed_decimal}
-use Rattle.fleet_model.specs.Schedule.{IsPair, days_in, fleet_by, fleet_of, fleets_in, last_of, leg_of, leg_on, legs_in, station_of, stations_in}
+use Rattle.fleet_model.specs.Schedule.{IsPair, days_in, fleet_by, fleet_of, fleets_in, last_of, leg_of, leg_on, legs_in, shift_by, station_of, stations_in}
 use Rattle.fleet_model.specs.declared.tables.Tables.{Tables}
 use Rattle.dual_bound.specs.WrittenOrder.{IsFigure}
 use Rattle.proof_lines.specs.Figures.{version_word}
@@ -10,28 +10,46 @@ use Rattle.proof_lines.specs.Words.{Word, joined, line_feed}
 use Rattle.proof_lines.specs.declared.line.Line.{Line}
 use Rattle.proof_lines.specs.declared.line.Line.TheVariants as line
 
--- the word of a leg, of a fleet, of a leg's choice, which is its fleet's, and of a station
+-- the word of a leg, of a fleet, and of a station
 abbrev pub leg_word : Tables → ℕ → Word
 leg_word t leg = (leg_of t leg).flight
 
 abbrev pub fleet_word : Tables → ℕ → Word
 fleet_word t fleet = (fleet_of t fleet).name
 
-abbrev pub choice_word : Tables → ℕ → ℕ → Word
-choice_word t leg choice = fleet_word t (fleet_by t (leg_on leg choice))
-
 abbrev pub station_word : Tables → ℕ → Word
 station_word t station = (station_of t station).code
+
+-- a fleet flies the leg by this choice
+abbrev pub is_flown : Tables → ℕ → ℕ → Bool
+is_flown t leg choice = nat_lt (fleet_by t (leg_on leg choice)) (fleets_in t)
+
+-- the word of what flies a leg by a choice: its fleet's, and `-` where the leg is left out
+abbrev pub flier_word : Tables → ℕ → ℕ → Word
+flier_word t leg choice = if is_flown t leg choice then fleet_word t (fleet_by t (leg_on leg choice)) else codes "-"
+
+-- by how many minutes the leg departs later than at its own time, and 0 where it is left out
+abbrev pub minutes_by : Tables → ℕ → ℕ → ℤ
+minutes_by t leg choice = if is_flown t leg choice then (shift_by t (leg_on leg choice)).minutes else pos 0
+
+-- the word of these minutes, where the tables have windows
+abbrev pub shift_words : Bool → Word → List Word
+shift_words true shift = shift ∷ []
+shift_words false shift = []
+
+-- the words of a pair
+abbrev pub pair_words : Tables → ℕ → ℕ → List Word
+pair_words t leg choice = leg_word t leg ∷ flier_word t leg choice ∷ shift_words t.windows (signed_decimal (minutes_by t leg choice))
 
 -- the words behind those with which a line begins: what it names, and then its figures
 abbrev pub names_of : Tables → Line → List Word
 names_of t (line.Bare leg) = leg_word t leg ∷ []
-names_of t (line.Trim leg choice) = leg_word t leg ∷ choice_word t leg choice ∷ []
-names_of t (line.Split leg choice) = leg_word t leg ∷ choice_word t leg choice ∷ []
+names_of t (line.Trim leg choice) = pair_words t leg choice
+names_of t (line.Split leg choice) = pair_words t leg choice
 names_of t (line.Rent fleet rent) = fleet_word t fleet ∷ []
 names_of t (line.Charge station day charge) = station_word t station ∷ []
 names_of t (line.At fleet station minute value) = fleet_word t fleet ∷ station_word t station ∷ []
-names_of t (line.Weight leg choice weight) = leg_word t leg ∷ choice_word t leg choice ∷ []
+names_of t (line.Weight leg choice weight) = pair_words t leg choice
 names_of t other = []
 
 abbrev pub figures_of : Line → List Word

@@ -1,8 +1,9 @@
 -- The line that bytes are, or its flaw of the least kind.
 use Rattle.std.specs.Prelude.{ℕ, ◌==◌, ◌&&◌, Bool, true, false, if◌then◌else◌, List, length, codes, Option, Some, None, Result, Ok, Err}
+use Rattle.fleet_model.specs.declared.parts.Pair.{Pair}
 use Rattle.proof_lines.specs.Figures.{count_in, day_in, minute_in, number_in, version_in}
 use Rattle.proof_lines.specs.Flaws.{both}
-use Rattle.proof_lines.specs.Forms.{form_in, width}
+use Rattle.proof_lines.specs.Forms.{form_in, pair_end, width}
 use Rattle.proof_lines.specs.Known.{Naming, fleet_in, leg_in, pair_in, station_in}
 use Rattle.proof_lines.specs.Words.{Word, is_plain, parts_of, stands, word_at, words_of}
 use Rattle.proof_lines.specs.declared.flaws.Flaw.{Flaw}
@@ -37,6 +38,10 @@ scale_in words = made (λ scale. line.Scale scale) (number_in (word_at words 1))
 abbrev pub mixed_in : List Word → Result Line Flaw
 mixed_in words = made (λ scale. line.Mixed scale) (number_in (word_at words 1))
 
+-- the pair that words tell, behind the first
+abbrev pub pair_at : Naming → List Word → Result Pair Flaw
+pair_at n words = pair_in n (word_at words 1) (word_at words 2) (word_at words 3)
+
 -- the line of a form by its words, of which there are as many as the form has
 unfoldable pub fields_in : Naming → Form → List Word → Result Line Flaw
 fields_in n form.Head words = head_in words
@@ -50,8 +55,8 @@ fields_in n form.OpenNodes words = Ok line.OpenNodes
 fields_in n form.OpenPivots words = pivots_in words
 fields_in n form.OpenGrew words = grew_in words
 fields_in n form.OpenLift words = lift_in words
-fields_in n form.Trim words = made (λ pair. line.Trim pair.leg pair.choice) (pair_in n (word_at words 1) (word_at words 2))
-fields_in n form.Split words = made (λ pair. line.Split pair.leg pair.choice) (pair_in n (word_at words 1) (word_at words 2))
+fields_in n form.Trim words = made (λ pair. line.Trim pair.leg pair.choice) (pair_at n words)
+fields_in n form.Split words = made (λ pair. line.Split pair.leg pair.choice) (pair_at n words)
 fields_in n form.Scale words = scale_in words
 fields_in n form.Rent words = made (λ entry. line.Rent entry.0 entry.1) (both (fleet_in n (word_at words 1)) (number_in (word_at words 2)))
 fields_in n form.Charge words =
@@ -61,13 +66,13 @@ fields_in n form.At words =
     (both (both (fleet_in n (word_at words 1)) (station_in n (word_at words 2))) (both (minute_in n.last (word_at words 3)) (number_in (word_at words 4))))
 fields_in n form.Mixed words = mixed_in words
 fields_in n form.Weight words =
-    made (λ entry. line.Weight entry.0.leg entry.0.choice entry.1) (both (pair_in n (word_at words 1) (word_at words 2)) (number_in (word_at words 3)))
+    made (λ entry. line.Weight entry.0.leg entry.0.choice entry.1) (both (pair_at n words) (number_in (word_at words (pair_end n.windows))))
 fields_in n form.End words = Ok line.End
 
 -- the line that words are, of a form that their first words say, where they stand as so many parts between spaces
 abbrev pub of_form : Naming → ℕ → List Word → Option Form → Result Line Flaw
 of_form n parts words None = Err flaw.Word
-of_form n parts words (Some form) = if (length words == parts) && (length words == width form) then fields_in n form words else Err flaw.Width
+of_form n parts words (Some form) = if (length words == parts) && (length words == width n.windows form) then fields_in n form words else Err flaw.Width
 
 -- the line that bytes without a line feed are
 unfoldable pub line_in : Naming → List ℕ → Result Line Flaw

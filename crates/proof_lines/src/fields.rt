@@ -1,16 +1,17 @@
 //! What stands behind the first words of a line, read. Of several flaws of a line the one of the least kind is told.
 ghost use Rattle.std.specs.Prelude.{◌≡◌};
 ghost use Rattle.proof_lines.specs.Known.{naming};
-ghost use Rattle.proof_lines.specs.Reading.{fields_in, grew_in, head_in, lift_in, mixed_in, pivots_in, scale_in};
+ghost use Rattle.proof_lines.specs.Reading.{fields_in, grew_in, head_in, lift_in, mixed_in, pair_at, pivots_in, scale_in};
 ghost use Rattle.proof_lines.specs.Words.{seen};
 ghost use Rattle.proof_lines.specs.declared.forms.Form.TheVariants as form;
 
 use crate::figures::{count, day, minute, number, version};
 use crate::flaws::{Flaw, both};
-use crate::forms::Form;
+use crate::forms::{Form, pair_end};
 use crate::grammar::Grammar;
 use crate::line::Line;
 use crate::words::word_at;
+use fleet_model::Pair;
 
 /// The line of a form by its words, of which there are as many as the form has. Takes no memory.
 #[tactic(auto, unfolding(crate::specs::Reading::fields_in))]
@@ -99,12 +100,19 @@ fn lift(words: &[&[u8]]) -> Result<Line, Flaw>
     }
 }
 
-/// `trim FLIGHT FLEET`.
+/// The pair that words tell, behind the first.
+fn pair_at(grammar: &Grammar<'_>, words: &[&[u8]]) -> Result<Pair, Flaw>
+    ensures { result ≡ pair_at (naming grammar.now) (seen words.now) }
+{
+    grammar.pair(word_at(words, 1), word_at(words, 2), word_at(words, 3))
+}
+
+/// `trim FLIGHT FLEET`, and SHIFT where the tables have windows.
 #[tactic(auto, unfolding(crate::specs::Reading::fields_in))]
 fn trim(grammar: &Grammar<'_>, words: &[&[u8]]) -> Result<Line, Flaw>
     ensures { result ≡ fields_in (naming grammar.now) form.Trim (seen words.now) }
 {
-    match grammar.pair(word_at(words, 1), word_at(words, 2)) {
+    match pair_at(grammar, words) {
         Ok(pair) => Ok(Line::Trim {
             leg: pair.leg,
             choice: pair.choice,
@@ -113,12 +121,12 @@ fn trim(grammar: &Grammar<'_>, words: &[&[u8]]) -> Result<Line, Flaw>
     }
 }
 
-/// `split FLIGHT FLEET`.
+/// `split FLIGHT FLEET`, and SHIFT where the tables have windows.
 #[tactic(auto, unfolding(crate::specs::Reading::fields_in))]
 fn split(grammar: &Grammar<'_>, words: &[&[u8]]) -> Result<Line, Flaw>
     ensures { result ≡ fields_in (naming grammar.now) form.Split (seen words.now) }
 {
-    match grammar.pair(word_at(words, 1), word_at(words, 2)) {
+    match pair_at(grammar, words) {
         Ok(pair) => Ok(Line::Split {
             leg: pair.leg,
             choice: pair.choice,
@@ -204,14 +212,14 @@ fn mixed(words: &[&[u8]]) -> Result<Line, Flaw>
     }
 }
 
-/// `weight FLIGHT FLEET W`.
+/// `weight FLIGHT FLEET W`, and SHIFT before W where the tables have windows.
 #[tactic(auto, unfolding(crate::specs::Reading::fields_in))]
 fn weight(grammar: &Grammar<'_>, words: &[&[u8]]) -> Result<Line, Flaw>
     ensures { result ≡ fields_in (naming grammar.now) form.Weight (seen words.now) }
 {
     match both(
-        grammar.pair(word_at(words, 1), word_at(words, 2)),
-        number(word_at(words, 3)),
+        pair_at(grammar, words),
+        number(word_at(words, pair_end(grammar.tables.windows))),
     ) {
         Ok((pair, weight)) => Ok(Line::Weight {
             leg: pair.leg,

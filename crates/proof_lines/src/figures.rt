@@ -16,6 +16,8 @@ pub fn version(word: &[u8]) -> Result<Version, Flaw>
         Ok(Version::One)
     } else if word == b"2".as_slice() {
         Ok(Version::Two)
+    } else if word == b"3".as_slice() {
+        Ok(Version::Three)
     } else {
         Err(Flaw::Number)
     }

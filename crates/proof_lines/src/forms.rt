@@ -1,6 +1,6 @@
 //! The forms of lines, told by the words with which they begin.
-ghost use Rattle.std.specs.Prelude.{◌≡◌};
-ghost use Rattle.proof_lines.specs.Forms.{all_forms, first_form, form_in, keywords, opens, width};
+ghost use Rattle.std.specs.Prelude.{◌≡◌, ◌≤◌};
+ghost use Rattle.proof_lines.specs.Forms.{all_forms, first_form, form_in, keywords, opens, pair_end, width};
 ghost use Rattle.proof_lines.specs.Words.{seen, stands, word_at};
 
 use crate::line::Version;
@@ -72,9 +72,9 @@ impl Form {
         }
     }
 
-    /// How many words a line has.
-    pub fn width(self) -> usize
-        ensures { result ≡ width self }
+    /// How many words a line has, where tables have windows or haven't.
+    pub fn width(self, windows: bool) -> usize
+        ensures { result ≡ width windows self }
     {
         match self {
             Form::Sole | Form::Refuted | Form::Priced | Form::End => 1,
@@ -84,11 +84,21 @@ impl Form {
             | Form::OpenNodes
             | Form::Scale
             | Form::Mixed => 2,
-            Form::Head | Form::OpenPivots | Form::Trim | Form::Split | Form::Rent => 3,
-            Form::OpenLift | Form::Charge | Form::Weight => 4,
+            Form::Head | Form::OpenPivots | Form::Rent => 3,
+            Form::Trim | Form::Split => pair_end(windows),
+            Form::OpenLift | Form::Charge => 4,
+            Form::Weight => pair_end(windows) + 1,
             Form::OpenGrew | Form::At => 5,
         }
     }
+}
+
+/// How many words a line that tells a pair has up to and with the pair, where tables have windows or haven't.
+pub fn pair_end(windows: bool) -> usize
+    ensures value { result ≡ pair_end windows }
+    ensures few { result ≤ 4 }
+{
+    if windows { 4 } else { 3 }
 }
 
 /// The form that the first words of a line say, where they begin one of this version. Takes no memory.

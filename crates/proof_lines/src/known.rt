@@ -1,8 +1,11 @@
 //! The names of tables, found by their bytes, and the pairs that they tell.
-ghost use Rattle.std.specs.Prelude.{◌≡◌, ◌<◌, ◌^◌, length, IfOk};
+ghost use Rattle.std.specs.Prelude.{◌≡◌, ◌<◌, ◌^◌, length, IfOk, IfSome};
 ghost use Rattle.fleet_model.specs.Schedule.{days_in, fleets_in, last_of, legs_in, stations_in};
-ghost use Rattle.proof_lines.specs.Known.{codes_of, fleet_in, fleet_names, flights_of, leg_in, names_in, naming, pair_in, station_in};
+ghost use Rattle.proof_lines.specs.Choices.{choice_told};
+ghost use Rattle.proof_lines.specs.Known.{codes_of, fleet_in, fleet_names, flier_in, flights_of, leg_in, minutes_in, named, names_in, naming, pair_in, paired, station_in};
 
+use crate::choices::choice_told;
+use crate::figures::number;
 use crate::flaws::{Flaw, both};
 use crate::grammar::Grammar;
 use crate::line::Version;
@@ -64,13 +67,54 @@ impl<'a> Grammar<'a> {
         }
     }
 
-    /// The pair by which a fleet flies a leg, told by the leg's flight and the fleet's name. Takes no memory.
-    pub fn pair(&self, flight: &[u8], name: &[u8]) -> Result<Pair, Flaw>
-        ensures { result ≡ pair_in (naming self.now) flight.now name.now }
+    /// What flies a leg, told by a fleet's name, and none by `-` where legs may be left out. Takes no memory.
+    fn flier(&self, name: &[u8]) -> Result<Option<u32>, Flaw>
+        ensures value { result ≡ flier_in (naming self.now) name.now }
+        ensures known { IfOk result (λ flier. IfSome flier (λ fleet. fleet < fleets_in self.now.tables.now)) }
     {
-        match both(self.leg(flight), self.fleet(name)) {
-            Ok((leg, fleet)) => Ok(self.tables.own_pair(leg, fleet)),
+        if self.tables.optional && name == b"-".as_slice() {
+            return Ok(None);
+        }
+        match self.fleet(name) {
+            Ok(fleet) => Ok(Some(fleet)),
             Err(flaw) => Err(flaw),
+        }
+    }
+
+    /// By how many minutes a leg departs later than at its own time, told where the tables have windows. Takes no memory.
+    fn minutes(&self, shift: &[u8]) -> Result<i128, Flaw>
+        ensures { result ≡ minutes_in self.now.tables.now.windows shift.now }
+    {
+        if self.tables.windows {
+            number(shift)
+        } else {
+            Ok(0)
+        }
+    }
+
+    /// The pair that is told by the leg's flight, the fleet's name or `-`, and where the tables have windows the shift. Takes no
+    /// memory.
+    pub fn pair(&self, flight: &[u8], name: &[u8], shift: &[u8]) -> Result<Pair, Flaw>
+        ensures { result ≡ pair_in (naming self.now) flight.now name.now shift.now }
+    {
+        match both(
+            both(self.leg(flight), self.flier(name)),
+            self.minutes(shift),
+        ) {
+            Ok(((leg, flier), minutes)) => self.paired(leg, flier, &minutes),
+            Err(flaw) => Err(flaw),
+        }
+    }
+
+    /// The pair of a leg, what flies it, and its minutes. Takes no memory.
+    fn paired(&self, leg: u32, flier: Option<u32>, minutes: &i128) -> Result<Pair, Flaw>
+        requires leg { leg < legs_in self.now.tables.now }
+        requires flier { IfSome flier (λ fleet. fleet < fleets_in self.now.tables.now) }
+        ensures { result ≡ paired leg (named (choice_told self.now.tables.now leg flier minutes.now)) }
+    {
+        match choice_told(self.tables, leg, flier, minutes) {
+            Some(choice) => Ok(Pair { leg, choice }),
+            None => Err(Flaw::Name),
         }
     }
 

@@ -42,6 +42,7 @@ pub fn kinds_in_numbers()
 pub fn lines_in_letters()
     ensures head { (t : Tables) → line_bytes t (line.Head version.One) ≡ codes "fleet proof 1" }
     ensures head_of_charges { (t : Tables) → line_bytes t (line.Head version.Two) ≡ codes "fleet proof 2" }
+    ensures head_of_shifts { (t : Tables) → line_bytes t (line.Head version.Three) ≡ codes "fleet proof 3" }
     ensures plan { (t : Tables) → line_bytes t (line.Plan true) ≡ codes "plan yes" }
     ensures no_plan { (t : Tables) → line_bytes t (line.Plan false) ≡ codes "plan no" }
     ensures sole { (t : Tables) → line_bytes t line.Sole ≡ codes "sole" }

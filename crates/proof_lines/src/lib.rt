@@ -1,6 +1,7 @@
 //! The lines of the text of a proof: what a line says, its words, and the line that words are.
 #![tactic(auto)]
 
+pub mod choices;
 pub mod fields;
 pub mod figures;
 pub mod flaws;

@@ -10,6 +10,8 @@ pub enum Version {
     One,
     /// `2`: with charges.
     Two,
+    /// `3`: with charges, and each pair with the shift of its leg.
+    Three,
 }
 
 impl Version {
@@ -18,7 +20,7 @@ impl Version {
         ensures { result ≡ has_form self form }
     {
         match form {
-            Form::Charge => matches!(self, Version::Two),
+            Form::Charge => matches!(self, Version::Two | Version::Three),
             _ => true,
         }
     }
@@ -60,12 +62,12 @@ pub enum Line {
         step: u64,
         at: u64,
     },
-    /// `trim FLIGHT FLEET`: a pair is set aside.
+    /// `trim FLIGHT FLEET`, and where the tables have windows SHIFT behind it: a pair is set aside.
     Trim {
         leg: u32,
         choice: u32,
     },
-    /// `split FLIGHT FLEET`: the subproblem is split by a pair.
+    /// `split FLIGHT FLEET`, and SHIFT as in a trim: the subproblem is split by a pair.
     Split {
         leg: u32,
         choice: u32,
@@ -96,7 +98,7 @@ pub enum Line {
     Mixed {
         scale: i128,
     },
-    /// `weight FLIGHT FLEET W`: the weight of a pair.
+    /// `weight FLIGHT FLEET W`, and SHIFT before W as in a trim: the weight of a pair.
     Weight {
         leg: u32,
         choice: u32,

@@ -58,7 +58,7 @@ fn of_form(
     match form {
         None => Err(Flaw::Word),
         Some(form) => {
-            if words.len() == parts && words.len() == form.width() {
+            if words.len() == parts && words.len() == form.width(grammar.tables.windows) {
                 fields(grammar, form, words)
             } else {
                 Err(Flaw::Width)

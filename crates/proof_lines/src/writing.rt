@@ -3,7 +3,7 @@ ghost use Rattle.std.specs.Prelude.{◌≡◌, ◌++◌, ◌∷◌, ◌<◌, OnO
 ghost use Rattle.std.specs.Fmt.{decimal, signed_decimal};
 ghost use Rattle.fleet_model.specs.Schedule.{IsPair, fleet_of, fleets_in, leg_of, leg_on, legs_in, station_of, stations_in};
 ghost use Rattle.proof_lines.specs.Forms.{form_of, keywords};
-ghost use Rattle.proof_lines.specs.LineText.{IsNamed, choice_word, fields_of, figures_of, fleet_word, leg_word, names_of, station_word, text_of};
+ghost use Rattle.proof_lines.specs.LineText.{IsNamed, fields_of, figures_of, fleet_word, flier_word, minutes_by, names_of, pair_words, shift_words, station_word, text_of};
 ghost use Rattle.proof_lines.specs.Words.{joined, spaced, spaced_words};
 ghost use Rattle.proof_lines.specs.declared.line.Line.TheVariants as line;
 
@@ -60,12 +60,17 @@ fn push_fields(
     requires { IsNamed tables.now line.now }
     ensures { OnOk result (text.new.items ≡ text.old.items ++ spaced_words (fields_of tables.now line.now)) }
 {
-    push_names(text, tables, line)?;
+    push_names(alloc, text, tables, line)?;
     push_figures(alloc, text, line)
 }
 
 /// Appends what a line names.
-fn push_names(text: &mut Vec<u8>, tables: &Tables, line: &Line) -> Result<(), NoMemory>
+fn push_names(
+    alloc: Global,
+    text: &mut Vec<u8>,
+    tables: &Tables,
+    line: &Line,
+) -> Result<(), NoMemory>
     requires { IsNamed tables.now line.now }
     ensures { OnOk result (text.new.items ≡ text.old.items ++ spaced_words (names_of tables.now line.now)) }
 {
@@ -73,7 +78,7 @@ fn push_names(text: &mut Vec<u8>, tables: &Tables, line: &Line) -> Result<(), No
         Line::Bare { leg } => push_word(text, tables.leg(*leg).flight.as_slice()),
         Line::Trim { leg, choice }
         | Line::Split { leg, choice }
-        | Line::Weight { leg, choice, .. } => push_pair(text, tables, *leg, *choice),
+        | Line::Weight { leg, choice, .. } => push_pair(alloc, text, tables, *leg, *choice),
         Line::Rent { fleet, .. } => push_word(text, tables.fleet(*fleet).name.as_slice()),
         Line::Charge { station, .. } => {
             push_word(text, tables.station(*station).code.as_slice())
@@ -90,6 +95,7 @@ fn push_figures(alloc: Global, text: &mut Vec<u8>, line: &Line) -> Result<(), No
     match line {
         Line::Head(Version::One) => push_word(text, b"1"),
         Line::Head(Version::Two) => push_word(text, b"2"),
+        Line::Head(Version::Three) => push_word(text, b"3"),
         Line::OpenPivots { made } => push_count(alloc, text, *made),
         Line::OpenGrew {
             pivots,
@@ -119,14 +125,64 @@ fn push_figures(alloc: Global, text: &mut Vec<u8>, line: &Line) -> Result<(), No
     }
 }
 
-/// Appends the flight of a leg and the fleet of one of its choices.
-fn push_pair(text: &mut Vec<u8>, tables: &Tables, leg: u32, choice: u32) -> Result<(), NoMemory>
+/// Appends the words of a pair.
+fn push_pair(
+    alloc: Global,
+    text: &mut Vec<u8>,
+    tables: &Tables,
+    leg: u32,
+    choice: u32,
+) -> Result<(), NoMemory>
     requires { IsPair tables.now (leg_on leg choice) }
-    ensures { OnOk result (text.new.items ≡ text.old.items ++ spaced (leg_word tables.now leg) ++ spaced (choice_word tables.now leg choice)) }
+    ensures { OnOk result (text.new.items ≡ text.old.items ++ spaced_words (pair_words tables.now leg choice)) }
+{
+    push_word(text, tables.leg(leg).flight.as_slice())?;
+    push_flier(text, tables, leg, choice)?;
+    push_shift(alloc, text, tables, leg, choice)
+}
+
+/// Appends the name of the fleet that flies a leg by this choice, and `-` where the leg is left out.
+fn push_flier(text: &mut Vec<u8>, tables: &Tables, leg: u32, choice: u32) -> Result<(), NoMemory>
+    requires { IsPair tables.now (leg_on leg choice) }
+    ensures { OnOk result (text.new.items ≡ text.old.items ++ spaced (flier_word tables.now leg choice)) }
 {
     let fleet = tables.fleet_by(Pair { leg, choice });
-    push_word(text, tables.leg(leg).flight.as_slice())?;
-    push_word(text, tables.fleet(fleet).name.as_slice())
+    if fleet < tables.fleet_count() {
+        push_word(text, tables.fleet(fleet).name.as_slice())
+    } else {
+        push_word(text, b"-")
+    }
+}
+
+/// Appends the minutes by which the leg departs later than at its own time, where the tables have windows.
+fn push_shift(
+    alloc: Global,
+    text: &mut Vec<u8>,
+    tables: &Tables,
+    leg: u32,
+    choice: u32,
+) -> Result<(), NoMemory>
+    requires { IsPair tables.now (leg_on leg choice) }
+    ensures { OnOk result (text.new.items ≡ text.old.items ++ spaced_words (shift_words tables.now.windows (signed_decimal (minutes_by tables.now leg choice)))) }
+{
+    if tables.windows {
+        push_number(alloc, text, minutes_by(tables, leg, choice))
+    } else {
+        Ok(())
+    }
+}
+
+/// By how many minutes the leg departs later than at its own time, and 0 where it is left out.
+fn minutes_by(tables: &Tables, leg: u32, choice: u32) -> i128
+    requires { IsPair tables.now (leg_on leg choice) }
+    ensures { result ≡ minutes_by tables.now leg choice }
+{
+    let pair = Pair { leg, choice };
+    if tables.fleet_by(pair) < tables.fleet_count() {
+        i128::from(tables.shift_by(pair).minutes)
+    } else {
+        0
+    }
 }
 
 /// Appends a fleet and a station.

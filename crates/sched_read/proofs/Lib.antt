@@ -4,5 +4,5 @@ pub mod OtherSettings
 pub mod ReadEnds
 pub mod ReadLaws
 pub mod Refused
-pub mod TablesSame
+pub mod TablesFit
 pub mod ThroughsFit

@@ -24,6 +24,9 @@ with_settings t settings fit as_long = record {
   costs = t.costs;
   throughs = t.throughs;
   settings = settings;
+  departures = t.departures;
+  windows = t.windows;
+  optional = t.optional;
   in_range = record {
     stations_fit = t.in_range.stations_fit;
     fleets_fit = t.in_range.fleets_fit;
@@ -31,6 +34,10 @@ with_settings t settings fit as_long = record {
     costs_fit = t.in_range.costs_fit;
     throughs_fit = t.in_range.throughs_fit;
     settings_fit = fit;
+    departures_fit = t.in_range.departures_fit;
+    few_triples = t.in_range.few_triples;
+    moved_where_asked = t.in_range.moved_where_asked;
+    left_out_where_asked = t.in_range.left_out_where_asked;
   };
 }
 
@@ -59,6 +66,8 @@ module _ (bytes : TableBytes) (a b : Settings) (same : a.day_start ≡ b.day_sta
     costs = reads.costs;
     throughs = reads.throughs;
     settings_are = refl;
+    no_windows = reads.no_windows;
+    none_optional = reads.none_optional;
   }
 
   read_legs : (s : List Station) (f : List Fleet) (l : List Leg) → ReadLegs bytes a s f l → ReadLegs bytes b s f l
@@ -83,4 +92,6 @@ module _ (bytes : TableBytes) (a b : Settings) (same : a.day_start ≡ b.day_sta
   bad_by_day file.Legs row kind (s, f, before, bad) = (s, f, before, legs_bad a b same as_long (map code_of s) (records_of bytes.legs) row kind bad)
   bad_by_day file.Costs row kind (s, f, l, before, bad) = (s, f, l, read_legs s f l before, bad)
   bad_by_day file.Throughs row kind (s, f, l, c, before, bad) = (s, f, l, c, read_costs s f l c before, bad)
+  bad_by_day file.Windows row kind bad = bad
+  bad_by_day file.Optional row kind bad = bad
   bad_by_day file.Tails row kind bad = bad

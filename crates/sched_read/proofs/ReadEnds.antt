@@ -1,7 +1,8 @@
 -- Five files read as tables, or they have a first fault.
-use Rattle.std.proofs.Common.{◌==◌, ◌⊎◌, ℕ, true, List, [], ◌∷◌, map, refl, inl, inr}
+use Rattle.std.proofs.Common.{◌==◌, ◌⊎◌, ℕ, true, false, List, [], ◌∷◌, map, refl, inl, inr}
 use Rattle.csv_fields.specs.Record.{records_of}
 use Rattle.fleet_model.specs.Limits.{AreSettings}
+use Rattle.fleet_model.specs.Windows.{departures_of}
 use Rattle.fleet_model.specs.declared.parts.Fleet.{Fleet}
 use Rattle.fleet_model.specs.declared.parts.Leg.{Leg}
 use Rattle.fleet_model.specs.declared.parts.PairCost.{PairCost}
@@ -17,7 +18,8 @@ use Rattle.sched_read.specs.Laws.{HaveFirstFault, ReadAsTables}
 use Rattle.sched_read.specs.Legs.{flight_of, leg_headers, leg_read}
 use Rattle.sched_read.specs.Reading.{ReadCosts, TableBytes}
 use Rattle.sched_read.specs.Throughs.{ThroughsBad, ThroughsRead, connection_of, through_header, through_read}
-use Rattle.sched_read.proofs.LegsFit.{headers_differ, legs_keep}
+use Rattle.sched_read.proofs.LegsFit.{headers_differ, legs_keep, legs_plain}
+use Rattle.sched_read.proofs.TablesFit.{tables_fit}
 use Rattle.sched_read.proofs.ThroughsFit.{throughs_keep}
 use Rattle.station_table.specs.Stations.{code_of, station_headers, station_read}
 use Rattle.station_table.proofs.StationsFit.{stations_differ, stations_keep}
@@ -45,16 +47,16 @@ tables_of bytes settings fit s f l c h reads throughs = record {
     costs = c;
     throughs = h;
     settings = settings;
-    in_range = record {
-      stations_fit = stations_keep (records_of bytes.stations) s reads.stations;
-      fleets_fit = fleets_keep (records_of bytes.fleets) f reads.fleets;
-      legs_fit = legs_keep s settings (records_of bytes.legs) l reads.legs;
-      costs_fit = costs_keep l f (records_of bytes.costs) c reads.costs;
-      throughs_fit = throughs_keep l bytes.throughs h throughs;
-      settings_fit = fit;
-    };
+    departures = departures_of l;
+    windows = false;
+    optional = false;
+    in_range =
+        tables_fit s f l c h settings (departures_of l)
+        (stations_keep (records_of bytes.stations) s reads.stations) (fleets_keep (records_of bytes.fleets) f reads.fleets) (legs_keep s settings (records_of bytes.legs) l reads.legs)
+        (costs_keep l f (records_of bytes.costs) c reads.costs) (throughs_keep l bytes.throughs h throughs) fit
+        refl (legs_plain (map code_of s) settings (records_of bytes.legs) l reads.legs);
   };
-  reads = record { stations = reads.stations; fleets = reads.fleets; legs = reads.legs; costs = reads.costs; throughs = throughs; settings_are = refl };
+  reads = record { stations = reads.stations; fleets = reads.fleets; legs = reads.legs; costs = reads.costs; throughs = throughs; settings_are = refl; no_windows = refl; none_optional = refl };
 }
 
 pub read_or_fault : (bytes : TableBytes) (settings : Settings) → AreSettings settings → End bytes settings

@@ -2,6 +2,7 @@
 use Rattle.std.proofs.Common.{◌≡◌, ◌==◌, ℕ, true, List, [], map, refl, sym, ap, subst, ◌∙◌, inl, inr}
 use Rattle.csv_fields.proofs.NoBytes.{no_bytes_no_record}
 use Rattle.csv_fields.specs.Record.{records_of}
+use Rattle.fleet_model.proofs.TablesSame.{tables_same}
 use Rattle.fleet_model.specs.declared.parts.Fleet.{Fleet}
 use Rattle.fleet_model.specs.declared.parts.Leg.{Leg}
 use Rattle.fleet_model.specs.declared.parts.PairCost.{PairCost}
@@ -18,7 +19,6 @@ use Rattle.sched_read.specs.Legs.{LegsBad, LegsRead, flight_of, leg_headers, leg
 use Rattle.sched_read.specs.Reading.{BadAt, ReadCosts, ReadFleets, ReadLegs, Reads, TableBytes}
 use Rattle.sched_read.specs.Throughs.{ThroughTableBad, ThroughTableReads, ThroughsBad, ThroughsRead, connection_of, through_header, through_read}
 use Rattle.sched_read.proofs.LegsFit.{headers_differ}
-use Rattle.sched_read.proofs.TablesSame.{tables_same}
 use Rattle.station_table.specs.Stations.{StationsBad, StationsRead, code_of, station_headers, station_read}
 use Rattle.station_table.proofs.StationsFit.{stations_differ}
 use Rattle.table_rows.proofs.FormReading.{form_bad_same, form_reads_no_fault, form_reads_same}
@@ -101,6 +101,8 @@ reads_no_fault bytes settings t file.Costs row kind reads (s, f, l, before, bad)
     (fleets_same bytes t.fleets f reads.fleets before.fleets) reads.costs bad
 reads_no_fault bytes settings t file.Throughs row kind reads (s, f, l, c, before, bad) =
     throughs_sound bytes t.legs l t.throughs row kind (legs_same bytes settings t.stations s t.legs l (stations_same bytes t.stations s reads.stations before.stations) reads.legs before.legs) reads.throughs bad
+reads_no_fault bytes settings t file.Windows row kind reads bad = bad
+reads_no_fault bytes settings t file.Optional row kind reads bad = bad
 reads_no_fault bytes settings t file.Tails row kind reads bad = bad
 
 -- files read as one set of tables at most
@@ -111,7 +113,7 @@ one_reading bytes settings a b reads_a reads_b =
     let legs = legs_same bytes settings a.stations b.stations a.legs b.legs stations reads_a.legs reads_b.legs in
     let costs = costs_same bytes a.legs b.legs a.fleets b.fleets a.costs b.costs legs fleets reads_a.costs reads_b.costs in
     let throughs = throughs_same bytes a.legs b.legs a.throughs b.throughs legs reads_a.throughs reads_b.throughs in
-    tables_same a b stations fleets legs costs throughs (reads_a.settings_are ∙ sym reads_b.settings_are)
+    tables_same a b stations fleets legs costs throughs (reads_a.settings_are ∙ sym reads_b.settings_are) (reads_a.no_windows ∙ sym reads_b.no_windows) (reads_a.none_optional ∙ sym reads_b.none_optional)
 
 -- two first faults of one file
 same_fault : (at : TableFile) (row other kind other_kind : ℕ) → (row ≡ other) × (kind ≡ other_kind) → SameFault at at row other kind other_kind
@@ -126,6 +128,8 @@ stations_first bytes settings file.Fleets row other kind other_kind bad (s, read
 stations_first bytes settings file.Legs row other kind other_kind bad (s, f, before, found) = absurd (stations_sound bytes s row kind before.stations bad)
 stations_first bytes settings file.Costs row other kind other_kind bad (s, f, l, before, found) = absurd (stations_sound bytes s row kind before.stations bad)
 stations_first bytes settings file.Throughs row other kind other_kind bad (s, f, l, c, before, found) = absurd (stations_sound bytes s row kind before.stations bad)
+stations_first bytes settings file.Windows row other kind other_kind bad found = absurd found
+stations_first bytes settings file.Optional row other kind other_kind bad found = absurd found
 stations_first bytes settings file.Tails row other kind other_kind bad found = absurd found
 
 fleets_first : (bytes : TableBytes) (settings : Settings) (at : TableFile) (row other kind other_kind : ℕ) (s : List Station) → StationsRead (records_of bytes.stations) s
@@ -136,6 +140,8 @@ fleets_first bytes settings file.Fleets row other kind other_kind s reads bad (z
 fleets_first bytes settings file.Legs row other kind other_kind s reads bad (z, f, before, found) = absurd (fleets_sound bytes f row kind before.fleets bad)
 fleets_first bytes settings file.Costs row other kind other_kind s reads bad (z, f, l, before, found) = absurd (fleets_sound bytes f row kind before.fleets bad)
 fleets_first bytes settings file.Throughs row other kind other_kind s reads bad (z, f, l, c, before, found) = absurd (fleets_sound bytes f row kind before.fleets bad)
+fleets_first bytes settings file.Windows row other kind other_kind s reads bad found = absurd found
+fleets_first bytes settings file.Optional row other kind other_kind s reads bad found = absurd found
 fleets_first bytes settings file.Tails row other kind other_kind s reads bad found = absurd found
 
 legs_first : (bytes : TableBytes) (settings : Settings) (at : TableFile) (row other kind other_kind : ℕ) (s : List Station) (f : List Fleet) → ReadFleets bytes s f
@@ -149,6 +155,8 @@ legs_first bytes settings file.Costs row other kind other_kind s f reads bad (z,
     absurd (legs_sound bytes settings z s l row kind (stations_same bytes z s before.stations reads.stations) before.legs bad)
 legs_first bytes settings file.Throughs row other kind other_kind s f reads bad (z, g, l, c, before, found) =
     absurd (legs_sound bytes settings z s l row kind (stations_same bytes z s before.stations reads.stations) before.legs bad)
+legs_first bytes settings file.Windows row other kind other_kind s f reads bad found = absurd found
+legs_first bytes settings file.Optional row other kind other_kind s f reads bad found = absurd found
 legs_first bytes settings file.Tails row other kind other_kind s f reads bad found = absurd found
 
 costs_first : (bytes : TableBytes) (settings : Settings) (at : TableFile) (row other kind other_kind : ℕ) (s : List Station) (f : List Fleet) (l : List Leg) → ReadLegs bytes settings s f l
@@ -165,6 +173,8 @@ costs_first bytes settings file.Costs row other kind other_kind s f l reads bad 
 costs_first bytes settings file.Throughs row other kind other_kind s f l reads bad (z, g, m, c, before, found) =
     let legs = legs_same bytes settings z s m l (stations_same bytes z s before.stations reads.stations) before.legs reads.legs in
     absurd (costs_sound bytes m l g f c row kind legs (fleets_same bytes g f before.fleets reads.fleets) before.costs bad)
+costs_first bytes settings file.Windows row other kind other_kind s f l reads bad found = absurd found
+costs_first bytes settings file.Optional row other kind other_kind s f l reads bad found = absurd found
 costs_first bytes settings file.Tails row other kind other_kind s f l reads bad found = absurd found
 
 throughs_first : (bytes : TableBytes) (settings : Settings) (at : TableFile) (row other kind other_kind : ℕ) (s : List Station) (f : List Fleet) (l : List Leg) (c : List PairCost) → ReadCosts bytes settings s f l c
@@ -180,6 +190,8 @@ throughs_first bytes settings file.Throughs row other kind other_kind s f l c re
     let legs = legs_same bytes settings s z l m (stations_same bytes s z reads.stations before.stations) reads.legs before.legs in
     same_fault file.Throughs row other kind other_kind (table_bad_same connection_of (through_read (map flight_of m)) through_header (records_of bytes.throughs) row other kind other_kind
     (subst (λ k. ThroughTableBad (map flight_of k) (records_of bytes.throughs) row kind) legs bad.1) found.1)
+throughs_first bytes settings file.Windows row other kind other_kind s f l c reads bad found = absurd found
+throughs_first bytes settings file.Optional row other kind other_kind s f l c reads bad found = absurd found
 throughs_first bytes settings file.Tails row other kind other_kind s f l c reads bad found = absurd found
 
 pub one_first_fault : (bytes : TableBytes) (settings : Settings) (at again : TableFile) (row other kind other_kind : ℕ) → BadAt bytes settings at row kind → BadAt bytes settings again other other_kind
@@ -189,4 +201,6 @@ one_first_fault bytes settings file.Fleets again row other kind other_kind (s, r
 one_first_fault bytes settings file.Legs again row other kind other_kind (s, f, reads, bad) found = legs_first bytes settings again row other kind other_kind s f reads bad found
 one_first_fault bytes settings file.Costs again row other kind other_kind (s, f, l, reads, bad) found = costs_first bytes settings again row other kind other_kind s f l reads bad found
 one_first_fault bytes settings file.Throughs again row other kind other_kind (s, f, l, c, reads, bad) found = throughs_first bytes settings again row other kind other_kind s f l c reads bad found
+one_first_fault bytes settings file.Windows again row other kind other_kind bad found = absurd bad
+one_first_fault bytes settings file.Optional again row other kind other_kind bad found = absurd bad
 one_first_fault bytes settings file.Tails again row other kind other_kind bad found = absurd bad

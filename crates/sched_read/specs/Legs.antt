@@ -7,7 +7,9 @@ use Rattle.csv_fields.specs.Name.{name_of, station_code_of}
 use Rattle.csv_fields.specs.Number.{whole_of}
 use Rattle.csv_fields.specs.Time.{clock_time_of}
 use Rattle.fleet_model.specs.declared.limits.TheConstants.{MAX_LEGS, MINUTES_PER_DAY}
+use Rattle.fleet_model.specs.Limits.{FlyOnce, NoneLeftOut}
 use Rattle.fleet_model.specs.Period.{minutes_of}
+use Rattle.fleet_model.specs.Windows.{own_shift}
 use Rattle.fleet_model.specs.declared.parts.Leg.{Leg}
 use Rattle.fleet_model.specs.declared.parts.Settings.{Settings}
 use Rattle.fleet_model.specs.declared.refusals.TheConstants.{DUPLICATE, NOT_TEXT, TOO_MANY, TO_ITSELF, UNKNOWN_STATION, ZERO_BLOCK}
@@ -61,6 +63,10 @@ from_period_start settings day minute = ((day - 1) * MINUTES_PER_DAY + minute + 
 abbrev pub from_day_start : Settings → ℕ → ℕ
 from_day_start settings minute = (minute + MINUTES_PER_DAY - settings.day_start) % MINUTES_PER_DAY
 
+-- a leg that has its own time alone and must be flown, from one station to another
+abbrev pub leg_between : List ℕ → ℕ → ℕ → ℕ → ℕ → Leg
+leg_between flight from to dep block = record { flight = flight; from = from; dep = dep; to = to; block = block; shifts = own_shift dep ∷ []; skip = None }
+
 -- A record of either form read as a leg, by the codes of the stations, below legs with these flights, or the least kind
 -- of its faults.
 unfoldable pub leg_read : List (List ℕ) → Settings → Form → List (List ℕ) → Fields → Result Leg ℕ
@@ -79,7 +85,7 @@ leg_read stations settings found earlier fields =
     refused_where (block_between leaves lands == 0) ZERO_BLOCK
     (refused_where (a == b) TO_ITSELF
     (refused_where (nat_le MAX_LEGS (length earlier)) TOO_MANY
-    (Ok (record { flight = flight; from = a; dep = from_period_start settings on leaves; to = b; block = block_between leaves lands })))))))))))))))
+    (Ok (leg_between flight a b (from_period_start settings on leaves) (block_between leaves lands))))))))))))))))
 
 -- the records of a file are a header, which may be the old one where the period has one day, and these legs
 abbrev pub LegsRead : List (List ℕ) → Settings → List Fields → List Leg → Type 0
@@ -88,3 +94,8 @@ LegsRead stations settings = FormReads flight_of (leg_read stations settings) le
 -- the first fault of a file of legs
 abbrev pub LegsBad : List (List ℕ) → Settings → List Fields → ℕ → ℕ → Type 0
 LegsBad stations settings = FormBad flight_of (leg_read stations settings) leg_headers (settings.period == 1)
+
+-- legs that have their own times alone, none of which may be left out
+pub record ArePlain (legs : List Leg) : Type 0 where
+  pub once : FlyOnce legs
+  pub flown : NoneLeftOut legs

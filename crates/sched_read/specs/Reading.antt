@@ -1,5 +1,5 @@
 -- Which tables five files read as, and their first fault.
-use Rattle.std.specs.Prelude.{◌≡◌, ℕ, List, map, ⊤}
+use Rattle.std.specs.Prelude.{◌≡◌, ℕ, List, map, false, ⊤}
 use Rattle.csv_fields.specs.Record.{records_of}
 use Rattle.fleet_model.specs.declared.parts.Fleet.{Fleet}
 use Rattle.fleet_model.specs.declared.parts.Leg.{Leg}
@@ -43,7 +43,8 @@ pub record ReadCosts (bytes : TableBytes) (settings : Settings) (s : List Statio
   pub legs : LegsRead (map code_of s) settings (records_of bytes.legs) l
   pub costs : CostsRead (map flight_of l) (map fleet_name_of f) (records_of bytes.costs) c
 
--- the five files read as these tables, by these settings
+-- The five files read as these tables, by these settings: each leg has its own time alone and must be flown, since other files
+-- say of further times and of legs that may be left out.
 pub record Reads (bytes : TableBytes) (settings : Settings) (t : Tables) : Type 0 where
   pub stations : StationsRead (records_of bytes.stations) t.stations
   pub fleets : FleetsRead (records_of bytes.fleets) t.fleets
@@ -51,6 +52,8 @@ pub record Reads (bytes : TableBytes) (settings : Settings) (t : Tables) : Type 
   pub costs : CostsRead (map flight_of t.legs) (map fleet_name_of t.fleets) (records_of bytes.costs) t.costs
   pub throughs : ThroughsRead (map flight_of t.legs) bytes.throughs t.throughs
   pub settings_are : t.settings ≡ settings
+  pub no_windows : t.windows ≡ false
+  pub none_optional : t.optional ≡ false
 
 -- The first fault of the five files: the files before it read. Another file has none here.
 abbrev pub BadAt : TableBytes → Settings → TableFile → ℕ → ℕ → Type 0
@@ -65,6 +68,8 @@ BadAt bytes settings file.Costs row kind =
 BadAt bytes settings file.Throughs row kind =
     (s : List Station) × (f : List Fleet) × (l : List Leg) × (c : List PairCost) × ReadCosts bytes settings s f l c
     × ThroughsBad (map flight_of l) bytes.throughs row kind
+BadAt bytes settings file.Windows row kind = ⊥
+BadAt bytes settings file.Optional row kind = ⊥
 BadAt bytes settings file.Tails row kind = ⊥
 
 -- the error is the first fault of the five files, unless memory ran out

@@ -5,7 +5,7 @@ ghost use Rattle.csv_fields.specs.Record.{records_of};
 ghost use Rattle.fleet_model.specs.Limits.{AreLegs, AreSettings};
 ghost use Rattle.fleet_model.specs.declared.limits.TheConstants.{MAX_STATIONS, MINUTES_PER_DAY};
 ghost use Rattle.fleet_model.specs.declared.refusals.TableFile.TheVariants as file;
-ghost use Rattle.sched_read.specs.Legs.{LegsBad, LegsRead, block_between, day_of, flight_of, from_period_start, leg_fields, leg_read};
+ghost use Rattle.sched_read.specs.Legs.{ArePlain, LegsBad, LegsRead, block_between, day_of, flight_of, from_period_start, leg_fields, leg_read};
 ghost use Rattle.station_table.specs.Stations.{code_of};
 ghost use Rattle.table_rows.specs.Outcome.{IsFirstFault};
 ghost use Rattle.table_rows.specs.Rows.{RowsBad, RowsRead, fields_in, rows_in};
@@ -16,7 +16,7 @@ use fleet_model::limits::{MAX_LEGS, MINUTES_PER_DAY};
 use fleet_model::refusals::{
     DUPLICATE, NOT_TEXT, TO_ITSELF, TOO_MANY, UNKNOWN_STATION, WRONG_WIDTH, ZERO_BLOCK,
 };
-use fleet_model::{Leg, LoadError, Settings, Station, TableFile};
+use fleet_model::{Leg, LoadError, Settings, Shifts, Station, TableFile};
 use std::alloc::Global;
 use table_rows::{
     Form, Names, RecordError, RowReader, below_either, five_fields, is_text, numbers_of, read_rows,
@@ -46,6 +46,7 @@ pub fn read_legs(
     ensures reads { MatchResult result (λ legs. LegsRead (map code_of stations.now) settings (records_of bytes.now) legs.items)
         (IsFirstFault file.Legs (LegsBad (map code_of stations.now) settings (records_of bytes.now))) }
     ensures kept { IfOk result (λ legs. AreLegs (length stations.now) settings.period legs.items) }
+    ensures plain { IfOk result (λ legs. ArePlain legs.items) }
 {
     let records = records(alloc, bytes)?;
     match below_either(&records, &HEADER, &DATED_HEADER, settings.period == 1) {
@@ -69,6 +70,7 @@ fn legs_below(
         MatchResult result (λ legs. RowsRead flight_of read (rows_in rows.now) legs.items)
         (IsFirstFault file.Legs (RowsBad flight_of read (rows_in rows.now))) }
     ensures kept { IfOk result (λ legs. AreLegs (length stations.now) settings.period legs.items) }
+    ensures plain { IfOk result (λ legs. ArePlain legs.items) }
 {
     let mut reader = LegReader::new(alloc, form, stations, settings)?;
     read_rows(alloc, TableFile::Legs, &mut reader, rows)
@@ -152,12 +154,15 @@ impl RowReader for LegReader {
         if earlier >= MAX_LEGS {
             return Err(RecordError::Bad { kind: TOO_MANY });
         }
+        let dep = minute(self.settings, day, leaves);
         Ok(Leg {
             flight: Entries::from_vec(Vec::from_slice(alloc, flight)?),
             from: from as u32,
-            dep: minute(self.settings, day, leaves),
+            dep,
             to: to as u32,
             block,
+            shifts: Shifts::own(dep),
+            skip: None,
         })
     }
 }

@@ -5,13 +5,13 @@ ghost use Rattle.sched_read.specs.Reading.{IsFirstBad, Reads, TableBytes};
 use crate::legs::read_legs;
 use crate::throughs::read_throughs;
 use entries::Entries;
-use fleet_model::{Costs, LoadError, Settings, Tables};
+use fleet_model::{Costs, LoadError, Settings, Tables, departures_of};
 use fleet_tables::{read_costs, read_fleets};
 use station_table::read_stations;
 use std::alloc::Global;
 
 /// The tables that five files hold, or their first fault: files are judged in the order of the parameters, in a
-/// file the first bad record decides, and in a record the least kind.
+/// file the first bad record decides, and in a record the least kind. Each leg departs at its own time alone and must be flown.
 pub fn load(
     alloc: Global,
     stations: &[u8],
@@ -30,6 +30,7 @@ pub fn load(
     let legs = read_legs(alloc, legs, &stations, settings)?;
     let costs = read_costs(alloc, costs, &legs, &fleets)?;
     let throughs = read_throughs(alloc, throughs, &legs)?;
+    let departures = departures_of(alloc, &legs)?;
     Ok(Tables {
         stations: Entries::from_vec(stations),
         fleets: Entries::from_vec(fleets),
@@ -37,5 +38,8 @@ pub fn load(
         costs: Costs::from_vec(costs),
         throughs: Entries::from_vec(throughs),
         settings,
+        departures: Entries::from_vec(departures),
+        windows: false,
+        optional: false,
     })
 }

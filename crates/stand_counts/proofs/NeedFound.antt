@@ -1,5 +1,5 @@
 -- Need is the greatest excess at a departure: between two departures the excess doesn't grow.
-use Rattle.std.proofs.Common.{◌≡◌, ℕ, suc, ◌-◌, ◌<◌, ◌≤◌, Bool, not, if◌then◌else◌, ◌==◌, ◌&&◌, sym, ap, ◌∙◌, arith}
+use Rattle.std.proofs.Common.{◌≡◌, ℕ, suc, ◌-◌, ◌≤◌, if◌then◌else◌, ◌==◌, sym, ap, ◌∙◌, arith}
 use Rattle.std.proofs.lemmas.Bool.Decides.{nat_tests}
 use Rattle.sums.specs.Below.{max_below}
 use Rattle.sums.proofs.Maxima.{max_below-agree}
@@ -9,15 +9,8 @@ use Rattle.fleet_model.specs.declared.tables.Tables.{Tables}
 use Rattle.fleet_model.specs.Schedule.{leg_of, period_of}
 use Rattle.fleet_model.specs.Times.{departure}
 use Rattle.fleet_model.proofs.PeriodMinutes.{departs_always}
+use Rattle.stand_counts.specs.AtDepartures.{excess_at, flies_from}
 use Rattle.stand_counts.specs.Flights.{Flights, arrived_by, coming_by, departed_by, excess_by, leaving_by, need_by}
-
--- a flight of some weight is from the station
-abbrev pub flies_from : Tables → Flights → ℕ → ℕ → Bool
-flies_from t x s l = ((leg_of t (x.pair l).leg).from == s) && not (x.weight (x.pair l) == 0)
-
--- the excess at a leg's departure, where it is from the station
-abbrev pub excess_at : Tables → Flights → ℕ → ℕ → ℕ
-excess_at t x s l = if flies_from t x s l then excess_by t x s (departure t (x.pair l)) else 0
 
 -- the greatest excess at departures from the station among the first legs
 abbrev pub greatest_excess : Tables → Flights → ℕ → ℕ → ℕ

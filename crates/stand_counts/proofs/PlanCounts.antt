@@ -3,9 +3,8 @@ use Rattle.std.proofs.Common.{◌≡◌, ℕ, ◌+◌, ◌-◌, ◌*◌, ◌<◌
 use Rattle.sums.specs.Below.{sum_below}
 use Rattle.sums.proofs.Maxima.{max_below-agree}
 use Rattle.sums.proofs.Sums.{sum_below-agree}
-use Rattle.fleet_model.specs.declared.parts.Pair.{Pair}
 use Rattle.fleet_model.specs.declared.tables.Tables.{Tables}
-use Rattle.fleet_model.specs.Counts.{arrived, coming, departed, has_come, has_left, leaving, pair_at, weights_of}
+use Rattle.fleet_model.specs.Counts.{arrived, departed, has_come, has_left, pair_at, weights_of}
 use Rattle.fleet_model.specs.Legal.{IsAssignment}
 use Rattle.fleet_model.specs.Schedule.{fleet_by, fleets_in, legs_in, period_of, stations_in}
 use Rattle.fleet_model.specs.Times.{laps_of}

@@ -1,2 +1,3 @@
+pub mod AtDepartures
 pub mod Flights
 pub mod Laws

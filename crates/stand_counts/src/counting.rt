@@ -1,6 +1,7 @@
 //! Arrivals, departures, need and stands at a station.
 ghost use Rattle.std.specs.Prelude.{◌≡◌, ◌+◌, ◌<◌, ◌≤◌, ◌*◌};
 ghost use Rattle.fleet_model.specs.declared.limits.TheConstants.{MAX_DEPARTURES};
+ghost use Rattle.stand_counts.specs.AtDepartures.{excess_at};
 ghost use Rattle.stand_counts.specs.Flights.{arrived_by, departed_by, excess_by, need_by, stand_by};
 
 use crate::flights::{Flights, MAX_WEIGHT};
@@ -66,12 +67,25 @@ pub fn need<F: Flights>(tables: &Tables, flights: &F, station: u32) -> u128
 {
     let mut most = 0;
     for place in 0..flights.count(tables) {
-        let pair = flights.pair(tables, place);
-        if tables.leg(pair.leg).from == station && flights.weight(tables, pair) != 0 {
-            most = most.max(excess_by(tables, flights, station, tables.departure(pair)));
-        }
+        most = most.max(excess_at(tables, flights, station, place));
     }
     most
+}
+
+// The excess in the minute in which a pair departs, where it weighs something and departs from the station.
+fn excess_at<F: Flights>(tables: &Tables, flights: &F, station: u32, place: u32) -> u128
+    requires fit { F.fit tables.now flights.now }
+    requires place { place < (F.flights tables.now flights.now).count }
+    ensures value { result ≡ excess_at tables.now (F.flights tables.now flights.now) station place }
+    ensures few { result ≤ F.most * (F.flights tables.now flights.now).count }
+    ensures small { result ≤ MAX_WEIGHT * MAX_DEPARTURES }
+{
+    let pair = flights.pair(tables, place);
+    if tables.leg(pair.leg).from == station && flights.weight(tables, pair) != 0 {
+        excess_by(tables, flights, station, tables.departure(pair))
+    } else {
+        0
+    }
 }
 
 /// The aircraft on the ground at a station at the end of a minute, where so many must be there at the start of the period.

@@ -27,7 +27,7 @@ impl Flights for Planned<'_> {
     fn pair(&self, _tables: &Tables, leg: u32) -> Pair {
         Pair {
             leg,
-            choice: self.plan.fleet(leg),
+            choice: self.plan.choice(leg),
         }
     }
 

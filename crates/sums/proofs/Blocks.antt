@@ -1,11 +1,12 @@
 -- Sums over blocks of equal length, one after another, and over a list that is appended to another.
-use Rattle.std.proofs.Common.{◌≡◌, ℕ, zero, suc, ◌+◌, ◌*◌, ◌<◌, List, ◌++◌, length, slice_index_or, ℤ, ◌∙◌, ap, arith}
+use Rattle.std.proofs.Common.{◌≡◌, ℕ, zero, suc, ◌+◌, ◌*◌, ◌<◌, List, ◌++◌, length, slice_index_or, ℤ, ◌+ℤ◌, ◌∙◌, ap, arith}
 use Rattle.std.proofs.lemmas.Int.{ints}
 use Rattle.std.proofs.lemmas.Grind.{common_steps}
 use Rattle.std.proofs.Common.{length-append}
 use Rattle.sums.specs.Below.{sum_below, sum_below_ℤ}
 use Rattle.sums.proofs.Naturals.{plus_0, plus_suc}
 use Rattle.sums.proofs.Sums.{sum_below-agree}
+use Rattle.sums.proofs.WholeSums.{sum_below_ℤ-same}
 use Rattle.sums.proofs.WholeTerms.{sum_below_ℤ-stretches}
 
 -- ---- a sum in two parts
@@ -29,10 +30,10 @@ blocks_ℤ f zero k = ap (sum_below_ℤ f) (no_block k)
 blocks_ℤ f (suc n) k = ap (sum_below_ℤ f) (one_block_more n k) ∙ omega (arith, ints, sum_below_ℤ-stretches f (n * k) k, blocks_ℤ f n k)
 
 -- ---- a list that is appended to another
-in_front : {X : Type 0} (xs ys : List X) (d : X) (k : ℕ) → k < length xs → slice_index_or (xs ++ ys) k d ≡ slice_index_or xs k d
+pub in_front : {X : Type 0} (xs ys : List X) (d : X) (k : ℕ) → k < length xs → slice_index_or (xs ++ ys) k d ≡ slice_index_or xs k d
 in_front xs ys d k below = grind (arith, common_steps)
 
-behind : {X : Type 0} (xs ys : List X) (d : X) (k : ℕ) → slice_index_or (xs ++ ys) (length xs + k) d ≡ slice_index_or ys k d
+pub behind : {X : Type 0} (xs ys : List X) (d : X) (k : ℕ) → slice_index_or (xs ++ ys) (length xs + k) d ≡ slice_index_or ys k d
 behind xs ys d k = grind (arith, common_steps)
 
 -- what the entries of both come to
@@ -45,3 +46,13 @@ appended f d xs ys =
     (sum_below-agree (λ k. f (slice_index_or (xs ++ ys) k d)) (λ k. f (slice_index_or xs k d)) (length xs) (record { each = λ k below. ap f (in_front xs ys d k below) }))
     ∙ ap (λ n. sum_below (λ k. f (slice_index_or xs k d)) (length xs) + n)
     (sum_below-agree (λ k. f (slice_index_or (xs ++ ys) (length xs + k) d)) (λ k. f (slice_index_or ys k d)) (length ys) (record { each = λ k below. ap f (behind xs ys d k) }))
+
+pub appended_ℤ : {X : Type 0} (f : X → ℤ) (d : X) (xs ys : List X)
+    → sum_below_ℤ (λ k. f (slice_index_or (xs ++ ys) k d)) (length (xs ++ ys)) ≡ sum_below_ℤ (λ k. f (slice_index_or xs k d)) (length xs) +ℤ sum_below_ℤ (λ k. f (slice_index_or ys k d)) (length ys)
+appended_ℤ f d xs ys =
+    ap (sum_below_ℤ (λ k. f (slice_index_or (xs ++ ys) k d))) (length-append xs ys)
+    ∙ sum_below_ℤ-stretches (λ k. f (slice_index_or (xs ++ ys) k d)) (length xs) (length ys)
+    ∙ ap (λ n. n +ℤ sum_below_ℤ (λ k. f (slice_index_or (xs ++ ys) (length xs + k) d)) (length ys))
+    (sum_below_ℤ-same (λ k. f (slice_index_or (xs ++ ys) k d)) (λ k. f (slice_index_or xs k d)) (length xs) (λ k below. ap f (in_front xs ys d k below)))
+    ∙ ap (λ n. sum_below_ℤ (λ k. f (slice_index_or xs k d)) (length xs) +ℤ n)
+    (sum_below_ℤ-same (λ k. f (slice_index_or (xs ++ ys) (length xs + k) d)) (λ k. f (slice_index_or ys k d)) (length ys) (λ k below. ap f (behind xs ys d k)))

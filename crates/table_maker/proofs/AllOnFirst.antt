@@ -1,13 +1,14 @@
 -- All legs of made tables on the first fleet are a legal assignment.
-use Rattle.std.proofs.Common.{◌≡◌, ◌==◌, ℕ, zero, suc, ◌+◌, ◌*◌, ◌/◌, ◌%◌, ◌<◌, ◌≤◌, Bool, true, false, not, nat_lt, List, [], length, IsSome, None, refl, sym, ap, ◌∙◌, add-one, arith}
+use Rattle.std.proofs.Common.{◌≡◌, ◌==◌, ℕ, zero, suc, ◌+◌, ◌*◌, ◌/◌, ◌%◌, ◌<◌, ◌≤◌, Bool, true, false, not, nat_lt, List, [], length, IsSome, None, is_some, refl, sym, ap, ◌∙◌, add-one, arith}
 use Rattle.std.specs.Prelude.{◌&&◌, if◌then◌else◌}
 use Rattle.std.proofs.lemmas.Bool.Decides.{nat_tests}
 use Rattle.std.proofs.lemmas.List.{length-replicate}
 use Rattle.fleet_model.specs.Costs.{no_cost}
-use Rattle.fleet_model.specs.Counts.{arrived, departed, fleet_at, weights_of}
+use Rattle.fleet_model.specs.Counts.{arrived, departed, choice_at, weights_of}
 use Rattle.fleet_model.specs.Legal.{IsAllowed, IsAssignment, IsLegal, cost_of}
 use Rattle.fleet_model.specs.Limits.{AreSettings}
-use Rattle.fleet_model.specs.Schedule.{days_in, fleet_of, last_of, leg_of, leg_on, legs_in, no_leg, no_station, parking_of, station_of, stations_in}
+use Rattle.fleet_model.specs.Plain.{IsPlain}
+use Rattle.fleet_model.specs.Schedule.{days_in, fleet_of, last_of, leg_of, leg_on, legs_in, no_leg, no_station, parking_of, shifts_in, station_of, stations_in}
 use Rattle.fleet_model.specs.Times.{busy_minutes, departure, laps_of}
 use Rattle.fleet_model.specs.Use.{laps_flown, used_of}
 use Rattle.fleet_model.specs.declared.limits.TheConstants.{MINUTES_PER_DAY}
@@ -18,8 +19,11 @@ use Rattle.fleet_model.specs.declared.parts.Station.{Station}
 use Rattle.fleet_model.specs.declared.tables.Tables.{Tables}
 use Rattle.fleet_model.proofs.Choices.{nothing_parked}
 use Rattle.fleet_model.proofs.CostLookup.{cost_found}
+use Rattle.fleet_model.proofs.Departures.{some_times}
+use Rattle.fleet_model.proofs.LeftOut.{block_kept}
+use Rattle.fleet_model.proofs.NotAsked.{plain_where_not_asked}
 use Rattle.fleet_model.proofs.OneDay.{period_is_day, plain_departure}
-use Rattle.fleet_model.proofs.PlainTables.{are_plain, fleet_chooses, plain_laps}
+use Rattle.fleet_model.proofs.PlainTables.{fleet_chooses, plain_fleet, plain_laps}
 use Rattle.ground_turns.specs.Maps.{IsNext, IsSuccessorMap, crossings_of, no_turn, periods_of, turn_by, turns_by}
 use Rattle.ground_turns.specs.Turns.{crosses}
 use Rattle.ground_turns.proofs.FleetTurns.{next_is_map}
@@ -60,6 +64,9 @@ not_before l k before = grind (arith, nat_tests)
 there : (l : ℕ) → ((2 * l / 2 == l) && (2 * l % 2 == 0)) ≡ true
 there l = grind (arith, nat_tests)
 
+first_choice : (times : ℕ) → 0 ≡ 0 * times + 0
+first_choice times = omega arith
+
 module _ (trips : List RoundTrip) (settings : Settings) (one : settings.period ≡ 1) (are : AreTrips trips) (settings_fit : AreSettings settings) where
   abbrev t : Tables
   t = made_schedule trips settings one are settings_fit
@@ -67,6 +74,9 @@ module _ (trips : List RoundTrip) (settings : Settings) (one : settings.period �
   one_day : days_in t ≡ 1
   unfolding days_in
   one_day = one
+
+  plain : IsPlain t
+  plain = plain_where_not_asked t refl
 
   abbrev n : ℕ
   n = length trips
@@ -80,7 +90,7 @@ module _ (trips : List RoundTrip) (settings : Settings) (one : settings.period �
   leg_is : (l : ℕ) → l < 2 * n → leg_of t l ≡ leg_entry settings trips l
   leg_is l within = get_or-list_below (leg_entry settings trips) (2 * n) l no_leg within
 
-  on_first : (l : ℕ) → fleet_at a l ≡ 0
+  on_first : (l : ℕ) → choice_at a l ≡ 0
   on_first l = zero_at (2 * n) l
 
   assigned : IsAssignment t a
@@ -91,9 +101,9 @@ module _ (trips : List RoundTrip) (settings : Settings) (one : settings.period �
   has_cost l within =
       let entry = cost_entry trips in
       let inside : 2 * l < 4 * n = omega arith in
-      let found = cost_found (list_below entry (4 * n)) (leg_on l 0) (2 * l) (omega (arith, length-list_below entry (4 * n))) (rw (get_or-list_below entry (4 * n) (2 * l) no_cost inside) (there l))
+      let found = cost_found (list_below entry (4 * n)) l 0 (2 * l) (omega (arith, length-list_below entry (4 * n))) (rw (get_or-list_below entry (4 * n) (2 * l) no_cost inside) (there l))
       (record { each = λ k below. let early : k < 4 * n = omega arith in rw (get_or-list_below entry (4 * n) k no_cost early) (not_before l k below) }) in
-      rw found refl
+      ap (λ c. is_some (cost_of t (leg_on l c))) (first_choice (shifts_in t l)) ∙ block_kept t l 0 0 (omega arith) (some_times t l) ∙ ap is_some found
 
   allowed : IsAllowed t a
   allowed = record { each = λ l within. rw (on_first l) (has_cost l (omega (arith, legs_are, within))) }
@@ -120,7 +130,7 @@ module _ (trips : List RoundTrip) (settings : Settings) (one : settings.period �
   turns = turns_by a 0 partner (legs_in t)
 
   first_map : IsSuccessorMap t a 0 turns
-  first_map = next_is_map t a 0 partner (are_plain t) is_next
+  first_map = next_is_map t a 0 partner plain is_next
 
   turns_are : (m : ℕ) → turns_by a 0 partner m ≡ list_below (turn_by partner) m
   turns_are zero = refl
@@ -139,7 +149,7 @@ module _ (trips : List RoundTrip) (settings : Settings) (one : settings.period �
 
   laps_by_leg : laps_flown t (weights_of a) 0 ≡ sum_below (λ l. laps_of t (leg_on l 0)) (legs_in t)
   laps_by_leg =
-      plain_laps t (weights_of a) 0 (are_plain t)
+      plain_laps t (weights_of a) 0 plain
       ∙ sum_below-agree (λ l. weights_of a (leg_on l 0) * laps_of t (leg_on l 0)) (λ l. laps_of t (leg_on l 0)) (legs_in t) (record { each = λ l below. rw (on_first l) (omega arith) })
 
   -- a leg is busy for its flight and the turn
@@ -148,7 +158,7 @@ module _ (trips : List RoundTrip) (settings : Settings) (one : settings.period �
       let lands : (leg_of t l).to < stations_in t = (t.in_range.legs_fit.each l no_leg (omega (arith, legs_are, within))).to in
       let known : (leg_of t l).to < stations_for trips = omega (arith, lands, length-list_below station_entry (stations_for trips)) in
       let extra : (station_of t (leg_of t l).to).extra ≡ 0 = rw (get_or-list_below station_entry (stations_for trips) (leg_of t l).to no_station known) refl in
-      omega (arith, extra)
+      rw (plain_fleet t l 0 plain) (omega (arith, extra))
 
   out_is : (i : ℕ) → i < n → leg_of t (2 * i) ≡ flown settings (flight_name (2 * i)) true (trip_of trips i)
   out_is i within =
@@ -168,8 +178,8 @@ module _ (trips : List RoundTrip) (settings : Settings) (one : settings.period �
   unfolding adding
   adds_by_day l =
       ap (λ minutes. adding (departure t (leg_on l 0)) (departure t (leg_on (partner l) 0)) (busy_minutes t (leg_on l 0)) minutes) (period_is_day t one_day)
-      ∙ ap (λ out. adding out (departure t (leg_on (partner l) 0)) (busy_minutes t (leg_on l 0)) MINUTES_PER_DAY) (plain_departure t l 0 (are_plain t))
-      ∙ ap (λ next. adding (leg_of t l).dep next (busy_minutes t (leg_on l 0)) MINUTES_PER_DAY) (plain_departure t (partner l) 0 (are_plain t))
+      ∙ ap (λ out. adding out (departure t (leg_on (partner l) 0)) (busy_minutes t (leg_on l 0)) MINUTES_PER_DAY) (plain_departure t l 0 plain)
+      ∙ ap (λ next. adding (leg_of t l).dep next (busy_minutes t (leg_on l 0)) MINUTES_PER_DAY) (plain_departure t (partner l) 0 plain)
 
   trip_adds : (i : ℕ) → i < n → add (2 * i) + add (2 * i + 1) ≡ 1
   unfolding adding
@@ -203,7 +213,7 @@ module _ (trips : List RoundTrip) (settings : Settings) (one : settings.period �
   -- the second fleet flies nothing
   second_map : IsSuccessorMap t a 1 []
   second_map = record {
-    plain = are_plain t;
+    plain = plain;
     each = λ k below. absurd (omega (arith, below));
     arrives = λ l within. rw (on_first l) refl;
     departs = λ l within. rw (on_first l) refl;
@@ -211,7 +221,7 @@ module _ (trips : List RoundTrip) (settings : Settings) (one : settings.period �
 
   no_laps : laps_flown t (weights_of a) 1 ≡ 0
   no_laps =
-      plain_laps t (weights_of a) 1 (are_plain t)
+      plain_laps t (weights_of a) 1 plain
       ∙ sum_below-agree (λ l. weights_of a (leg_on l 1) * laps_of t (leg_on l 1)) (λ l. 0) (legs_in t) (record { each = λ l below. rw (on_first l) (omega arith) }) ∙ sum_below-zero (legs_in t)
 
   used_within : (f : ℕ) → f < 2 → used_of t (weights_of a) f ≤ (fleet_of t f).aircraft

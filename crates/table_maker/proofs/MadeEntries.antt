@@ -13,7 +13,7 @@ use Rattle.fleet_model.specs.declared.parts.Station.{Station}
 use Rattle.fleet_model.specs.declared.parts.Through.{Through}
 use Rattle.fleet_tables.specs.Costs.{cost_read, pair_of}
 use Rattle.fleet_tables.specs.Fleets.{fleet_name_of, fleet_read}
-use Rattle.sched_read.specs.Legs.{block_between, flight_of, from_day_start, leg_read}
+use Rattle.sched_read.specs.Legs.{block_between, flight_of, from_day_start, leg_between, leg_read}
 use Rattle.sched_read.specs.Throughs.{connection_of, through_read}
 use Rattle.station_table.specs.Stations.{code_of, station_read}
 use Rattle.sums.specs.Places.{list_below}
@@ -54,13 +54,9 @@ fleet_entry trips (suc fleet) = record { name = fleet_name 1; aircraft = trips /
 
 -- the flight of a round trip, out or back
 abbrev pub flown : Settings → List ℕ → Bool → RoundTrip → Leg
-flown settings flight out trip = record {
-  flight = flight;
-  from = if out then 0 else suc trip.spoke;
-  dep = from_day_start settings ((if out then trip.departs else trip.departs + trip.block + trip.stay) % MINUTES_PER_DAY);
-  to = if out then suc trip.spoke else 0;
-  block = trip.block;
-}
+flown settings flight out trip =
+    leg_between flight (if out then 0 else suc trip.spoke) (if out then suc trip.spoke else 0)
+    (from_day_start settings ((if out then trip.departs else trip.departs + trip.block + trip.stay) % MINUTES_PER_DAY)) trip.block
 
 abbrev pub leg_entry : Settings → List RoundTrip → ℕ → Leg
 leg_entry settings trips leg = flown settings (flight_name leg) (is_out leg) (trip_of trips (leg / 2))

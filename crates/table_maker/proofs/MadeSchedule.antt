@@ -1,6 +1,7 @@
 -- The tables that the texts of round trips read as.
-use Rattle.std.proofs.Common.{◌≡◌, ℕ, ◌+◌, ◌-◌, ◌*◌, ◌<◌, ◌≤◌, List, length, map, refl, sym, subst, arith}
+use Rattle.std.proofs.Common.{◌≡◌, ℕ, ◌+◌, ◌-◌, ◌*◌, ◌<◌, ◌≤◌, false, List, length, map, refl, sym, subst, arith}
 use Rattle.csv_fields.specs.Record.{records_of}
+use Rattle.fleet_model.specs.Windows.{departures_of}
 use Rattle.fleet_model.specs.Limits.{AreCosts, AreLegs, AreSettings, AreThroughs}
 use Rattle.fleet_model.specs.declared.parts.Fleet.{Fleet}
 use Rattle.fleet_model.specs.declared.parts.Leg.{Leg}
@@ -16,7 +17,8 @@ use Rattle.fleet_tables.proofs.FleetsFit.{fleets_keep}
 use Rattle.sched_read.specs.Legs.{LegsRead, flight_of}
 use Rattle.sched_read.specs.Reading.{Reads, TableBytes}
 use Rattle.sched_read.specs.Throughs.{ThroughsRead}
-use Rattle.sched_read.proofs.LegsFit.{legs_keep}
+use Rattle.sched_read.proofs.LegsFit.{legs_keep, legs_plain}
+use Rattle.sched_read.proofs.TablesFit.{tables_fit}
 use Rattle.sched_read.proofs.ThroughsFit.{throughs_keep}
 use Rattle.station_table.specs.Stations.{code_of}
 use Rattle.station_table.proofs.StationsFit.{stations_keep}
@@ -97,14 +99,13 @@ module _ (trips : List RoundTrip) (settings : Settings) (one : settings.period �
       costs = cost_list trips;
       throughs = through_list trips;
       settings = settings;
-      in_range = record {
-        stations_fit = stations_keep _ (station_list trips) (stations_back (stations_for trips) stations_few);
-        fleets_fit = fleets_keep _ (fleet_list trips) (fleets_back (length trips) are.few);
-        legs_fit = legs_fit;
-        costs_fit = costs_fit;
-        throughs_fit = throughs_fit;
-        settings_fit = settings_fit;
-      };
+      departures = departures_of (leg_list settings trips);
+      windows = false;
+      optional = false;
+      in_range =
+          tables_fit (station_list trips) (fleet_list trips) (leg_list settings trips) (cost_list trips) (through_list trips) settings (departures_of (leg_list settings trips))
+          (stations_keep _ (station_list trips) (stations_back (stations_for trips) stations_few)) (fleets_keep _ (fleet_list trips) (fleets_back (length trips) are.few))
+          legs_fit costs_fit throughs_fit settings_fit refl (legs_plain (map code_of (station_list trips)) settings (records_of (bytes trips).legs) (leg_list settings trips) legs_read);
     }
 
     pub schedule_reads : Reads (bytes trips) settings made_schedule
@@ -116,4 +117,6 @@ module _ (trips : List RoundTrip) (settings : Settings) (one : settings.period �
       costs = costs_read;
       throughs = throughs_read;
       settings_are = refl;
+      no_windows = refl;
+      none_optional = refl;
     }

@@ -9,7 +9,7 @@ use Rattle.fleet_model.specs.declared.limits.TheConstants.{MAX_AIRCRAFT, MAX_COS
 use Rattle.fleet_model.specs.declared.parts.Settings.{Settings}
 use Rattle.fleet_tables.specs.Costs.{cost_read}
 use Rattle.fleet_tables.specs.Fleets.{fleet_read}
-use Rattle.sched_read.specs.Legs.{block_between, day_of, from_day_start, leg_read}
+use Rattle.sched_read.specs.Legs.{block_between, day_of, from_day_start, leg_between, leg_read}
 use Rattle.sched_read.specs.Throughs.{through_read}
 use Rattle.sched_read.proofs.OneDay.{one_day}
 use Rattle.station_table.specs.Stations.{station_read}
@@ -48,7 +48,7 @@ pub leg_one : (stations : List (List ℕ)) (settings : Settings) (earlier : List
     → IsName flight → IsStationCode from → IsStationCode to → number_of from stations ≡ Some a → number_of to stations ≡ Some b → (a == b) ≡ false
     → is_among flight earlier ≡ false → length earlier < 1000 → block_between (leaves % MINUTES_PER_DAY) (lands % MINUTES_PER_DAY) ≡ block → (block == 0) ≡ false
     → leg_read stations settings form.Old earlier (flight ∷ from ∷ clock_text leaves ∷ to ∷ clock_text lands ∷ [])
-    ≡ Ok (record { flight = flight; from = a; dep = from_day_start settings (leaves % MINUTES_PER_DAY); to = b; block = block })
+    ≡ Ok (leg_between flight a b (from_day_start settings (leaves % MINUTES_PER_DAY)) block)
 unfolding leg_read digits
 leg_one stations settings earlier flight from to a b leaves lands block one form from_form to_form from_is to_is away fresh few is some =
     let text = (name_kept flight form).text in

@@ -8,7 +8,7 @@ use Rattle.best_matching.specs.Worths.{AreDuals, AreTight, IsOneToOne, worth_at}
 use Rattle.best_matching.proofs.DualLaws.{none_more}
 use Rattle.fleet_model.specs.declared.limits.TheConstants.{MAX_LEGS}
 use Rattle.fleet_model.specs.declared.tables.Tables.{Tables}
-use Rattle.fleet_model.specs.Counts.{fleet_at}
+use Rattle.fleet_model.specs.Counts.{choice_at}
 use Rattle.fleet_model.specs.Schedule.{legs_in}
 use Rattle.through_flights.specs.declared.worths.TheConstants.{CLEAN_WORTH, MAX_VALUE}
 use Rattle.through_flights.specs.Worths.{AreTurnWorths, IsTurnWorth, pair_of}
@@ -56,7 +56,7 @@ all_clean t a f worths rows columns next follower w one duals tight known leg lt
     next_within l lt = subst (λ n. next l < n) w.size (one.within l (subst (λ n. l < n) (sym w.size) lt))
 
     clean_worth : (l : ℕ) → l < legs_in t → CLEAN_WORTH ≤ worth_at worths l (follower l)
-    clean_worth l lt = elim (cases_eq (fleet_at a l) f) [
+    clean_worth l lt = elim (cases_eq (choice_at a l) f) [
       | inl own ↦ (w.each l (follower l) lt (known.one_to_one.within l lt)).clean ((known.each l lt).own own)
       | inr ne ↦ equal _ _ ((w.each l (follower l) lt (known.one_to_one.within l lt)).idle (record { other = ne; itself = (known.each l lt).other ne }))
     ]

@@ -4,7 +4,7 @@ use Rattle.std.proofs.lemmas.Bool.{eqb-true}
 use Rattle.sums.proofs.Naturals.{one_is_some}
 use Rattle.fleet_model.specs.declared.parts.Connection.{Connection}
 use Rattle.fleet_model.specs.declared.tables.Tables.{Tables}
-use Rattle.fleet_model.specs.Counts.{fleet_at}
+use Rattle.fleet_model.specs.Counts.{choice_at}
 use Rattle.fleet_model.specs.Schedule.{legs_in}
 use Rattle.ground_turns.specs.Maps.{AreClean, HasTurn, IsFitting, IsSuccessorMap, arrivals_of, turn_at, turns_by}
 use Rattle.ground_turns.specs.Turns.{IsClean}
@@ -36,7 +36,7 @@ module _ (t : Tables) (a : List ℕ) (f : ℕ) (next : ℕ → ℕ) (known : Are
   unfolding turns
   goes_by_next = each_turn a f next (λ turn. turn.departing ≡ next turn.arriving) (legs_in t) (λ l lt own. refl)
 
-  pub has : (l : ℕ) → l < legs_in t → fleet_at a l ≡ f → HasTurn turns (pair_of l (next l))
+  pub has : (l : ℕ) → l < legs_in t → choice_at a l ≡ f → HasTurn turns (pair_of l (next l))
   has l lt own =
       let counted : arrivals_of turns l ≡ 1 = map.arrives l lt ∙ weight_one _ _ own in
       let found = some_counted (λ k. (turn_at turns k).arriving == l) (length turns) (one_is_some _ counted) in

@@ -7,7 +7,7 @@ use Rattle.sums.proofs.Naturals.{one_is_some}
 use Rattle.best_matching.specs.Worths.{IsOneToOne}
 use Rattle.fleet_model.specs.declared.parts.Connection.{Connection}
 use Rattle.fleet_model.specs.declared.tables.Tables.{Tables}
-use Rattle.fleet_model.specs.Counts.{fleet_at}
+use Rattle.fleet_model.specs.Counts.{choice_at}
 use Rattle.fleet_model.specs.Schedule.{legs_in}
 use Rattle.fleet_model.specs.Plain.{IsPlain}
 use Rattle.ground_turns.specs.Maps.{AreClean, IsSuccessorMap, arrivals_of, departures_of, turn_at}
@@ -17,8 +17,8 @@ use Rattle.through_flights.specs.Worths.{IsCleanTurn, pair_of}
 
 -- a leg of the fleet goes on in a clean turn, and another one stands at itself
 pub record GoesOn (t : Tables) (a : List ℕ) (f leg next : ℕ) : Type 0 where
-  pub own : fleet_at a leg ≡ f → IsCleanTurn t a f (pair_of leg next)
-  pub other : fleet_at a leg ≢ f → leg ≡ next
+  pub own : choice_at a leg ≡ f → IsCleanTurn t a f (pair_of leg next)
+  pub other : choice_at a leg ≢ f → leg ≡ next
 
 -- on plain tables each leg goes on, no two with one leg
 pub record AreFollowers (t : Tables) (a : List ℕ) (f : ℕ) (next : ℕ → ℕ) : Type 0 where
@@ -38,24 +38,24 @@ module _ (t : Tables) (a : List ℕ) (f : ℕ) (turns : List Connection) where
   place l = pick (arrives_at l) (length turns)
 
   pub follower : ℕ → ℕ
-  follower l = if fleet_at a l == f then (turn_at turns (place l)).departing else l
+  follower l = if choice_at a l == f then (turn_at turns (place l)).departing else l
 
-  own_follower : (l : ℕ) → fleet_at a l ≡ f → follower l ≡ (turn_at turns (place l)).departing
+  own_follower : (l : ℕ) → choice_at a l ≡ f → follower l ≡ (turn_at turns (place l)).departing
   unfolding follower
-  own_follower l e = choice (fleet_at a l == f) (eq-eqb _ _ e)
+  own_follower l e = choice (choice_at a l == f) (eq-eqb _ _ e)
     where
       choice : (b : Bool) → b ≡ true → ◌≡◌ {A = ℕ} (if b then (turn_at turns (place l)).departing else l) (turn_at turns (place l)).departing
       choice b h = rw h
 
-  other_follower : (l : ℕ) → fleet_at a l ≢ f → follower l ≡ l
+  other_follower : (l : ℕ) → choice_at a l ≢ f → follower l ≡ l
   unfolding follower
-  other_follower l ne = choice (fleet_at a l == f) (ne_eqb _ _ ne)
+  other_follower l ne = choice (choice_at a l == f) (ne_eqb _ _ ne)
     where
       choice : (b : Bool) → b ≡ false → ◌≡◌ {A = ℕ} (if b then (turn_at turns (place l)).departing else l) l
       choice b h = rw h
 
   module _ (map : IsSuccessorMap t a f turns) (clean : AreClean t a f turns) where
-    placed : (l : ℕ) → l < legs_in t → fleet_at a l ≡ f → (place l < length turns) × ((turn_at turns (place l)).arriving ≡ l)
+    placed : (l : ℕ) → l < legs_in t → choice_at a l ≡ f → (place l < length turns) × ((turn_at turns (place l)).arriving ≡ l)
     unfolding place arrives_at
     placed l lt own =
         let counted : arrivals_of turns l ≡ 1 = map.arrives l lt ∙ weight_one _ _ own in
@@ -74,21 +74,21 @@ module _ (t : Tables) (a : List ℕ) (f : ℕ) (turns : List Connection) where
     }
 
     follows_once : (j k : ℕ) → j < legs_in t → k < legs_in t → follower j ≡ follower k → j ≡ k
-    follows_once j k j_lt k_lt same = elim (cases_eq (fleet_at a j) f) [
-      | inl own ↦ elim (cases_eq (fleet_at a k) f) [
+    follows_once j k j_lt k_lt same = elim (cases_eq (choice_at a j) f) [
+      | inl own ↦ elim (cases_eq (choice_at a k) f) [
         | inl own' ↦ both own own'
-        | inr ne ↦ absurd (ne (sym (ap (fleet_at a) (same ∙ other_follower k ne)) ∙ leaves_on own))
+        | inr ne ↦ absurd (ne (sym (ap (choice_at a) (same ∙ other_follower k ne)) ∙ leaves_on own))
       ]
-      | inr ne ↦ elim (cases_eq (fleet_at a k) f) [
-        | inl own' ↦ absurd (ne (ap (fleet_at a) (sym (other_follower j ne) ∙ same) ∙ ((goes_on k k_lt).own own').turn.leaves_on))
+      | inr ne ↦ elim (cases_eq (choice_at a k) f) [
+        | inl own' ↦ absurd (ne (ap (choice_at a) (sym (other_follower j ne) ∙ same) ∙ ((goes_on k k_lt).own own').turn.leaves_on))
         | inr ne' ↦ sym (other_follower j ne) ∙ same ∙ other_follower k ne'
       ]
     ]
       where
-        leaves_on : fleet_at a j ≡ f → fleet_at a (follower j) ≡ f
+        leaves_on : choice_at a j ≡ f → choice_at a (follower j) ≡ f
         leaves_on own = ((goes_on j j_lt).own own).turn.leaves_on
 
-        both : fleet_at a j ≡ f → fleet_at a k ≡ f → j ≡ k
+        both : choice_at a j ≡ f → choice_at a k ≡ f → j ≡ k
         both own own' =
             let first = placed j j_lt own in
             let second = placed k k_lt own' in
@@ -99,7 +99,7 @@ module _ (t : Tables) (a : List ℕ) (f : ℕ) (turns : List Connection) where
             sym first.1 ∙ ap (λ i. (turn_at turns i).arriving) one ∙ second.1
 
     within : (l : ℕ) → l < legs_in t → follower l < legs_in t
-    within l lt = elim (cases_eq (fleet_at a l) f) [
+    within l lt = elim (cases_eq (choice_at a l) f) [
       | inl own ↦ ((goes_on l lt).own own).turn.departing
       | inr ne ↦ subst (λ k. k < legs_in t) (sym (other_follower l ne)) lt
     ]

@@ -12,7 +12,7 @@ use Rattle.sums.proofs.WholeSums.{sum_below_ℤ-same}
 use Rattle.sums.proofs.WholeSwaps.{sum_below_ℤ-+ℤ, sum_below_ℤ-swap, sum_below_ℤ-one, where_true}
 use Rattle.fleet_model.specs.declared.parts.Connection.{Connection}
 use Rattle.fleet_model.specs.declared.tables.Tables.{Tables}
-use Rattle.fleet_model.specs.Counts.{fleet_at, weights_of}
+use Rattle.fleet_model.specs.Counts.{choice_at, weights_of}
 use Rattle.fleet_model.specs.Schedule.{leg_on, legs_in}
 use Rattle.ground_turns.specs.Maps.{AreClean, IsSuccessorMap, arrivals_of, departures_of, turn_at}
 use Rattle.ground_turns.specs.Throughs.{IsThroughSet, value_of, value_of_set, worth_at}
@@ -40,9 +40,9 @@ by_place f place places count within =
     (λ s lt. as_often (λ k. place k == s) (f s) count)
 
 -- numbers of the fleet's legs, each as often as the leg stands in the map, sum to all numbers
-own_sum : (a : List ℕ) (f n : ℕ) (numbers : List ℤ) (times : ℕ → ℕ) → ((l : ℕ) → l < n → times l ≡ weights_of a (leg_on l f)) → ((l : ℕ) → l < n → fleet_at a l ≢ f → number_at numbers l ≡ pos 0)
+own_sum : (a : List ℕ) (f n : ℕ) (numbers : List ℤ) (times : ℕ → ℕ) → ((l : ℕ) → l < n → times l ≡ weights_of a (leg_on l f)) → ((l : ℕ) → l < n → choice_at a l ≢ f → number_at numbers l ≡ pos 0)
     → sum_below_ℤ (λ l. pos (times l) *ℤ number_at numbers l) n ≡ sum_of numbers n
-own_sum a f n numbers times counts others = sum_below_ℤ-same (λ l. pos (times l) *ℤ number_at numbers l) (number_at numbers) n (λ l lt. elim (cases_eq (fleet_at a l) f) [
+own_sum a f n numbers times counts others = sum_below_ℤ-same (λ l. pos (times l) *ℤ number_at numbers l) (number_at numbers) n (λ l lt. elim (cases_eq (choice_at a l) f) [
   | inl own ↦ ap (λ m. pos m *ℤ number_at numbers l) (counts l lt ∙ weight_one _ _ own) ∙ one-*ℤ (number_at numbers l)
   | inr ne ↦ ap (λ z. pos (times l) *ℤ z) (others l lt ne) ∙ *ℤ_comm (pos (times l)) (pos 0) ∙ zero-*ℤ (pos (times l)) ∙ sym (others l lt ne)
 ])

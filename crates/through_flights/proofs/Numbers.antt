@@ -11,7 +11,7 @@ use Rattle.best_matching.specs.Worths.{AreDuals, AreTight, worth_at}
 use Rattle.best_matching.proofs.OneToOneMaps.{along}
 use Rattle.fleet_model.specs.declared.parts.Connection.{Connection}
 use Rattle.fleet_model.specs.declared.tables.Tables.{Tables}
-use Rattle.fleet_model.specs.Counts.{fleet_at}
+use Rattle.fleet_model.specs.Counts.{choice_at}
 use Rattle.fleet_model.specs.Schedule.{legs_in}
 use Rattle.ground_turns.specs.Turns.{IsTurn}
 use Rattle.through_flights.specs.declared.worths.TheConstants.{CLEAN_WORTH}
@@ -21,14 +21,14 @@ use Rattle.through_flights.specs.Worths.{AreTurnWorths}
 use Rattle.through_flights.proofs.Followers.{AreFollowers}
 
 -- a leg's number is its dual, less a number, in the fleet, and 0 in others
-own_is : (a : List ℕ) (f : ℕ) (duals : List ℕ) (less l : ℕ) → fleet_at a l ≡ f → own_number a f duals less l ≡ pos (slice_index duals l) -ℤ pos less
-own_is a f duals less l own = choice (fleet_at a l == f) _ (eq-eqb _ _ own)
+own_is : (a : List ℕ) (f : ℕ) (duals : List ℕ) (less l : ℕ) → choice_at a l ≡ f → own_number a f duals less l ≡ pos (slice_index duals l) -ℤ pos less
+own_is a f duals less l own = choice (choice_at a l == f) _ (eq-eqb _ _ own)
   where
     choice : (b : Bool) (x : ℤ) → b ≡ true → (if b then x else pos 0) ≡ x
     choice b x e = rw e
 
-other_is : (a : List ℕ) (f : ℕ) (duals : List ℕ) (less l : ℕ) → fleet_at a l ≢ f → own_number a f duals less l ≡ pos 0
-other_is a f duals less l ne = choice (fleet_at a l == f) _ (ne_eqb _ _ ne)
+other_is : (a : List ℕ) (f : ℕ) (duals : List ℕ) (less l : ℕ) → choice_at a l ≢ f → own_number a f duals less l ≡ pos 0
+other_is a f duals less l ne = choice (choice_at a l == f) _ (ne_eqb _ _ ne)
   where
     choice : (b : Bool) (x : ℤ) → b ≡ false → (if b then x else pos 0) ≡ pos 0
     choice b x e = rw e
@@ -74,17 +74,17 @@ module _ (t : Tables) (a : List ℕ) (f : ℕ) (worths : List (List ℕ)) (rows 
     (tight : AreTight worths (slice_index rows) (slice_index columns) (slice_index next) (length worths)) (known : AreFollowers t a f (slice_index next)) where
   -- the duals of the fleet's legs alone
   row_part : ℕ → ℕ
-  row_part l = if fleet_at a l == f then slice_index rows l else 0
+  row_part l = if choice_at a l == f then slice_index rows l else 0
 
   clean_part : ℕ → ℕ
-  clean_part l = if fleet_at a l == f then CLEAN_WORTH else 0
+  clean_part l = if choice_at a l == f then CLEAN_WORTH else 0
 
   column_part : ℕ → ℕ
-  column_part l = if fleet_at a l == f then slice_index columns l else 0
+  column_part l = if choice_at a l == f then slice_index columns l else 0
 
   u_parts : (l : ℕ) → own_number a f rows CLEAN_WORTH l ≡ pos (row_part l) -ℤ pos (clean_part l)
   unfolding row_part clean_part
-  u_parts l = either (fleet_at a l == f) (slice_index rows l)
+  u_parts l = either (choice_at a l == f) (slice_index rows l)
     where
       either : (b : Bool) (x : ℕ) → (if b then pos x -ℤ pos CLEAN_WORTH else pos 0) ≡ pos (if b then x else 0) -ℤ pos (if b then CLEAN_WORTH else 0)
       either true x = refl
@@ -92,7 +92,7 @@ module _ (t : Tables) (a : List ℕ) (f : ℕ) (worths : List (List ℕ)) (rows 
 
   v_parts : (l : ℕ) → own_number a f columns 0 l ≡ pos (column_part l)
   unfolding column_part
-  v_parts l = either (fleet_at a l == f) (slice_index columns l)
+  v_parts l = either (choice_at a l == f) (slice_index columns l)
     where
       either : (b : Bool) (x : ℕ) → (if b then pos x -ℤ pos 0 else pos 0) ≡ pos (if b then x else 0)
       either true x = omega (arith, ints)
@@ -104,13 +104,13 @@ module _ (t : Tables) (a : List ℕ) (f : ℕ) (worths : List (List ℕ)) (rows 
   at_leg l lt =
       let lt' = subst (λ n. l < n) (sym w.size) lt in
       let worth = w.each l (slice_index next l) lt (known.one_to_one.within l lt) in
-      elim (cases_eq (fleet_at a l) f) [
+      elim (cases_eq (choice_at a l) f) [
         | inl own ↦
             let clean = (known.each l lt).own own in
-            in_fleet (fleet_at a l == f) (fleet_at a (slice_index next l) == f) _ _ _ (eq-eqb _ _ own) (eq-eqb _ _ clean.turn.leaves_on) (tight.meet l lt') (worth.clean clean)
+            in_fleet (choice_at a l == f) (choice_at a (slice_index next l) == f) _ _ _ (eq-eqb _ _ own) (eq-eqb _ _ clean.turn.leaves_on) (tight.meet l lt') (worth.clean clean)
         | inr ne ↦
             let itself = (known.each l lt).other ne in
-            in_other (fleet_at a l == f) (fleet_at a (slice_index next l) == f) _ _ _ (ne_eqb _ _ ne) (ne_eqb _ _ (λ e. ne (ap (fleet_at a) itself ∙ e)))
+            in_other (choice_at a l == f) (choice_at a (slice_index next l) == f) _ _ _ (ne_eqb _ _ ne) (ne_eqb _ _ (λ e. ne (ap (choice_at a) itself ∙ e)))
             (worth.idle (record { other = ne; itself = itself }))
       ]
     where

@@ -3,7 +3,7 @@ use Rattle.std.specs.Prelude.{◌≡◌, ◌≢◌, ℕ, zero, suc, ◌<◌, Boo
 use Rattle.sums.specs.Below.{sum_below_ℤ}
 use Rattle.fleet_model.specs.declared.parts.Connection.{Connection}
 use Rattle.fleet_model.specs.declared.tables.Tables.{Tables}
-use Rattle.fleet_model.specs.Counts.{fleet_at}
+use Rattle.fleet_model.specs.Counts.{choice_at}
 use Rattle.fleet_model.specs.Schedule.{legs_in}
 use Rattle.ground_turns.specs.Maps.{turn_at}
 use Rattle.ground_turns.specs.Throughs.{IsThroughSet, IsThroughTurn, value_of, value_of_set, worth_at}
@@ -19,7 +19,7 @@ number_at numbers leg = slice_index_or numbers leg (pos 0)
 pub record ReachTurns (t : Tables) (a : List ℕ) (f : ℕ) (u v : List ℤ) : Type 0 where
   pub arrivals : length u ≡ legs_in t
   pub departures : length v ≡ legs_in t
-  pub others : (leg : ℕ) → leg < legs_in t → fleet_at a leg ≢ f → (number_at u leg ≡ pos 0) × (number_at v leg ≡ pos 0)
+  pub others : (leg : ℕ) → leg < legs_in t → choice_at a leg ≢ f → (number_at u leg ≡ pos 0) × (number_at v leg ≡ pos 0)
   pub clean : (pair : Connection) → IsTurn t a f pair → IsClean t a f pair → pos 0 ≤ℤ (number_at u pair.arriving +ℤ number_at v pair.departing)
   pub through : (pair : Connection) (value : ℤ) → IsThroughTurn t a f pair → value_of t pair ≡ Some value
       → value ≤ℤ (number_at u pair.arriving +ℤ number_at v pair.departing)

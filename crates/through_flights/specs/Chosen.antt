@@ -1,7 +1,7 @@
 -- What is read from a matching of the legs.
 use Rattle.std.specs.Prelude.{ℕ, ◌-◌, ◌==◌, nat_lt, Bool, if◌then◌else◌, List, slice_index, ℤ, pos, ◌-ℤ◌}
 use Rattle.best_matching.specs.Worths.{worth_at}
-use Rattle.fleet_model.specs.Counts.{fleet_at}
+use Rattle.fleet_model.specs.Counts.{choice_at}
 use Rattle.through_flights.specs.declared.worths.TheConstants.{CLEAN_WORTH}
 
 -- a leg goes on in a through pair of some value
@@ -14,4 +14,4 @@ chosen_value worths columns leg = worth_at worths leg (slice_index columns leg) 
 
 -- the dual of a leg less a number, and 0 of a leg of another fleet
 abbrev pub own_number : List ℕ → ℕ → List ℕ → ℕ → ℕ → ℤ
-own_number a f duals less leg = if fleet_at a leg == f then pos (slice_index duals leg) -ℤ pos less else pos 0
+own_number a f duals less leg = if choice_at a leg == f then pos (slice_index duals leg) -ℤ pos less else pos 0

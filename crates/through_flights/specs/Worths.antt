@@ -3,7 +3,7 @@
 use Rattle.std.specs.Prelude.{◌≡◌, ◌≢◌, ℕ, ◌+◌, ◌<◌, ◌≤◌, ◌⊎◌, List, length, slice_index_or, [], unwrap_or, unsigned_abs, pos}
 use Rattle.fleet_model.specs.declared.parts.Connection.{Connection}
 use Rattle.fleet_model.specs.declared.tables.Tables.{Tables}
-use Rattle.fleet_model.specs.Counts.{fleet_at}
+use Rattle.fleet_model.specs.Counts.{choice_at}
 use Rattle.fleet_model.specs.Schedule.{legs_in}
 use Rattle.ground_turns.specs.Throughs.{IsThroughTurn, value_of}
 use Rattle.ground_turns.specs.Turns.{IsClean, IsTurn, nights_waited, wait_of}
@@ -25,7 +25,7 @@ pub record IsShort (t : Tables) (f : ℕ) (pair : Connection) : Type 0 where
 
 -- a leg of another fleet, at itself
 pub record IsIdle (a : List ℕ) (f : ℕ) (pair : Connection) : Type 0 where
-  pub other : fleet_at a pair.arriving ≢ f
+  pub other : choice_at a pair.arriving ≢ f
   pub itself : pair.arriving ≡ pair.departing
 
 -- a clean turn, or a leg of another fleet at itself, is worth so much that one of them counts for more than all through

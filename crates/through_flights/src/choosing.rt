@@ -135,7 +135,7 @@ fn own_number(plan: &Assignment, fleet: u32, duals: &Entries<u64>, less: u64, le
     requires dual { leg < length duals.now }
     ensures { result ≡ own_number plan.now fleet duals.now less leg }
 {
-    if plan.fleet(leg) == fleet {
+    if plan.choice(leg) == fleet {
         i128::from(duals.as_slice()[leg as usize]) - i128::from(less)
     } else {
         0

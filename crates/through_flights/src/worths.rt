@@ -1,6 +1,6 @@
 //! What the turns of a fleet are worth.
 ghost use Rattle.std.specs.Prelude.{◌≡◌, ◌<◌, ◌↔◌, ℕ, IsTrue, length, slice_index, IfOk};
-ghost use Rattle.fleet_model.specs.Counts.{fleet_at};
+ghost use Rattle.fleet_model.specs.Counts.{choice_at};
 ghost use Rattle.fleet_model.specs.Schedule.{legs_in};
 ghost use Rattle.through_flights.specs.Known.{AreFleetTurns};
 ghost use Rattle.through_flights.specs.Worths.{AreTurnWorths, IsCleanTurn, IsShort, IsTurnWorth, listed_value, pair_of};
@@ -74,7 +74,7 @@ fn turn_worth(turns: &FleetTurns<'_>, pair: Connection, value: u64) -> u64
     requires value { value ≡ listed_value turns.now.tables.now pair }
     ensures { IsTurnWorth turns.now.tables.now turns.now.plan.now turns.now.fleet pair result }
 {
-    if turns.plan.fleet(pair.arriving) != turns.fleet {
+    if turns.plan.choice(pair.arriving) != turns.fleet {
         if pair.arriving == pair.departing {
             CLEAN_WORTH
         } else {
@@ -94,10 +94,10 @@ fn is_clean_turn(turns: &FleetTurns<'_>, pair: Connection) -> bool
     requires turns { AreFleetTurns turns.now }
     requires arriving { pair.arriving < legs_in turns.now.tables.now }
     requires departing { pair.departing < legs_in turns.now.tables.now }
-    requires own { fleet_at turns.now.plan.now pair.arriving ≡ turns.now.fleet }
+    requires own { choice_at turns.now.plan.now pair.arriving ≡ turns.now.fleet }
     ensures { IsTrue result ↔ IsCleanTurn turns.now.tables.now turns.now.plan.now turns.now.fleet pair }
 {
-    turns.plan.fleet(pair.departing) == turns.fleet
+    turns.plan.choice(pair.departing) == turns.fleet
         && turns.tables.leg(pair.arriving).to == turns.tables.leg(pair.departing).from
         && wait(turns.tables, turns.fleet, pair) <= turns.longest.as_slice()[pair.arriving as usize]
 }

@@ -4,6 +4,7 @@ ghost use Rattle.fleet_model.specs.declared.limits.TheConstants.{MINUTES_PER_DAY
 ghost use Rattle.fleet_model.specs.Legal.{IsLegal};
 
 use crate::assertions::assert_same;
+use crate::turns::is_plain;
 use best_matching::best_matching;
 use entries::{Entries, NoMemory};
 use fleet_model::{Assignment, Connection, LoadError, Settings, Tables};
@@ -65,7 +66,7 @@ fn legal(tables: &Tables, fleets: &[u32]) -> Option<Assignment>
     }
 }
 
-/// The choice for a fleet; nothing where there is no such fleet or the assignment isn't legal.
+/// The choice for a fleet; nothing where there is no such fleet, a leg has several times, or the assignment isn't legal.
 fn chosen(
     alloc: Global,
     files: &Files,
@@ -89,7 +90,7 @@ fn chosen_in(
     let Some(plan) = legal(tables, fleets) else {
         return Ok(None);
     };
-    if fleet >= tables.fleet_count() {
+    if fleet >= tables.fleet_count() || !is_plain(tables) {
         return Ok(None);
     }
     Ok(Some(choose(alloc, tables, &plan, fleet)?))

@@ -2,6 +2,7 @@
 ghost use Rattle.std.specs.Prelude.{◌≡◌, ◌<◌, ◌≤◌, ◌*◌, IfOk, ℕ, MatchBool, length, slice_index, ⊤};
 ghost use Rattle.fleet_model.specs.Counts.{weights_of};
 ghost use Rattle.fleet_model.specs.Legal.{IsAssignment};
+ghost use Rattle.fleet_model.specs.Plain.{IsPlain};
 ghost use Rattle.fleet_model.specs.Schedule.{fleets_in, leg_on, legs_in};
 ghost use Rattle.fleet_model.specs.Use.{laps_flown};
 ghost use Rattle.fleet_model.specs.declared.limits.TheConstants.{MAX_LEGS};
@@ -21,10 +22,18 @@ pub fn fits(tables: &Tables, plan: &Assignment, fleet: u32, turns: &[Connection]
     requires few { length turns.now ≤ MAX_LEGS }
     ensures { MatchBool result (IsFitting tables.now plan.now fleet turns.now) ⊤ }
 {
-    are_turns(tables, plan, fleet, turns)
+    is_plain(tables)
+        && are_turns(tables, plan, fleet, turns)
         && are_once(tables, plan, fleet, turns)
         && lapping(tables, plan, fleet) + crossings(tables, fleet, turns)
             == used(tables, plan, fleet)
+}
+
+/// Whether each leg has one time.
+pub fn is_plain(tables: &Tables) -> bool
+    ensures { MatchBool result (IsPlain tables.now) ⊤ }
+{
+    tables.departure_count() == tables.leg_count()
 }
 
 // Whether each is a turn of the fleet.
@@ -47,8 +56,8 @@ fn is_turn(tables: &Tables, plan: &Assignment, fleet: u32, turn: &Connection) ->
 {
     turn.arriving < tables.leg_count()
         && turn.departing < tables.leg_count()
-        && plan.fleet(turn.arriving) == fleet
-        && plan.fleet(turn.departing) == fleet
+        && plan.choice(turn.arriving) == fleet
+        && plan.choice(turn.departing) == fleet
         && tables.leg(turn.arriving).to == tables.leg(turn.departing).from
 }
 
@@ -59,7 +68,7 @@ fn are_once(tables: &Tables, plan: &Assignment, fleet: u32, turns: &[Connection]
         → (arrivals_of turns.now l ≡ weights_of plan.now (leg_on l fleet)) × (departures_of turns.now l ≡ weights_of plan.now (leg_on l fleet))) ⊤ }
 {
     for leg in 0..tables.leg_count() {
-        let times = usize::from(plan.fleet(leg) == fleet);
+        let times = usize::from(plan.choice(leg) == fleet);
         if arrivals(turns, leg) != times || departures(turns, leg) != times {
             return false;
         }
@@ -113,8 +122,8 @@ fn crossings(tables: &Tables, fleet: u32, turns: &[Connection]) -> u32
 }
 
 // The fleet's laps.
-#[tactic(auto, unfolding(fleet_model::specs::Use::laps_flown))]
 fn lapping(tables: &Tables, plan: &Assignment, fleet: u32) -> u32
+    requires plain { IsPlain tables.now }
     requires plan { IsAssignment tables.now plan.now }
     requires fleet { fleet < fleets_in tables.now }
     ensures value { result ≡ laps_flown tables.now (weights_of plan.now) fleet }
@@ -122,7 +131,7 @@ fn lapping(tables: &Tables, plan: &Assignment, fleet: u32) -> u32
 {
     let mut sum = 0;
     for leg in 0..tables.leg_count() {
-        if plan.fleet(leg) == fleet {
+        if plan.choice(leg) == fleet {
             sum += tables.laps(flight(tables, leg, fleet));
         }
     }

@@ -5,6 +5,7 @@ from fractions import Fraction
 
 from hints.forms import MOST_PARKED, TRILLION
 from hints.records import DATED, HEADERS, Unread
+from steps.flagged import HEADERS as FLAGGED_HEADERS
 
 MOST_AIRCRAFT = 500
 # Where a record of a station has its limit, if it has one.
@@ -107,10 +108,32 @@ def only_day(words):
     return change
 
 
+def window(words):
+    """A leg that may depart so many minutes later, or earlier, for so much more."""
+    return record_more("windows.csv", words, ("-?[0-9]{1,3}", "-?[0-9]{1,13}"))
+
+
+def optional(words):
+    """A leg that may be left out, for so much."""
+    return record_more("optional.csv", words, ("-?[0-9]{1,13}",))
+
+
+def record_more(name, words, forms):
+    """Returns what adds a record of a leg, with numbers of these forms, to a table that may not stand there yet."""
+    if len(words) != 1 + len(forms) or not all(re.fullmatch(form, it) for form, it in zip(forms, words[1:])):
+        return None
+
+    def change(tables):
+        record_of(tables, "legs.csv", words[0])
+        tables.setdefault(name, []).append(words)
+
+    return change
+
+
 def drop(tables, flights):
     """Takes flights away, with all that speaks of them."""
-    tables["legs.csv"][:] = [it for it in tables["legs.csv"] if it[0] not in flights]
-    tables["costs.csv"][:] = [it for it in tables["costs.csv"] if it[0] not in flights]
+    for name in {"legs.csv", "costs.csv", *FLAGGED_HEADERS} & set(tables):
+        tables[name][:] = [it for it in tables[name] if it[0] not in flights]
     tables["throughs.csv"][:] = [it for it in tables["throughs.csv"] if flights.isdisjoint(it[:2])]
 
 
@@ -121,7 +144,11 @@ CHANGES = {
     "drop-leg": ("drop-leg FLIGHT", drop_leg),
     "parking": ("parking STATION 2 (or -)", parking),
     "only-day": ("only-day DAY", only_day),
+    "window": ("window FLIGHT 10 5", window),
+    "optional": ("optional FLIGHT 30", optional),
 }
+# The flag without which the program wouldn't read the table that a change adds to.
+FLAG_OF = {"window": "--windows", "optional": "--optional"}
 
 
 def times(price, factor):

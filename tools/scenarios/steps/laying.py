@@ -3,10 +3,11 @@
 import os
 import shutil
 
-from hints.records import LIMITED, TABLES, Unread, headers_of, table_of
+from hints.records import LIMITED, Unread, headers_of, table_of
 from schedule_files.files import table
 from steps import whole
 from steps.changes import read_change
+from steps.flagged import HEADERS, flags_of, tables_in
 from steps.running import run
 
 # Stands beside tables that can't be solved, and says why.
@@ -16,8 +17,8 @@ REFUSED = "refused.txt"
 def lay(program, files, texts, period, place, limits):
     """Makes the folder of the tables, from these files and with these changes. Before they are changed their period has so many days."""
     with whole.folder(place) as beside:
-        for name, path in zip(TABLES, files):
-            shutil.copyfile(path, os.path.join(beside, name))
+        for it in files:
+            shutil.copyfile(it, os.path.join(beside, os.path.basename(it)))
         refusal = refused(program, beside, period, limits) or changed(beside, texts)
         if refusal:
             whole.write(os.path.join(beside, REFUSED), refusal)
@@ -28,7 +29,7 @@ def refused(program, folder, period, limits):
     a fault only where all tables read."""
     plan = os.path.join(folder, "plan.csv")
     whole.write(plan, "")
-    ran = run(program, ["judge", folder, *(["--period", str(period)] if period > 1 else [])], limits)
+    ran = run(program, ["judge", folder, *(["--period", str(period)] if period > 1 else []), *flags_of(folder)], limits)
     os.remove(plan)
     return ran.told if ran.status == 6 else None
 
@@ -37,7 +38,7 @@ def changed(folder, texts):
     """Changes the tables of a folder, and returns why that can't be done, or None."""
     if not texts:
         return None
-    read = {it: table_of(folder, it, headers_of(it)) for it in TABLES}
+    read = {it: table_of(folder, it, (HEADERS[it],) if it in HEADERS else headers_of(it)) for it in tables_in(folder)}
     tables = {it: rows for it, (_, rows) in read.items()}
     for text in texts:
         try:
@@ -45,6 +46,8 @@ def changed(folder, texts):
         except Unread as error:
             return f"{text}: {error}"
     for name, rows in tables.items():
-        header = LIMITED if name == "stations.csv" and len(rows[0] if rows else ()) == len(LIMITED) else read[name][0]
+        header = read[name][0] if name in read else HEADERS[name]
+        if name == "stations.csv" and len(rows[0] if rows else ()) == len(LIMITED):
+            header = LIMITED
         whole.write(os.path.join(folder, name), table(header, rows))
     return None

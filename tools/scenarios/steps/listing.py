@@ -6,7 +6,8 @@ import shlex
 
 from hints.records import TABLES, Unread, bytes_of, records_in
 from hints.words import Call
-from steps.changes import read_change
+from steps.changes import FLAG_OF, read_change
+from steps.flagged import FLAGGED
 
 HEADER = ("scenario", "words", "folder", "changes")
 NAME = re.compile(r"[A-Za-z0-9][A-Za-z0-9_.+-]{0,63}")
@@ -20,8 +21,14 @@ class Scenario:
         self.name, self.words, self.folder, self.changes = name, words, folder, changes
 
     def files(self, base):
-        """Returns the five files that its tables come from: those of its own folder, and for the others those of the base."""
-        return [self.own(it) or os.path.join(base, it) for it in TABLES]
+        """Returns the files that its tables come from: those of its own folder, and for the others those of the base."""
+        return [self.own(it) or os.path.join(base, it) for it in (*TABLES, *self.flagged(base))]
+
+    def flagged(self, base):
+        """Returns the tables that its words want beside the five, but those that its changes alone fill."""
+        filled = {FLAG_OF.get(it.split()[0]) for it in self.changes}
+        wanted = ((flag, name) for flag, (name, _) in FLAGGED.items() if flag in self.words)
+        return [name for flag, name in wanted if flag not in filled or self.own(name) or os.path.lexists(os.path.join(base, name))]
 
     @property
     def period(self):
@@ -64,12 +71,19 @@ def scenario_of(fields, beside):
     if not NAME.fullmatch(name):
         raise Unread(f'a scenario is named "{name}", it should be 1 to 64 of A to Z, a to z, 0 to 9, ".", "_", "+" and "-"')
     place = os.path.join(beside, folder) if folder else None
-    if place and not any(os.path.isfile(os.path.join(place, it)) for it in TABLES):
-        raise Unread(f"the folder {place} has none of {', '.join(TABLES)}")
+    names = (*TABLES, *(it for it, _ in FLAGGED.values()))
+    if place and not any(os.path.isfile(os.path.join(place, it)) for it in names):
+        raise Unread(f"the folder {place} has none of {', '.join(names)}")
     texts = [it.strip() for it in changes.split(";") if it.strip()]
     for it in texts:
         read_change(it)
-    return Scenario(name, words_of(words), place, texts)
+    return Scenario(name, with_flags(words_of(words), texts), place, texts)
+
+
+def with_flags(words, texts):
+    """Returns the words of a call with the flags that changes bring."""
+    brought = dict.fromkeys(FLAG_OF[it.split()[0]] for it in texts if it.split()[0] in FLAG_OF)
+    return [*words, *(it for it in brought if it not in words)]
 
 
 def words_of(text):

@@ -10,20 +10,26 @@ import sys
 from hints.records import TABLES
 from hints.words import Call
 from steps import whole
+from steps.flagged import HEADERS, reading_of, tables_in
 from steps.laying import REFUSED
 from steps.running import Fault, run
 
 TOP = os.path.dirname(os.path.dirname(os.path.dirname(os.path.dirname(os.path.realpath(__file__)))))
 ANSWER = "answer.json"
-CLAIMED = (*TABLES, "plan.csv", "proof.txt")
+# Beside the folder of the solution: what is written of it.
+CHECK, SIZES, DRAWN = "check.json", "sizes.json", "drawn"
+CLAIMED = (*TABLES, *HEADERS, "plan.csv", "proof.txt")
 # The statuses with which `solve` has written a proof.
 PROVED = (0, 3, 4, 5)
 
 
 def solve(program, tables, words, place, limits, is_last):
-    """Makes the folder of the solution: the tables, what `solve` writes, and its answer, which may be a fault at the last try."""
+    """Makes the folder of the solution: the tables, what `solve` writes, and its answer, which may be a fault at the last try. What was
+    written of an earlier solution goes, also where it isn't wanted any more."""
+    for it in (CHECK, SIZES, DRAWN):
+        whole.remove(os.path.join(os.path.dirname(place), it))
     with whole.folder(place) as beside:
-        for name in TABLES:
+        for name in tables_in(tables):
             shutil.copyfile(os.path.join(tables, name), os.path.join(beside, name))
         answer = refusal_of(tables) or answer_or_fault(lambda: answer_of(program, beside, words, limits), is_last)
         write_json(os.path.join(beside, ANSWER), answer)
@@ -46,7 +52,7 @@ def answer_of(program, folder, words, limits):
     answer = {"status": ran.status, "told": ran.told, "seconds": ran.seconds, "memory": ran.memory}
     if ran.status in PROVED:
         answer["solved"] = json.loads(ran.told)
-        answer["reading"] = call.reading
+        answer["reading"] = reading_of(call, folder)
     return answer
 
 
@@ -95,7 +101,7 @@ def draw(solved, name, place):
         # The page is called by its folder.
         own = os.path.join(beside, name)
         os.mkdir(own)
-        for it in (*CLAIMED, "rotation.csv"):
+        for it in (*tables_in(solved), "plan.csv", "proof.txt", "rotation.csv"):
             shutil.copyfile(os.path.join(solved, it), os.path.join(own, it))
         words = [os.path.join(TOP, "tools", "draw"), own, *answer["reading"]]
         if subprocess.run([sys.executable, *words], stdin=subprocess.DEVNULL, check=False).returncode:

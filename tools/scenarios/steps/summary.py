@@ -3,17 +3,14 @@
 import csv
 import io
 import os
-import shutil
 import sys
 from collections import Counter
 
 from steps import whole
 from steps.page import page
 from steps.sizes import CHANGES, bound_in
-from steps.solving import ANSWER, read_json, sums_of
+from steps.solving import ANSWER, CHECK, SIZES, read_json, sums_of
 
-CHECK = "check.json"
-SIZES = "sizes.json"
 UNSOLVED, UNPROVED, REFUSED = "NOT SOLVED", "NOT PROVED", "refused"
 RULE = "*" * 78
 MOST_TOLD = 20
@@ -137,10 +134,10 @@ def summarize(names, folder):
 
 def forget_faults(folder):
     """Takes away what a fault has left, so that the next run does it again."""
-    solved, check = os.path.join(folder, "solved"), os.path.join(folder, CHECK)
+    solved = os.path.join(folder, "solved")
     if "fault" in answer_in(os.path.join(solved, ANSWER)):
-        shutil.rmtree(solved, ignore_errors=True)
-    for path in (check, os.path.join(folder, SIZES)):
+        whole.remove(solved)
+    for path in (os.path.join(folder, CHECK), os.path.join(folder, SIZES)):
         if os.path.exists(path) and "fault" in answer_in(path):
             os.remove(path)
 

@@ -38,6 +38,15 @@ def write(path, text):
         raise
 
 
+def remove(path):
+    """Takes a folder or a file away, if it stands there."""
+    if os.path.isdir(path):
+        shutil.rmtree(path, ignore_errors=True)
+    else:
+        with contextlib.suppress(FileNotFoundError):
+            os.remove(path)
+
+
 def mask():
     """Returns the bits that a new file may not have."""
     found = os.umask(0)

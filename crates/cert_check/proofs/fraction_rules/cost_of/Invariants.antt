@@ -10,5 +10,5 @@ use Rattle.cert_check.proofs.fraction_rules.cost_of.Given as goal
 abbrev pub invariant-loop-leg : goal.invariant-loop-leg
 invariant-loop-leg l = record {
   added : l.sum ≡ sum_below_ℤ (λ m. sum_below_ℤ (weighted_cost l.tables (parts_in l.mixed) m) (choices_in l.tables m)) l.leg;
-  size : IsUpTo (MAX_CHOICES * l.leg) l.sum;
+  size : IsUpTo (3 * MAX_CHOICES * l.leg) l.sum;
 }

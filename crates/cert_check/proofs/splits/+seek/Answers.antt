@@ -1,11 +1,16 @@
-use Rattle.std.proofs.Common.{false, arith}
+use Rattle.std.proofs.Common.{◌<◌, ◌^◌, false, arith}
 use Rattle.fleet_model.proofs.FewChoices.{few_choice}
-use Rattle.cert_check.proofs.SplitsAbove.{in_second, in_same, of_split, of_trim, sound_here, split_parts, trim_parts}
+use Rattle.cert_check.proofs.SplitsAbove.{above_here, in_second, in_same, of_split, of_trim, sound_here, split_parts, trim_parts}
 use Rattle.cert_check.proofs.TreeSizes.{split_less, trim_less}
 use Rattle.cert_check.proofs.splits.+seek.Goals as goal
 
 pub seek-is_above-requires : goal.seek-is_above-requires
 seek-is_above-requires t c = sound_here _ _ _ c.requires.sound
+
+pub seek-returns-then-is_above-clause-sought : goal.seek-returns-then-is_above-clause-sought
+seek-returns-then-is_above-clause-sought t c =
+    let few : c.args.seeker.now.number < 2 ^ 64 = omega arith in
+    above_here _ _ _ _ _ few c.if-is_above.ensures
 
 pub seek-seek_both-requires : goal.seek-seek_both-requires
 seek-seek_both-requires t c = (

@@ -1,6 +1,6 @@
 use Rattle.std.proofs.Common.{sym, subst, arith}
 use Rattle.dual_bound.specs.Prices.{IsScale}
-use Rattle.dual_bound.proofs.ScaledCosts.{five_held, idle_worth, one_as_five, worth_held}
+use Rattle.dual_bound.proofs.ScaledCosts.{pair_held, idle_worth, cost_as_pair, worth_held}
 use Rattle.dual_bound.proofs.worth.flown_worth.Goals as goal
 
 pub scaled_cost-requires-clause-scale : goal.scaled_cost-requires-clause-scale
@@ -12,10 +12,10 @@ returns-then-is_idle-clause-value c =
     c.scale.ensures c.scaled_cost.ensures.value c.scaled_cost.ensures.size
 
 pub returns-then-is_idle-clause-size : goal.returns-then-is_idle-clause-size
-returns-then-is_idle-clause-size c = one_as_five c.scaled_cost.result c.scaled_cost.ensures.size
+returns-then-is_idle-clause-size c = cost_as_pair c.scaled_cost.result c.scaled_cost.ensures.size
 
 pub returns-clause-value : goal.returns-clause-value
-returns-clause-value c = worth_held 5 c.priced_worth.result _ c.priced_worth.ensures.size (omega arith) c.priced_worth.ensures.value
+returns-clause-value c = worth_held 7 c.priced_worth.result _ c.priced_worth.ensures.size (omega arith) c.priced_worth.ensures.value
 
 pub returns-clause-size : goal.returns-clause-size
-returns-clause-size c = five_held c.priced_worth.result c.priced_worth.ensures.size
+returns-clause-size c = pair_held c.priced_worth.result c.priced_worth.ensures.size

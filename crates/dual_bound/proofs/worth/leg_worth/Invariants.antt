@@ -8,5 +8,5 @@ use Rattle.dual_bound.proofs.worth.leg_worth.Given as goal
 abbrev pub invariant-loop-choice : goal.invariant-loop-choice
 invariant-loop-choice l = record {
   least : l.least ≡ least_below (λ c. kept_by l.kept (leg_on l.leg c)) (λ c. pair_worth l.tables l.prices l.k (leg_on l.leg c)) l.choice;
-  size : IfSome l.least (λ z. IsUpTo 5 z);
+  size : IfSome l.least (λ z. IsUpTo 7 z);
 }

@@ -8,5 +8,5 @@ use Rattle.dual_bound.proofs.worth.legs_worth.Given as goal
 abbrev pub invariant-loop-leg : goal.invariant-loop-leg
 invariant-loop-leg l = record {
   added : l.sum ≡ sum_below_ℤ (leg_worth l.tables (kept_by l.kept) l.prices l.k) l.leg;
-  size : IsUpTo (5 * l.leg) l.sum;
+  size : IsUpTo (7 * l.leg) l.sum;
 }

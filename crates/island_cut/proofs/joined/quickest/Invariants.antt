@@ -1,5 +1,5 @@
 use Rattle.std.proofs.Common.{◌≡◌, ℕ, ◌<◌, length}
-use Rattle.fleet_model.specs.Counts.{fleet_at}
+use Rattle.fleet_model.specs.Counts.{choice_at}
 use Rattle.fleet_model.specs.Schedule.{fleets_in}
 use Rattle.island_cut.specs.Spare.{IsQuickest}
 use Rattle.island_cut.proofs.joined.quickest.Given as goal
@@ -7,5 +7,5 @@ use Rattle.island_cut.proofs.joined.quickest.Given as goal
 abbrev pub invariant-loop-leg : goal.invariant-loop-leg
 invariant-loop-leg l = record {
   each_leg : length l.plan ≡ l.leg;
-  each : (k : ℕ) → k < l.leg → IsQuickest l.tables k (fleets_in l.tables) (fleet_at l.plan k);
+  each : (k : ℕ) → k < l.leg → IsQuickest l.tables k (fleets_in l.tables) (choice_at l.plan k);
 }

@@ -1,6 +1,6 @@
 use Rattle.std.proofs.Common.{◌==◌, if◌then◌else◌, refl, ◌∙◌, ap, arith}
 use Rattle.sums.specs.Below.{sum_below}
-use Rattle.fleet_model.specs.Counts.{fleet_at}
+use Rattle.fleet_model.specs.Counts.{choice_at}
 use Rattle.fleet_model.specs.OwnTimes.{own_pair}
 use Rattle.fleet_model.specs.Schedule.{leg_of, period_of}
 use Rattle.fleet_model.specs.Times.{departure}
@@ -17,8 +17,8 @@ loop-leg-preserved c =
     let leg = leg_of c.args.tables.now c.loop-leg.leg in
     record {
       counts = c.raise_from.ensures.counts;
-      value = leg_more (period_of c.args.tables.now) (leaving_by c.args.tables.now (joined c.args.tables.now (fleet_at c.args.plan.now)) c.args.station) _ _ (leg.from == c.args.station) (departure c.args.tables.now (own_pair c.args.tables.now c.loop-leg.leg (fleet_at c.args.plan.now c.loop-leg.leg))) c.left_from-from.result c.loop-leg.leg
-          (c.left_from-from.ensures.value ∙ ap (λ f. if leg.from == c.args.station then departure c.args.tables.now (own_pair c.args.tables.now c.loop-leg.leg f) else period_of c.args.tables.now) c.fleet.ensures) c.loop-leg.invariant.value (λ m. refl) c.raise_from.ensures.raised;
+      value = leg_more (period_of c.args.tables.now) (leaving_by c.args.tables.now (joined c.args.tables.now (choice_at c.args.plan.now)) c.args.station) _ _ (leg.from == c.args.station) (departure c.args.tables.now (own_pair c.args.tables.now c.loop-leg.leg (choice_at c.args.plan.now c.loop-leg.leg))) c.left_from-from.result c.loop-leg.leg
+          (c.left_from-from.ensures.value ∙ ap (λ f. if leg.from == c.args.station then departure c.args.tables.now (own_pair c.args.tables.now c.loop-leg.leg f) else period_of c.args.tables.now) c.choice.ensures) c.loop-leg.invariant.value (λ m. refl) c.raise_from.ensures.raised;
     }
 
 pub returns-clause-counts : goal.returns-clause-counts
@@ -28,5 +28,5 @@ pub returns-clause-value : goal.returns-clause-value
 unfolding departed_by
 returns-clause-value c = record {
   each = λ m within.
-      c.loop-leg.invariant.value m within ∙ ap (sum_below (leaving_by c.args.tables.now (joined c.args.tables.now (fleet_at c.args.plan.now)) c.args.station m)) (omega (arith, c.loop-leg.auto.leg-end, c.loop-leg-test.false, c.leg_count-leg-end.ensures));
+      c.loop-leg.invariant.value m within ∙ ap (sum_below (leaving_by c.args.tables.now (joined c.args.tables.now (choice_at c.args.plan.now)) c.args.station m)) (omega (arith, c.loop-leg.auto.leg-end, c.loop-leg-test.false, c.leg_count-leg-end.ensures));
 }

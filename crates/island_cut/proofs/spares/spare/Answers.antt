@@ -1,6 +1,6 @@
 use Rattle.std.proofs.Common.{◌≡◌, ℕ, ◌≤◌, ℤ, pos, ◌-ℤ◌, to_z, of_z, w64, ap, ◌∙◌, arith}
 use Rattle.std.proofs.lemmas.Int.{ints, to_z-of_z}
-use Rattle.fleet_model.specs.Counts.{fleet_at}
+use Rattle.fleet_model.specs.Counts.{choice_at}
 use Rattle.island_cut.specs.Spare.{aircraft_in}
 use Rattle.island_cut.proofs.SameUse.{spare_found}
 use Rattle.island_cut.proofs.spares.spare.Goals as goal
@@ -12,7 +12,7 @@ difference from has uses is few_has few_uses = grind (arith, ints, to_z-of_z)
 
 pub returns : goal.returns
 returns c =
-    let fleets : ℕ → ℕ = fleet_at c.quickest-plan.result in
+    let fleets : ℕ → ℕ = choice_at c.quickest-plan.result in
     let has = c.aircraft.ensures.value in
     let uses = c.used-used.ensures.value in
     let fits : c.used-used.result ≤ 202000 = omega (arith, c.used-used.ensures.few) in

@@ -1,4 +1,5 @@
 use Rattle.std.proofs.Common.{refl, arith}
+use Rattle.fleet_model.proofs.FewChoices.{few_choice}
 use Rattle.node_bounding.proofs.ClosedParts.{in_part, open_proper, split_first_less, split_second_less, split_with, split_without, trim_first_less, trim_second_less, trim_with, trim_without}
 use Rattle.node_bounding.proofs.closing.+close.Goals as goal
 
@@ -31,3 +32,6 @@ close-close_part-requires-in-Split-2 t c = (
 
 pub close_part-close-requires : goal.close_part-close-requires
 close_part-close-requires t c = (omega (arith, c.decreases), (c.requires.known, in_part _ _ _ _ _ c.narrow-undo.ensures.kept c.requires.sound))
+
+pub close_part-narrow-undo-requires-clause-fleet : goal.close_part-narrow-undo-requires-clause-fleet
+close_part-narrow-undo-requires-clause-fleet t c = few_choice c.args.tables.now c.args.step.leg c.args.step.choice c.requires.pair

@@ -7,10 +7,10 @@ use Rattle.plan_text.proofs.writing.write_plan.Goals as goal
 
 pub loop-leg-preserved : goal.loop-leg-preserved
 loop-leg-preserved c =
-    let one : HasWritten c.loop-leg.writer c.put_record-in-loop-leg.new.writer (leg_record c.args.tables.now c.args.plan.now c.loop-leg.leg ∷ []) = search rules in
+    let one : HasWritten c.loop-leg.writer c.put_pair.new.writer (leg_record c.args.tables.now c.args.plan.now c.loop-leg.leg ∷ []) = search rules in
     record {
       between = one.between;
-      text = leg_more c.args.tables.now c.args.plan.now c.loop-leg.leg c.loop-leg.writer c.put_record-in-loop-leg.new.writer c.loop-leg.invariant.text one;
+      text = leg_more c.args.tables.now c.args.plan.now c.loop-leg.leg c.loop-leg.writer c.put_pair.new.writer c.loop-leg.invariant.text one;
     }
 
 pub returns-in-Ok : goal.returns-in-Ok

@@ -6,5 +6,5 @@ use Rattle.plan_text.proofs.writing.write_plan.Given as goal
 abbrev pub invariant-loop-leg : goal.invariant-loop-leg
 invariant-loop-leg l = record {
   between : IsBetweenRecords l.writer;
-  text : text_in l.writer ≡ csv_text (plan_header ∷ leg_records l.tables l.plan l.leg);
+  text : text_in l.writer ≡ csv_text (plan_header l.tables ∷ leg_records l.tables l.plan l.leg);
 }

@@ -1,11 +1,6 @@
-use Rattle.std.proofs.lemmas.List.Elements.{recursion_from_All}
-use Rattle.fleet_model.specs.Limits.{IsPairCost}
-use Rattle.fleet_model.specs.Schedule.{fleets_in, legs_in}
-use Rattle.fleet_model.proofs.CostLookup.{found_fits}
+use Rattle.std.proofs.Common.{sym, arith}
+use Rattle.fleet_model.proofs.KeptTimes.{no_cost_of}
 use Rattle.fleet_model.proofs.tables.Tables.cost.Goals as goal
 
-pub returns-clause-fits : goal.returns-clause-fits
-returns-clause-fits c =
-    let t = c.args.self.now in
-    rw c.get.ensures (found_fits t.costs c.args.pair (legs_in t) (fleets_in t)
-    (recursion_from_All (IsPairCost (legs_in t) (fleets_in t)) t.costs t.in_range.costs_fit.each))
+pub returns-then-pair-leg_count-clause-value : goal.returns-then-pair-leg_count-clause-value
+returns-then-pair-leg_count-clause-value c = sym (no_cost_of c.args.self.now c.args.pair (omega (arith, c.leg_count.ensures, c.if-pair-leg_count.true)))

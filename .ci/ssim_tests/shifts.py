@@ -1,0 +1,323 @@
+"""Plans with shifts and with legs left out, written back: the records that they change, and when all legs depart then."""
+
+import datetime
+import random
+
+from schedule_lines import carrier, header, leg, numbered, segment, trailer, whole
+from ssim_tests.plans import DATE, LATER, ONE, THREE, TWO, WAY, file_of, plan_text, planned
+from ssim_tests.trying import EXAMPLE, call, records, scratch, standing
+
+DAY = 1440
+# Plans that are drawn, each by a number.
+DRAWS = 16
+MONDAY = ("30NOV26", "30NOV26")
+NIGHT = leg("ZZ", 1, "ZRH 2350 +0100 LHR 0050 +0000", "320", "1", MONDAY, shifts="01")
+MORNING = leg("ZZ", 1, "LIS 0010 +0000 FNC 0150 +0000", "320", "1", MONDAY, shifts="  ")
+# On Tuesdays, which are Mondays in UTC.
+DATE_LINE = leg("ZZ", 1, "AKL 0005 +1300 HNL 0835 -1000", "320", "2", shifts="0A")
+OTHER = leg("ZZ", 99, WAY, "E90", "7")
+ODD = leg("ZZ", 1, WAY, "320", "1", MONDAY, b40="0755", b62="    ")
+
+
+def short(line):
+    """What a plan may change of a leg's line: flight, variation, leg, period, days, times, date variations and type."""
+    if line[0] == "4":
+        return f"{line[5:13]} {line[30:33]}"
+    return f"{line[5:13]} {line[14:35].rstrip()} {line[39:47]} {line[57:65]} {line[192:194]} {line[72:75]}"
+
+
+# Of each case the legs, what is planned, the options, and the records of the new file. What is planned is a fleet and a shift by name.
+CASES = {
+    "a leg that departs later on a date": ([ONE, TWO], {"ZZ1": ("320", 10)}, (), [
+        "00010101 25OCT2627NOV2612345 08000800 09500950 00 320", "00010201 30NOV2630NOV261 08100810 10001000 00 320",
+        "00010301 01DEC2627MAR2712345 08000800 09500950 00 320", "00020101 25OCT2627MAR2712345 11001100 12501250 00 320",
+    ]),
+    "earlier on a day of the week, and another type": ([ONE, TWO], {"ZZ1": ("E90", -485)}, ("--whole-season",), [
+        "00010101 25OCT2627MAR271 23552355 01450145 A0 E90", "00010201 25OCT2627MAR27 2345 08000800 09500950 00 320",
+        "00020101 25OCT2627MAR2712345 11001100 12501250 00 320",
+    ]),
+    "a departure over midnight": ([NIGHT], {"ZZ1": ("320", 20)}, (), ["00010101 30NOV2630NOV261 00100010 01100110 11 320"]),
+    "a departure at midnight": ([NIGHT], {"ZZ1": ("320", 10)}, (), ["00010101 30NOV2630NOV261 00000000 01000100 11 320"]),
+    "an arrival on the day before": ([NIGHT], {"ZZ1": ("320", -60)}, (), ["00010101 30NOV2630NOV261 22502250 23502350 00 320"]),
+    "a departure on the day before": ([MORNING], {"ZZ1": ("320", -20)}, (), ["00010101 30NOV2630NOV261 23502350 01300130 A  320"]),
+    "a leg within its day": ([MORNING], {"ZZ1": ("320", 720)}, (), ["00010101 30NOV2630NOV261 12101210 13501350    320"]),
+    "passengers' times that differ or are blank": ([ODD], {"ZZ1": ("320", -478)}, (), ["00010101 30NOV2630NOV261 23570002 0152     00 320"]),
+    "a day that no date variation says": ([DATE_LINE], {"ZZ1": ("320", -720)}, (), [
+        "00010101 25OCT2624NOV26 2 00050005 08350835 0A 320", "00010201 30NOV2630NOV261 12051205 20352035 0A 320",
+        "00010301 08DEC2627MAR27 2 00050005 08350835 0A 320",
+    ]),
+    "such a day through the season": ([leg("ZZ", 1, "AKL 0005 +1300 HNL 0835 -1000", "320", "23", ("25OCT26", "00XXX00"), shifts="0A")],
+        {"ZZ1": ("320", -720)}, ("--whole-season",), [
+        "00010101 25OCT2600XXX00  3 00050005 08350835 0A 320", "00010201 26OCT2626MAR271 12051205 20352035 0A 320",
+    ]),
+    "a leg of another date": (THREE, {"ZZ7B": ("320", 25)}, (), [
+        "00070101 25OCT2628NOV261234567 22302230 23152315 00 320", "00070102 25OCT2628NOV261234567 01300130 03100310 11 320",
+        "00070201 29NOV2629NOV26      7 22302230 23152315 00 320", "00070202 29NOV2629NOV26      7 01550155 03350335 11 320",
+        "00070301 30NOV2627MAR271234567 22302230 23152315 00 320", "00070302 30NOV2627MAR271234567 01300130 03100310 11 320",
+    ]),
+    "a leg left out of a date": ([ONE, segment(ONE, "010", "XY 1"), LATER], {"ZZ1": ("-", 0)}, (), [
+        "00010101 25OCT2627NOV2612345 08000800 09500950 00 320", "00010101 010",
+        "00010201 01DEC2627MAR2712345 08000800 09500950 00 320", "00010201 010",
+        "00010301 25OCT2627MAR27     67 08000800 09500950 00 320",
+    ]),
+    "a leg left out of a day of the week": ([ONE, LATER], {"ZZ1": ("-", 0)}, ("--whole-season",), [
+        "00010101 25OCT2627MAR27 2345 08000800 09500950 00 320", "00010201 25OCT2627MAR27     67 08000800 09500950 00 320",
+    ]),
+    "a record of no date that is left": ([leg("ZZ", 1, WAY, "320", "1", MONDAY), TWO, LATER], {"ZZ1": ("-", 0)}, (), [
+        "00020101 25OCT2627MAR2712345 11001100 12501250 00 320", "00010101 25OCT2627MAR27     67 08000800 09500950 00 320",
+    ]),
+    "one of two legs of a flight left out": (THREE, {"ZZ7A": ("-", 0), "ZZ7B": ("320", -30)}, ("--whole-season",), [
+        "00070102 25OCT2627MAR271 01300130 03100310 11 320",
+        "00070201 25OCT2627MAR27 23456 22302230 23152315 00 320", "00070202 25OCT2627MAR27 23456 01300130 03100310 11 320",
+        "00070301 25OCT2627MAR27      7 22302230 23152315 00 320", "00070302 25OCT2627MAR27      7 01000100 02400240 11 320",
+    ]),
+    "all legs left out": ([leg("ZZ", 1, WAY, "320", "1", MONDAY), TWO], {"ZZ1": ("-", 0), "ZZ2": ("-", 0)}, ("--whole-season",), [
+        "00020101 25OCT2627MAR27 2345 11001100 12501250 00 320",
+    ]),
+}  # fmt: skip
+# The same of a week: of each flight and its days.
+WEEKS = {
+    "days of a week that differ by minutes": ([ONE], {("ZZ1", "12"): ("320", 10), ("ZZ1", "3"): ("E90", 10), ("ZZ1", "4"): ("-", 0)}, (), [
+        "00010101 25OCT2627NOV2612345 08000800 09500950 00 320", "00010201 30NOV2601DEC2612 08100810 10001000 00 320",
+        "00010301 02DEC2602DEC26  3 08100810 10001000 00 E90", "00010401 04DEC2627MAR2712345 08000800 09500950 00 320",
+    ]),
+    "the same by days of operation": ([ONE], {("ZZ1", "12"): ("320", 10), ("ZZ1", "3"): ("E90", 10), ("ZZ1", "4"): ("-", 0)}, ("--whole-season",), [
+        "00010101 25OCT2627MAR2712 08100810 10001000 00 320", "00010201 25OCT2627MAR27  3 08100810 10001000 00 E90",
+        "00010301 25OCT2627MAR27    5 08000800 09500950 00 320",
+    ]),
+    "a day left out of every second week": ([leg("ZZ", 1, WAY, "320", "136", ("30NOV26", "22MAR27"), b36="2")], {("ZZ1", "1"): ("-", 0)}, (), [
+        "00010101 02DEC2605DEC26  3  6 08000800 09500950 00 320", "00010201 14DEC2622MAR271 3  6 08000800 09500950 00 320",
+    ]),
+}  # fmt: skip
+# Of each record of a plan what is told of it.
+REFUSED = {
+    **{f"ZZ1,320,{it}": f"the shift of ZZ1 is {it}, it should be minutes from -720 to 720, as 10, 0 or -5" for it in (
+        "+5", "010", "-0", "00", "721", "-721", "1000", "5.0", " 5", "", "x")},
+    '"ZZ1",320,"1\n2"': "the shift of ZZ1 is 1\\x0a2, it should be minutes from -720 to 720, as 10, 0 or -5",
+    "ZZ1,-,10": "the shift of ZZ1 is 10 beside the fleet -, it should be 0",
+    "ZZ1,--,0": "the fleet of ZZ1 is --, it should be an aircraft type of three letters A to Z and digits",
+    "ZZ1,320": "ZZ1,320, it should be 3 fields",
+    "ZZ1,320,0,0": "ZZ1,320,0,0, it should be 3 fields",
+}  # fmt: skip
+
+
+def try_cases(tally):
+    weeks = {
+        name: (legs, {f"{flight}D{day}": it for (flight, days), it in changes.items() for day in days}, words, wanted)
+        for name, (legs, changes, words, wanted) in WEEKS.items()
+    }
+    for name, (legs, changes, words, wanted) in {**CASES, **weeks}.items():
+        option = "--week" if name in weeks else "--date"
+        with scratch() as folder:
+            fleets, shifts = ({flight: it[at] for flight, it in changes.items()} for at in (0, 1))
+            lines = planned(folder, file_of(*legs, OTHER), fleets, words, option, shifts)
+            tally.equal(f"a plan: {name}", [*wanted, short(OTHER)], [short(it) for it in lines if it[0] in "34"])
+            tally.equal(f"a plan: {name}, counted", numbered([f"{it[:194]}000000" for it in lines]), lines)
+            why = again(folder, folder / "new", option)
+            tally.note(f"a plan: {name}, written again", why)
+
+
+def again(folder, new, option):
+    """Returns how the plan as filed changes a file, or None."""
+    made = call("tables", new, folder / "again", option, DATE, "--fleets", folder / "fleets")
+    status, told = call("plan", new, folder / "again", folder / "same")
+    if made[0] or status:
+        return made[1] + told
+    return None if (folder / "same").read_bytes() == new.read_bytes() else "the file is another"
+
+
+def try_whole(tally):
+    """A carrier none of whose legs is flown, and what is told."""
+    first = leg("ZZ", 1, WAY, "320", "1")
+    lines = whole("ZZ", [first, segment(first, "010", "XY 1"), leg("ZZ", 2, "LHR 2350 +0000 ZRH 0240 +0100", "E90", "1", shifts="01")])
+    with scratch() as folder:
+        new = planned(folder, lines, {"ZZ1": "-", "ZZ2": "-"}, ("--whole-season",))
+        _, said = call("plan", folder / "season", folder / "day", folder / "new", "--whole-season")
+        tally.equal("what is told of legs left out", NONE_LEFT, said)
+        tally.equal("no leg is left", "1000020000" + "50000", "".join(it[0] for it in new))
+        tally.equal("no leg is left, counted", numbered(new), new)
+        came = call("tables", folder / "new", folder / "again", "--date", DATE, "--fleets", folder / "fleets")
+        tally.equal("no leg is left, read", (0, []), (came[0], records(folder / "again", "legs.csv")))
+        (folder / "day" / "plan.csv").write_text("flight,fleet,shift\nZZ1,-,0\nZZ2,320,10\n", encoding="ascii")
+        _, said = call("plan", folder / "season", folder / "day", folder / "new")
+        tally.equal("what is told of shifts", TOLD, said)
+
+
+def try_modes(tally):
+    """Midnight is that of the file's time mode, and the day that of the departure in UTC."""
+    for mode, minutes, wanted, over in (
+        ("L", 20, "00010101 30NOV2630NOV261 00100010 01100110 11 320", ""),
+        ("U", 20, "00010101 30NOV2630NOV261 00100010 01100110 11 320", ", 1 of them on another day in UTC"),
+        ("L", 70, "00010101 30NOV2630NOV261 01000100 02000200 11 320", ", 1 of them on another day in UTC"),
+    ):
+        with scratch() as folder:
+            lines = planned(folder, numbered([header(), carrier("ZZ", mode), NIGHT, trailer("ZZ")]), {}, shifts={"ZZ1": minutes})
+            _, told = call("plan", folder / "season", folder / "day", folder / "new")
+            came = short(lines[2]), told.splitlines()[1]
+            tally.equal(f"{minutes} minutes in the time mode {mode}", (wanted, f"ssim: 1 legs depart at another time{over}"), came)
+
+
+NONE_LEFT = """\
+ssim: 0 legs have another aircraft type, and 0 records are new
+ssim: 2 legs are left out, and 2 records are taken away
+ssim: onward flights (bytes 138 to 146), leg sequences and data of segments stay as filed: mend them where times or legs changed
+"""
+TOLD = """\
+ssim: 1 legs have another aircraft type, and 3 records are new
+ssim: 1 legs depart at another time, 1 of them on another day in UTC
+ssim: 1 legs are left out, and 0 records are taken away
+ssim: configurations (bytes 173 to 192) and classes (bytes 76 to 100) stay as filed: mend them where types changed
+ssim: onward flights (bytes 138 to 146), leg sequences and data of segments stay as filed: mend them where times or legs changed
+"""
+
+
+def try_refusals(tally):
+    for row, line in REFUSED.items():
+        with scratch() as folder:
+            planned(folder, file_of(ONE, TWO), {}, shifts={})
+            (folder / "new").unlink()
+            (folder / "day" / "plan.csv").write_text(f"flight,fleet,shift\n{row}\nZZ2,320,0\n", encoding="ascii")
+            before = standing(folder)
+            status, told = call("plan", folder / "season", folder / "day", folder / "new")
+            came = status, told.replace(f"{folder}/", ""), standing(folder) == before
+            tally.equal(f"plan: {row}", (6, f"ssim: day/plan.csv record 2: {line}\n", True), came)
+    with scratch() as folder:
+        lines = planned(folder, file_of(leg("ZZ", 1, WAY, "320", "1", MONDAY)), {}, shifts={"ZZ1": 10})
+        status, told = call("plan", folder / "new", folder / "day", folder / "newer")
+        line = "ZZ1 departs at 07:10 by line 3 of new, it should be 07:00 as in legs.csv, in the file that the tables are of"
+        came = status, told.replace(f"{folder}/", ""), (folder / "newer").exists(), short(lines[2])
+        tally.equal("plan: shifts twice", (6, f"ssim: day/names.csv record 2: {line}\n", False, "00010101 30NOV2630NOV261 08100810 10001000 00 320"), came)
+    first = leg("ZZ", 1, "AKL 0005 +1300 HNL 0835 -1000", "320", period=("27OCT26", "00XXX00"), shifts="0A")
+    then = leg("ZZ", 1, "HNL 0900 -1000 LAX 1600 -0800", "320", sequence=2, shifts="77")
+    season = carrier("ZZ", "L", ("27OCT26", "27MAR27"))
+    for name, legs, line in (
+        ("dates before the season", [season, first],
+         "line 3: the period would be 26OCT26 to 26MAR27 by the plan (bytes 15 to 28), it should be within 27OCT26 to 27MAR27 as in line 2"),
+        ("more days than date variations", [season, first, then],
+         "line 4: departure's date variation would be 8 by the plan (byte 193), it should be 7 at most"),
+    ):  # fmt: skip
+        with scratch() as folder:
+            lines = numbered([header(), *legs, trailer("ZZ")])
+            came = planned(folder, lines, {}, ("--whole-season",), shifts={"ZZ1": -720, "ZZ1A": -720})
+            tally.equal(f"plan: {name}", (f"ssim: season {line}\n", False), (came[-1].replace(f"{folder}/", ""), (folder / "new").exists()))
+
+
+def weeks_of(folder, file, first, fleets, wanted=(-7, 0, 7)):
+    """Returns what departs in weeks around a day: of each leg's line and date of operation its day and minute in UTC, its way, its
+    block and its type; or what is told, where the file doesn't read."""
+    found = {}
+    for shift in wanted:
+        day = first + datetime.timedelta(shift)
+        status, told = call("tables", file, folder / "weeks", "--week", day.isoformat(), "--fleets", fleets)
+        if status:
+            return told
+        rows = zip(*(records(folder / "weeks", it) for it in ("names.csv", "legs.csv", "plan.csv")))
+        for name, flown, plan in (tuple(it.split(",") for it in row) for row in rows):
+            _, at, origin, dep, destination, arr = flown
+            departs, arrives = (60 * int(it[:2]) + int(it[3:]) for it in (dep, arr))
+            when = (day.toordinal() + int(at) - 1) * DAY + departs
+            found[int(name[6]), datetime.date.fromisoformat(name[7])] = when, origin, destination, (arrives - departs) % DAY, plan[1]
+    return found
+
+
+class Drawn:
+    """A plan that is drawn for the tables of a folder. Where a draw is `calm` each leg departs on its day, and all are flown."""
+
+    def __init__(self, chance, day, types, is_calm):
+        self.names = [it.split(",") for it in records(day, "names.csv")]
+        departs = [it.split(",")[-3] for it in records(day, "legs.csv")]
+        filed = [it.split(",")[1] for it in records(day, "plan.csv")]
+        self.fleets, self.shifts = {}, {}
+        for (name, *_), dep, kind in zip(self.names, departs, filed):
+            minute, draw = 60 * int(dep[:2]) + int(dep[3:]), chance.random()
+            self.fleets[name] = "-" if draw < 0.1 and not is_calm else chance.choice(types) if draw < 0.3 else kind
+            if self.fleets[name] != "-" and chance.random() < 0.4:
+                shift = chance.choice((chance.randint(-720, 720), chance.randint(-30, 30)))
+                self.shifts[name] = shift if not is_calm or 0 <= minute + shift < DAY else 0
+        (day / "plan.csv").write_text(plan_text(self.fleets, self.shifts), encoding="ascii")
+
+    def planned(self, is_whole_season):
+        """Returns the fleet and the shift by a leg's line and its date of operation, or the day of the week of that."""
+        dates = [(int(it[6]), datetime.date.fromisoformat(it[7])) for it in self.names]
+        keys = [(line, date.weekday() if is_whole_season else date) for line, date in dates]
+        return {key: (self.fleets[it[0]], self.shifts.get(it[0], 0)) for key, it in zip(keys, self.names)}
+
+
+def departing(world, planned=None, is_whole_season=False):
+    """Returns the legs of a world in order, by a plan where one is given."""
+    found = []
+    for (line, date), (when, origin, destination, block, kind) in world.items():
+        fleet, shift = (planned or {}).get((line, date.weekday() if is_whole_season else date), (kind, 0))
+        if fleet != "-":
+            found.append((when + shift, origin, destination, block, fleet))
+    return sorted(found)
+
+
+def between(legs, first, last):
+    """Returns the legs that depart on some days."""
+    return [it for it in legs if first.toordinal() * DAY <= it[0] < last.toordinal() * DAY]
+
+
+def times_by(folder, drawn=None):
+    """Returns the legs of a folder's tables in order of departure, by a plan where one is given and as far as they depart on the days of
+    the tables then: day and minute of departure, way, block and fleet."""
+    found = []
+    legs, plan = (records(folder, it) for it in ("legs.csv", "plan.csv"))
+    count = 7 if (folder / "legs.csv").read_text(encoding="ascii").startswith("flight,day") else 1
+    for (name, *at, origin, dep, destination, arr), (_, kind, *_) in zip(*((row.split(",") for row in it) for it in (legs, plan))):
+        departs, arrives = (60 * int(it[:2]) + int(it[3:]) for it in (dep, arr))
+        when = DAY * int(at[0] if at else 1) + departs + (drawn.shifts.get(name, 0) if drawn else 0)
+        if kind != "-" and DAY <= when < DAY * (count + 1):
+            found.append((when, origin, destination, (arrives - departs) % DAY, kind))
+    return sorted(found)
+
+
+def try_draws(tally):
+    """Plans of the example that are drawn: all legs of three weeks depart as planned, and on all other dates as filed."""
+    types = ["223", "320", "333", "E90"]
+    with scratch() as folder:
+        fleets = folder / "fleets"
+        fleets.write_text("fleet,aircraft,turn\n" + "".join(f"{it},99,30\n" for it in types), encoding="ascii")
+        file, day = EXAMPLE / "season.ssim", folder / "day"
+        for draw in range(DRAWS):
+            chance = random.Random(draw)
+            first = datetime.date(2026, 11, chance.randrange(20, 30))
+            is_calm, words, option = draw % 2 > 0, ["--whole-season"] if draw % 4 > 1 else [], ("--date", "--week")[draw % 8 > 3]
+            call("tables", file, day, option, first.isoformat(), "--fleets", fleets)
+            drawn = Drawn(chance, day, types, is_calm)
+            status, told = call("plan", file, day, folder / "new", *words)
+            what = f"shifts {draw} {option} {first} {words}"
+            tally.note(f"{what} are written", told if status else None)
+            before, after = weeks_of(folder, file, first, fleets, (-14, -7, 0, 7, 14)), weeks_of(folder, folder / "new", first, fleets)
+            ends = first - datetime.timedelta(7), first + datetime.timedelta(14)
+            wanted = between(departing(before, drawn.planned(bool(words)), bool(words)), *ends)
+            tally.equal(f"{what} depart", wanted, after if isinstance(after, str) else departing(after))
+            tally.note(f"{what} are written again", again(folder, folder / "new", option))
+            if is_calm:
+                tally.equal(f"{what} are settled", settled(day, drawn), tables_again(folder, option, first, fleets))
+
+
+def settled(day, drawn):
+    """Returns the legs of a folder by name, each at its minute and with its fleet by the plan, and the through pairs."""
+    found = {}
+    for name, *at, origin, dep, destination, arr in (it.split(",") for it in records(day, "legs.csv")):
+        times = [(60 * int(it[:2]) + int(it[3:]) + drawn.shifts.get(name, 0)) % DAY for it in (dep, arr)]
+        found[name] = *at, origin, destination, *times, drawn.fleets[name]
+    return found, sorted(records(day, "throughs.csv"))
+
+
+def tables_again(folder, option, first, fleets):
+    """Returns the same of the new file's tables."""
+    call("tables", folder / "new", folder / "again", option, first.isoformat(), "--fleets", fleets)
+    found, plan = {}, dict(it.split(",") for it in records(folder / "again", "plan.csv"))
+    for name, *at, origin, dep, destination, arr in (it.split(",") for it in records(folder / "again", "legs.csv")):
+        found[name] = *at, origin, destination, *(60 * int(it[:2]) + int(it[3:]) for it in (dep, arr)), plan[name]
+    return found, sorted(records(folder / "again", "throughs.csv"))
+
+
+def try_all(tally):
+    try_cases(tally)
+    try_whole(tally)
+    try_modes(tally)
+    try_refusals(tally)
+    try_draws(tally)

@@ -1,0 +1,51 @@
+"""Other solvers beside the program: cbc, glpsol and HiGHS, on the same integer program. HiGHS is called by scipy."""
+import os
+import re
+import shutil
+import subprocess
+from pathlib import Path
+
+import plan_by_cbc
+
+SECONDS = 120
+# Debian's scipy is for this one.
+PYTHON = "/usr/bin/python3"
+OBJECTIVE = re.compile(r"^Objective value: +(\S+)", re.M)
+INTEGER_OPTIMAL = re.compile(r"\A(?:.*\n)*\+ *\d+: mip = +(\S+) >= .*\n(?:.*\n)*?INTEGER OPTIMAL")
+SOLVERS = {
+    "cbc": (["cbc", "model.lp", "solve"], OBJECTIVE),
+    "glpsol": (["glpsol", "--lp", "model.lp", "-o", "found"], INTEGER_OPTIMAL),
+    "highs": ([PYTHON, str(Path(__file__).resolve().parent / "by_highs.py"), "model.lp"], OBJECTIVE),
+}
+
+
+def is_there(name):
+    """Whether a solver is on this machine."""
+    if name == "highs":
+        return shutil.which(PYTHON) is not None and subprocess.run([PYTHON, "-c", "import scipy.optimize"], capture_output=True).returncode == 0
+    return shutil.which(name) is not None
+
+
+def solved(folder, day_start="03:00"):
+    """The seconds of the processor and the cost of each solver that is there, on the tables of a folder. After two minutes by the
+    clock they are ended, and have no cost."""
+    model, _ = plan_by_cbc.program(*plan_by_cbc.pairs_of(folder, plan_by_cbc.minute(day_start)))
+    Path(folder, "model.lp").write_text(model)
+    found = {}
+    for name, (words, cost) in SOLVERS.items():
+        if is_there(name):
+            before = os.times()
+            try:
+                text = subprocess.run(words, cwd=folder, capture_output=True, text=True, timeout=SECONDS).stdout
+            except subprocess.TimeoutExpired:
+                text = ""
+            after = os.times()
+            seconds = after.children_user + after.children_system - before.children_user - before.children_system
+            costs = cost.findall(text)
+            found[name] = seconds, round(float(costs[-1])) if costs else None
+    return found
+
+
+def told(found):
+    """What they took, in words."""
+    return "".join(f" {name} {seconds:.2f} s{'' if cost is not None else ' (ended)'}" for name, (seconds, cost) in found.items())

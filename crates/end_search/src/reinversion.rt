@@ -1,0 +1,147 @@
+use crate::answer::dual_values;
+use crate::basis::Basis;
+use crate::pivot::{change_rows, lay_entered, open};
+use crate::progress::{Progress, Workspace};
+use end_kernel::{Kernel, NONE, Number, Start, at, put, triangular_places};
+use end_pivots::{Frame, Leaving, Weights, lay_column};
+use entries::NoMemory;
+use std::alloc::Global;
+use std::mem;
+
+/// Makes a start of nearly all columns of the basis, and a kernel of those that are left: few, where many came. The basis and its
+/// point, costs and weights stay. Where a number is outgrown on the way, all stays as it is.
+pub(crate) fn reinvert<N: Number>(
+    alloc: Global,
+    frame: &mut Frame,
+    costs: &[i128],
+    kernel: &mut Kernel<N>,
+    progress: &mut Progress,
+    workspace: &mut Workspace<N>,
+) -> Result<(), NoMemory> {
+    let basis = Basis::new(alloc, frame, kernel, &progress.weights)?;
+    let duals = dual_values(alloc, frame, costs, kernel, &progress.costs)?;
+    let start = start_of(alloc, frame, &basis)?;
+    let before = mem::replace(&mut frame.start, start);
+    match rebuilt(alloc, frame, &basis, progress, workspace)? {
+        Some(rebuilt) => {
+            progress.costs.lay_slots(&rebuilt.lines, &duals)?;
+            lay_weights(frame, &basis, &mut progress.weights);
+            *kernel = rebuilt;
+        }
+        None => frame.start = before,
+    }
+    progress.reinverted = kernel.rows.len();
+    Ok(())
+}
+
+// A start of most columns of a basis.
+fn start_of(alloc: Global, frame: &Frame, basis: &Basis) -> Result<Start, NoMemory> {
+    let places = triangular_places(alloc, &frame.columns, &basis.columns, &basis.lacking)?;
+    Start::new(alloc, &frame.columns, &places)
+}
+
+// Lays the weights of the start's columns.
+fn lay_weights(frame: &Frame, basis: &Basis, weights: &mut Weights) {
+    for place in 0..frame.columns.line_count() {
+        let line = (place & 0xffff_ffff) as u32;
+        let column = frame.start.column_of(line);
+        if column != NONE {
+            weights.lay(line, basis.weight_of(column));
+        }
+    }
+}
+
+// The kernel of the basic columns that aren't the start's, where all fits.
+fn rebuilt<N: Number>(
+    alloc: Global,
+    frame: &Frame,
+    basis: &Basis,
+    progress: &mut Progress,
+    workspace: &mut Workspace<N>,
+) -> Result<Option<Kernel<N>>, NoMemory> {
+    let mut kernel = Kernel::new(alloc, frame.columns.line_count())?;
+    let mut basic = frame.start.basic_columns(alloc)?;
+    workspace.seen.clear();
+    for place in 0..basis.columns.len() {
+        if at(&basis.columns, place, false) && !at(&basic, place, true) {
+            let column = (place & 0xffff_ffff) as u32;
+            let Some(leaves) = take_pivot(frame, &kernel, basis, &basic, workspace, column)? else {
+                return Ok(None);
+            };
+            let row = open(&mut kernel, leaves)?;
+            progress.work = change_rows(&mut kernel, workspace, row, progress.work)?;
+            let weight = basis.weight_of(column);
+            lay_entered(alloc, &mut kernel, &workspace.row, column, weight, row)?;
+            put(basic.as_mut_slice(), place, true);
+        }
+    }
+    Ok(Some(kernel))
+}
+
+// Takes the row and the column of a pivot by which a column comes in, and answers what leaves for it, where all fits.
+fn take_pivot<N: Number>(
+    frame: &Frame,
+    kernel: &Kernel<N>,
+    basis: &Basis,
+    basic: &[bool],
+    workspace: &mut Workspace<N>,
+    column: u32,
+) -> Result<Option<Leaving>, NoMemory> {
+    let Some(leaves) = leaving_for(frame, kernel, basis, workspace, column)? else {
+        return Ok(None);
+    };
+    let row = &mut workspace.row;
+    if !row.take(frame, kernel, leaves)? || !row.price(frame, kernel, leaves, basic)? {
+        return Ok(None);
+    }
+    row.aim(column);
+    let fits = workspace
+        .column
+        .take(frame, kernel, &workspace.row, &[], column)?
+        && workspace.column.fits(kernel, &workspace.row);
+    Ok(fits.then_some(leaves))
+}
+
+// What leaves for a column: what stands in a line that lacks nothing, where the column's number is least.
+fn leaving_for<N: Number>(
+    frame: &Frame,
+    kernel: &Kernel<N>,
+    basis: &Basis,
+    workspace: &mut Workspace<N>,
+    column: u32,
+) -> Result<Option<Leaving>, NoMemory> {
+    if !workspace
+        .column
+        .take(frame, kernel, &workspace.row, &[], column)?
+    {
+        return Ok(None);
+    }
+    let numbers = workspace.values.numbers.as_mut_slice();
+    if lay_column(frame, kernel, &workspace.column, numbers).is_none() {
+        return Ok(None);
+    }
+    Ok(least_free(frame, kernel, basis, numbers))
+}
+
+// The line without a column that lacks nothing and in which a number other than 0 is least.
+fn least_free<N: Number>(
+    frame: &Frame,
+    kernel: &Kernel<N>,
+    basis: &Basis,
+    numbers: &[N],
+) -> Option<Leaving> {
+    let mut best = None;
+    let mut least = N::most();
+    for place in 0..numbers.len() {
+        let line = (place & 0xffff_ffff) as u32;
+        let size = numbers[place].size();
+        let is_free = !at(&basis.lacking, place, true)
+            && frame.start.column_of(line) == NONE
+            && kernel.slot_of(line) == NONE;
+        if is_free && !size.is_zero() && size.is_less(least) {
+            best = Some(Leaving::Line(line));
+            least = size;
+        }
+    }
+    best
+}

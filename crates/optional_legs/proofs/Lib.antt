@@ -1,0 +1,3 @@
+pub mod OptionalFit
+pub mod ReadLaws
+pub mod TablesWith

@@ -1,0 +1,23 @@
+//! The laws of reading optional legs: of every file one thing holds beside tables and no more. Each function is a law: its
+//! contract is the statement, and it does nothing.
+ghost use Rattle.optional_legs.specs.Laws.{OneFirstFault, OneReading, OptionalOrFault, OptionalOrFaultNotBoth};
+
+/// A file reads as optional legs of the tables, or it has a first fault.
+pub fn optional_or_fault()
+    ensures { OptionalOrFault }
+{}
+
+/// A file that reads has no first fault.
+pub fn optional_or_fault_not_both()
+    ensures { OptionalOrFaultNotBoth }
+{}
+
+/// With the optional legs of a file there is one set of tables at most.
+pub fn one_reading()
+    ensures { OneReading }
+{}
+
+/// A file has one first fault at most.
+pub fn one_first_fault()
+    ensures { OneFirstFault }
+{}

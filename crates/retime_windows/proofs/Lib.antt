@@ -1,0 +1,13 @@
+pub mod Among
+pub mod Counting
+pub mod Free
+pub mod NoneYet
+pub mod ReadLaws
+pub mod SettledFit
+pub mod SettledLaws
+pub mod SettledOnce
+pub mod SettledPairs
+pub mod TablesWith
+pub mod TimesFit
+pub mod TimesPut
+pub mod WindowsFit

@@ -1,0 +1,23 @@
+//! The laws of reading: of the files of a folder one thing holds and no more. Each function is a law: its contract is the
+//! statement, and it does nothing.
+ghost use Rattle.table_files.specs.Laws.{OneFirstFault, OneReading, ReadOrFault, ReadOrFaultNotBoth};
+
+/// Files read as some tables, or they have a first fault.
+pub fn read_or_fault()
+    ensures { ReadOrFault }
+{}
+
+/// Files that read as tables have no first fault.
+pub fn read_or_fault_not_both()
+    ensures { ReadOrFaultNotBoth }
+{}
+
+/// Files read as one set of tables at most.
+pub fn one_reading()
+    ensures { OneReading }
+{}
+
+/// Files have one first fault at most.
+pub fn one_first_fault()
+    ensures { OneFirstFault }
+{}
