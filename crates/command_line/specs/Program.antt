@@ -28,9 +28,9 @@ flag_named name = record (new_rule name) { long = Some name; action = Some SetTr
 abbrev pub folder : List Rule
 folder = word_named (codes "dir") ∷ []
 
--- [--day-start HH:MM] [--period P]
+-- [--day-start HH:MM] [--period P] [--windows] [--optional]
 abbrev pub table_options : List Rule
-table_options = option_named (codes "day-start") ∷ option_named (codes "period") ∷ []
+table_options = option_named (codes "day-start") ∷ option_named (codes "period") ∷ flag_named (codes "windows") ∷ flag_named (codes "optional") ∷ []
 
 -- [--through-max M] [--days D] [--visits V]
 abbrev pub rotation_options : List Rule

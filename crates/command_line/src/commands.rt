@@ -11,10 +11,12 @@ pub(crate) struct CommandRow<'a> {
 /// `DIR`: a folder.
 const FOLDER: &[Argument<'static>] = &[Argument::Word("dir")];
 
-/// `[--day-start HH:MM] [--period P]`: how the tables of a folder are read.
+/// `[--day-start HH:MM] [--period P] [--windows] [--optional]`: how the tables of a folder are read.
 const TABLE_OPTIONS: &[Argument<'static>] = &[
     Argument::Option("day-start"),
     Argument::Option("period"),
+    Argument::Flag("windows"),
+    Argument::Flag("optional"),
 ];
 
 /// `[--through-max M] [--days D] [--visits V]`: which rotations are looked for.

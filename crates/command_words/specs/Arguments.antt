@@ -52,14 +52,14 @@ settings_at None wait days = None
 abbrev pub settings_in : List Row → Option Settings
 settings_in found = settings_at (day_start_in found) (through_max_in found) (period_in found)
 
--- how the tables are read by settings, where these are there
-abbrev pub reading_at : Option Settings → Option TableOptions
-reading_at (Some s) = Some (record { settings = s; windows = false; optional = false })
-reading_at None = None
+-- how the tables are read by settings, where these are there, and whether those of windows and of optional legs are
+abbrev pub reading_at : Option Settings → Bool → Bool → Option TableOptions
+reading_at (Some s) windows optional = Some (record { settings = s; windows = windows; optional = optional })
+reading_at None windows optional = None
 
 -- how the tables are read, where all values read
 abbrev pub reading_in : List Row → Option TableOptions
-reading_in found = reading_at (settings_in found)
+reading_in found = reading_at (settings_in found) (is_given (codes "windows") found) (is_given (codes "optional") found)
 
 -- ---- limits
 

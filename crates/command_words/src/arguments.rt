@@ -27,8 +27,8 @@ pub(crate) fn reading_of(found: &ArgMatches<'_>) -> Option<TableOptions>
     let settings = settings_of(found)?;
     Some(TableOptions {
         settings,
-        windows: false,
-        optional: false,
+        windows: is_given(found, "windows"),
+        optional: is_given(found, "optional"),
     })
 }
 

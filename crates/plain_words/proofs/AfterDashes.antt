@@ -1,5 +1,5 @@
 -- What words ask for, computed by clap's definition.
-use Rattle.std.proofs.Common.{refl}
+use Rattle.std.proofs.Common.{refl, true, false}
 use Rattle.clap.proofs.OnLiterals.{clap_on_literals}
 use Rattle.plain_words.specs.Plain.{AsksByDefault, AsksFrom, ChecksByDefault, ChecksFrom, DueByDefault, DueWithin, JudgesByDefault, JudgesFrom, MakesByDefault, MakesWithoutOptions, SolvesByDefault, SolvesWithin, SolvesWithoutBudget, TailsByDefault, TailsWithin}
 use Rattle.command_line.specs.Found.{found}
@@ -8,19 +8,31 @@ use Rattle.command_words.specs.Words.{asked}
 
 pub judges_by_default : JudgesByDefault
 unfolding asked found our_app clap_on_literals
-judges_by_default program dir = refl
+judges_by_default program dir true true = refl
+judges_by_default program dir true false = refl
+judges_by_default program dir false true = refl
+judges_by_default program dir false false = refl
 
 pub judges_from : JudgesFrom
 unfolding asked found our_app clap_on_literals
-judges_from program time period dir = refl
+judges_from program time period dir true true = refl
+judges_from program time period dir true false = refl
+judges_from program time period dir false true = refl
+judges_from program time period dir false false = refl
 
 pub solves_by_default : SolvesByDefault
 unfolding asked found our_app clap_on_literals
-solves_by_default program dir = refl
+solves_by_default program dir true true = refl
+solves_by_default program dir true false = refl
+solves_by_default program dir false true = refl
+solves_by_default program dir false false = refl
 
 pub solves_within : SolvesWithin
 unfolding asked found our_app clap_on_literals
-solves_within program time period wait days visits nodes pivots dir = refl
+solves_within program time period wait days visits nodes pivots dir true true = refl
+solves_within program time period wait days visits nodes pivots dir true false = refl
+solves_within program time period wait days visits nodes pivots dir false true = refl
+solves_within program time period wait days visits nodes pivots dir false false = refl
 
 pub solves_without_budget : SolvesWithoutBudget
 unfolding asked found our_app clap_on_literals
@@ -28,27 +40,45 @@ solves_without_budget program pivots dir = refl
 
 pub checks_by_default : ChecksByDefault
 unfolding asked found our_app clap_on_literals
-checks_by_default program dir = refl
+checks_by_default program dir true true = refl
+checks_by_default program dir true false = refl
+checks_by_default program dir false true = refl
+checks_by_default program dir false false = refl
 
 pub checks_from : ChecksFrom
 unfolding asked found our_app clap_on_literals
-checks_from program time period dir = refl
+checks_from program time period dir true true = refl
+checks_from program time period dir true false = refl
+checks_from program time period dir false true = refl
+checks_from program time period dir false false = refl
 
 pub tails_by_default : TailsByDefault
 unfolding asked found our_app clap_on_literals
-tails_by_default program dir date count = refl
+tails_by_default program dir date count true true = refl
+tails_by_default program dir date count true false = refl
+tails_by_default program dir date count false true = refl
+tails_by_default program dir date count false false = refl
 
 pub tails_within : TailsWithin
 unfolding asked found our_app clap_on_literals
-tails_within program time period wait days visits dir date count = refl
+tails_within program time period wait days visits dir date count true true = refl
+tails_within program time period wait days visits dir date count true false = refl
+tails_within program time period wait days visits dir date count false true = refl
+tails_within program time period wait days visits dir date count false false = refl
 
 pub due_by_default : DueByDefault
 unfolding asked found our_app clap_on_literals
-due_by_default program dir date count = refl
+due_by_default program dir date count true true = refl
+due_by_default program dir date count true false = refl
+due_by_default program dir date count false true = refl
+due_by_default program dir date count false false = refl
 
 pub due_within : DueWithin
 unfolding asked found our_app clap_on_literals
-due_within program time period wait days visits dir date count = refl
+due_within program time period wait days visits dir date count true true = refl
+due_within program time period wait days visits dir date count true false = refl
+due_within program time period wait days visits dir date count false true = refl
+due_within program time period wait days visits dir date count false false = refl
 
 pub makes_by_default : MakesByDefault
 unfolding asked found our_app clap_on_literals
@@ -64,14 +94,22 @@ makes_without_options = record {
   visits = λ program text dir number legs. refl;
   nodes = λ program text dir number legs. refl;
   pivots = λ program text dir number legs. refl;
+  windows = λ program dir number legs. refl;
+  optional = λ program dir number legs. refl;
   all_pivots = λ program dir number legs. refl;
   json = λ program dir number legs. refl;
 }
 
 pub asks_by_default : AsksByDefault
 unfolding asked found our_app clap_on_literals
-asks_by_default program dir fleet count = refl
+asks_by_default program dir fleet count true true = refl
+asks_by_default program dir fleet count true false = refl
+asks_by_default program dir fleet count false true = refl
+asks_by_default program dir fleet count false false = refl
 
 pub asks_from : AsksFrom
 unfolding asked found our_app clap_on_literals
-asks_from program time period dir fleet count = refl
+asks_from program time period dir fleet count true true = refl
+asks_from program time period dir fleet count true false = refl
+asks_from program time period dir fleet count false true = refl
+asks_from program time period dir fleet count false false = refl

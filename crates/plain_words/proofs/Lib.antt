@@ -1,6 +1,7 @@
 pub mod AfterDashes
 pub mod Entered
 pub mod Fails
+pub mod Flags
 pub mod GivenRows
 pub mod OtherWords
 pub mod OwnOptions

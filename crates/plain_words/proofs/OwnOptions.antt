@@ -11,7 +11,8 @@ use Rattle.clap.specs.Lexer.{has_byte, long_of}
 use Rattle.clap.specs.Simple.{Shape, filled, filled_from, help_rule}
 use Rattle.clap.specs.Walk.{Held, Rule, Text, arg_by_long, has_long, nothing_held, walk_from}
 use Rattle.command_line.specs.Program.{check_app, due_app, judge_app, make_app, our_app, solve_app, tails_app, whatif_app}
-use Rattle.plain_words.specs.Refusals.{TakeOwnOptions, TakesNoValue, TakesOnly, ends_name, is_one_of, is_option_name, solve_flags, solve_options, table_options, tails_options}
+use Rattle.command_words.specs.Words.{asked}
+use Rattle.plain_words.specs.Refusals.{TakeOwnOptions, TakesOnly, ends_name, has_dashes, is_one_of, is_option_name, solve_flags, solve_options, table_flags, table_options, tails_options}
 use Rattle.plain_words.proofs.Entered.{IsEntered, check_entered, due_entered, fails_within, judge_entered, make_entered, solve_entered, tails_entered, whatif_entered}
 use Rattle.plain_words.proofs.Fails.{Fails, GoesOn, is_untrailed, not_false, reaches, second_fails, stays_on, word_refused}
 use Rattle.plain_words.proofs.PlainFolder.{built_command}
@@ -55,6 +56,32 @@ option_reads (first ∷ rest) text named =
 pub option_is_on : (name text : Text) → bytes_eq (option_word name text) (codes "--") ≡ false
 option_is_on [] text = refl
 option_is_on (first ∷ rest) text = refl
+
+-- `--NAME`
+abbrev pub flag_word : Text → Text
+flag_word name = codes "--" ++ name
+
+pub flag_reads : (name : Text) → is_option_name name ≡ true → long_of (flag_word name) ≡ Some (name, None)
+flag_reads [] named = absurd (true≢false (sym named))
+flag_reads (first ∷ rest) named =
+    let none : list_any (λ x. x == 61) (first ∷ rest) ≡ false = not_false _ named in
+    ap (λ name. Some (name, value_behind (first ∷ rest))) (before_first-Lacks 61 (first ∷ rest) (lacks (first ∷ rest) none))
+    ∙ ap (λ has. Some (first ∷ rest, if has then Some (after_first (λ x. x == 61) (first ∷ rest)) else None)) none
+
+pub flag_is_on : (name : Text) → is_option_name name ≡ true → bytes_eq (flag_word name) (codes "--") ≡ false
+flag_is_on [] named = absurd (true≢false (sym named))
+flag_is_on (first ∷ rest) named = refl
+
+-- ---- a word that is refused
+
+-- whichever values were given, the word is refused wherever it stands before `--`
+pub refused_anywhere : (command : Text) (shape : Shape) (word program : Text) (before after : List Text) → IsEntered command shape → is_untrailed shape.rules ≡ true
+    → bytes_eq word (codes "--") ≡ false → ((h : Held) → Fails (flag_word_fault shape.rules shape.args_override_self (long_of word) word h)) → has_dashes before ≡ false
+    → asked (program ∷ command ∷ before ++ word ∷ after) ≡ None
+refused_anywhere command shape word program before after entered untrailed on refuses no_dashes =
+    fails_within command shape program (before ++ word ∷ after) entered
+    (reaches shape GoesOn before (word ∷ after) (walk_from nothing_held) (λ w one other. stays_on shape.rules w one untrailed other) no_dashes
+    (record { no_dashes = refl; on = refl }) (λ w goes. word_refused shape w word after on goes (refuses w.held)))
 
 -- ---- the command's arguments
 
@@ -117,13 +144,11 @@ takes_only command names shape entered has program (first ∷ rest) ending befor
     let refuses : (h : Held) → Fails (flag_word_fault shape.rules shape.args_override_self (long_of word) word h) = λ h.
     subst (λ found. Fails (flag_word_fault shape.rules shape.args_override_self found word h)) (sym long)
     (other_fails names shape (first ∷ rest) (value_behind ((first ∷ rest) ++ ending)) word h has none) in
-    fails_within command shape program (before ++ word ∷ after) entered
-    (reaches shape GoesOn before (word ∷ after) (walk_from nothing_held) (λ w one other. stays_on shape.rules w one has.untrailed other) no_dashes
-    (record { no_dashes = refl; on = refl }) (λ w goes. word_refused shape w word after refl goes (refuses w.held)))
+    refused_anywhere command shape word program before after entered has.untrailed refl refuses no_dashes
 
 -- ---- the commands
 
-judge_has : HasOptions table_options (built_command judge_app)
+judge_has : HasOptions (table_options ++ table_flags) (built_command judge_app)
 unfolding our_app clap_on_literals
 judge_has = record { own = filled_from 1 judge_app.top.rules; rules = refl; all = refl; untrailed = refl }
 
@@ -131,15 +156,15 @@ solve_has : HasOptions (solve_options ++ solve_flags) (built_command solve_app)
 unfolding our_app clap_on_literals
 solve_has = record { own = filled_from 1 solve_app.top.rules; rules = refl; all = refl; untrailed = refl }
 
-check_has : HasOptions table_options (built_command check_app)
+check_has : HasOptions (table_options ++ table_flags) (built_command check_app)
 unfolding our_app clap_on_literals
 check_has = record { own = filled_from 1 check_app.top.rules; rules = refl; all = refl; untrailed = refl }
 
-tails_has : HasOptions tails_options (built_command tails_app)
+tails_has : HasOptions (tails_options ++ table_flags) (built_command tails_app)
 unfolding our_app clap_on_literals
 tails_has = record { own = filled_from 1 tails_app.top.rules; rules = refl; all = refl; untrailed = refl }
 
-due_has : HasOptions tails_options (built_command due_app)
+due_has : HasOptions (tails_options ++ table_flags) (built_command due_app)
 unfolding our_app clap_on_literals
 due_has = record { own = filled_from 1 due_app.top.rules; rules = refl; all = refl; untrailed = refl }
 
@@ -147,43 +172,17 @@ make_has : HasOptions [] (built_command make_app)
 unfolding our_app clap_on_literals
 make_has = record { own = filled_from 1 make_app.top.rules; rules = refl; all = refl; untrailed = refl }
 
-whatif_has : HasOptions table_options (built_command whatif_app)
+whatif_has : HasOptions (table_options ++ table_flags) (built_command whatif_app)
 unfolding our_app clap_on_literals
 whatif_has = record { own = filled_from 1 whatif_app.top.rules; rules = refl; all = refl; untrailed = refl }
 
 pub own_options : TakeOwnOptions
 own_options = record {
-  judge = takes_only (codes "judge") table_options (built_command judge_app) judge_entered judge_has;
+  judge = takes_only (codes "judge") (table_options ++ table_flags) (built_command judge_app) judge_entered judge_has;
   solve = takes_only (codes "solve") (solve_options ++ solve_flags) (built_command solve_app) solve_entered solve_has;
-  check = takes_only (codes "check") table_options (built_command check_app) check_entered check_has;
-  tails = takes_only (codes "tails") tails_options (built_command tails_app) tails_entered tails_has;
-  due = takes_only (codes "due") tails_options (built_command due_app) due_entered due_has;
+  check = takes_only (codes "check") (table_options ++ table_flags) (built_command check_app) check_entered check_has;
+  tails = takes_only (codes "tails") (tails_options ++ table_flags) (built_command tails_app) tails_entered tails_has;
+  due = takes_only (codes "due") (tails_options ++ table_flags) (built_command due_app) due_entered due_has;
   make = takes_only (codes "make") [] (built_command make_app) make_entered make_has;
-  whatif = takes_only (codes "whatif") table_options (built_command whatif_app) whatif_entered whatif_has;
+  whatif = takes_only (codes "whatif") (table_options ++ table_flags) (built_command whatif_app) whatif_entered whatif_has;
 }
-
--- ---- a flag with a value
-
-json_fails : (text : Text) (h : Held) → Fails (flag_word_fault (built_command solve_app).rules (built_command solve_app).args_override_self
-    (long_of (codes "--json=" ++ text)) (codes "--json=" ++ text) h)
-unfolding our_app clap_on_literals
-json_fails text h = tt
-
-pub json_without_value : TakesNoValue (codes "solve") (codes "json")
-json_without_value program text before after no_dashes =
-    fails_within (codes "solve") (built_command solve_app) program (before ++ (codes "--json=" ++ text) ∷ after) solve_entered
-    (reaches (built_command solve_app) GoesOn before ((codes "--json=" ++ text) ∷ after) (walk_from nothing_held)
-    (λ w one other. stays_on (built_command solve_app).rules w one solve_has.untrailed other) no_dashes
-    (record { no_dashes = refl; on = refl }) (λ w goes. word_refused (built_command solve_app) w (codes "--json=" ++ text) after refl goes (json_fails text w.held)))
-
-all_pivots_fails : (text : Text) (h : Held) → Fails (flag_word_fault (built_command solve_app).rules (built_command solve_app).args_override_self
-    (long_of (codes "--all-pivots=" ++ text)) (codes "--all-pivots=" ++ text) h)
-unfolding our_app clap_on_literals
-all_pivots_fails text h = tt
-
-pub all_pivots_without_value : TakesNoValue (codes "solve") (codes "all-pivots")
-all_pivots_without_value program text before after no_dashes =
-    fails_within (codes "solve") (built_command solve_app) program (before ++ (codes "--all-pivots=" ++ text) ∷ after) solve_entered
-    (reaches (built_command solve_app) GoesOn before ((codes "--all-pivots=" ++ text) ∷ after) (walk_from nothing_held)
-    (λ w one other. stays_on (built_command solve_app).rules w one solve_has.untrailed other) no_dashes
-    (record { no_dashes = refl; on = refl }) (λ w goes. word_refused (built_command solve_app) w (codes "--all-pivots=" ++ text) after refl goes (all_pivots_fails text w.held)))

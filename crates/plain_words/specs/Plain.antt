@@ -1,8 +1,9 @@
 -- What the definition of a match comes to: plain words alone, or words of any kind behind `--` and options of one
--- word before it.
-use Rattle.std.specs.Prelude.{◌≡◌, ◌==◌, ◌||◌, Bool, true, false, not, [], ◌∷◌, ◌++◌, Option, Some, None, codes}
+-- word before it. What stands in brackets may be given or not.
+use Rattle.std.specs.Prelude.{◌≡◌, ◌==◌, ◌||◌, Bool, true, false, not, List, [], ◌∷◌, ◌++◌, Option, Some, None, codes}
 use Rattle.clap.specs.Words.{Text}
 use Rattle.fleet_model.specs.declared.options.TableOptions.{TableOptions}
+use Rattle.fleet_model.specs.declared.parts.Settings.{Settings}
 use Rattle.command_words.specs.Arguments.{aircraft_read, count_read, dates_at, legs_read, made_number_read, options_at, reading_at, rotations_at, search_at, settings_at}
 use Rattle.calendar_dates.specs.Reading.{date_read}
 use Rattle.command_words.specs.Values.{minute_read, number_read}
@@ -23,6 +24,9 @@ is_plain_name (first ∷ rest) = not (first == 45) || is_alone rest
 
 -- ---- what holds where no option is given
 
+abbrev pub default_settings : Option Settings
+default_settings = Some DEFAULT_READING.settings
+
 abbrev pub default_reading : Option TableOptions
 default_reading = Some DEFAULT_READING
 
@@ -34,16 +38,25 @@ default_options = Some DEFAULT_OPTIONS
 
 -- ---- what options give
 
--- how tables are read with a day start and a period
-abbrev pub reading_from : Text → Text → Option TableOptions
-reading_from time period = reading_at (settings_at (minute_read time) (Some DEFAULT_THROUGH_MAX) (number_read MIN_PERIOD MAX_PERIOD period))
+-- the settings with a day start and a period
+abbrev pub settings_from : Text → Text → Option Settings
+settings_from time period = settings_at (minute_read time) (Some DEFAULT_THROUGH_MAX) (number_read MIN_PERIOD MAX_PERIOD period)
 
 -- with a longest wait too
-abbrev pub reading_with : Text → Text → Text → Option TableOptions
-reading_with time period wait = reading_at (settings_at (minute_read time) (number_read 0 MAX_THROUGH_MAX wait) (number_read MIN_PERIOD MAX_PERIOD period))
+abbrev pub settings_with : Text → Text → Text → Option Settings
+settings_with time period wait = settings_at (minute_read time) (number_read 0 MAX_THROUGH_MAX wait) (number_read MIN_PERIOD MAX_PERIOD period)
 
 abbrev pub rotations_with : Text → Text → Option RotationLimits
 rotations_with days visits = rotations_at (number_read MIN_DAYS MAX_DAYS days) (number_read 0 MAX_VISITS visits)
+
+-- the word of a flag, where it is given
+abbrev pub where_given : Bool → Text → List Text
+where_given true word = word ∷ []
+where_given false word = []
+
+-- [--windows] [--optional]
+abbrev pub flag_words : Bool → Bool → List Text
+flag_words windows optional = where_given windows (codes "--windows") ++ where_given optional (codes "--optional")
 
 -- ---- plain words
 
@@ -86,28 +99,28 @@ AsksPlainly = (program dir fleet count : Text) → is_plain_name dir ≡ true �
 
 -- ---- words behind `--`
 
--- judge -- DIR
+-- judge [--windows] [--optional] -- DIR
 abbrev pub JudgesByDefault : Type 0
-JudgesByDefault = (program dir : Text) → asked (program ∷ codes "judge" ∷ codes "--" ∷ dir ∷ [])
-    ≡ judge_at default_reading dir
+JudgesByDefault = (program dir : Text) (windows optional : Bool) → asked (program ∷ codes "judge" ∷ (flag_words windows optional ++ codes "--" ∷ dir ∷ []))
+    ≡ judge_at (reading_at default_settings windows optional) dir
 
--- judge --day-start=HH:MM --period=P -- DIR
+-- judge --day-start=HH:MM --period=P [--windows] [--optional] -- DIR
 abbrev pub JudgesFrom : Type 0
-JudgesFrom = (program time period dir : Text)
-    → asked (program ∷ codes "judge" ∷ (codes "--day-start=" ++ time) ∷ (codes "--period=" ++ period) ∷ codes "--" ∷ dir ∷ [])
-    ≡ judge_at (reading_from time period) dir
+JudgesFrom = (program time period dir : Text) (windows optional : Bool)
+    → asked (program ∷ codes "judge" ∷ (codes "--day-start=" ++ time) ∷ (codes "--period=" ++ period) ∷ (flag_words windows optional ++ codes "--" ∷ dir ∷ []))
+    ≡ judge_at (reading_at (settings_from time period) windows optional) dir
 
--- solve -- DIR
+-- solve [--windows] [--optional] -- DIR
 abbrev pub SolvesByDefault : Type 0
-SolvesByDefault = (program dir : Text) → asked (program ∷ codes "solve" ∷ codes "--" ∷ dir ∷ [])
-    ≡ solve_at default_reading default_options dir
+SolvesByDefault = (program dir : Text) (windows optional : Bool) → asked (program ∷ codes "solve" ∷ (flag_words windows optional ++ codes "--" ∷ dir ∷ []))
+    ≡ solve_at (reading_at default_settings windows optional) default_options dir
 
--- solve --day-start=HH:MM --period=P --through-max=M --days=D --visits=V --nodes=N --pivots=P --json -- DIR
+-- solve --day-start=HH:MM --period=P --through-max=M --days=D --visits=V --nodes=N --pivots=P --json [--windows] [--optional] -- DIR
 abbrev pub SolvesWithin : Type 0
-SolvesWithin = (program time period wait days visits nodes pivots dir : Text)
+SolvesWithin = (program time period wait days visits nodes pivots dir : Text) (windows optional : Bool)
     → asked (program ∷ codes "solve" ∷ (codes "--day-start=" ++ time) ∷ (codes "--period=" ++ period) ∷ (codes "--through-max=" ++ wait) ∷ (codes "--days=" ++ days)
-    ∷ (codes "--visits=" ++ visits) ∷ (codes "--nodes=" ++ nodes) ∷ (codes "--pivots=" ++ pivots) ∷ codes "--json" ∷ codes "--" ∷ dir ∷ [])
-    ≡ solve_at (reading_with time period wait)
+    ∷ (codes "--visits=" ++ visits) ∷ (codes "--nodes=" ++ nodes) ∷ (codes "--pivots=" ++ pivots) ∷ codes "--json" ∷ (flag_words windows optional ++ codes "--" ∷ dir ∷ []))
+    ≡ solve_at (reading_at (settings_with time period wait) windows optional)
     (options_at (search_at (number_read 0 MAX_NODES nodes) (number_read 0 MAX_PIVOTS pivots) false) (rotations_with days visits) true) dir
 
 -- solve --pivots=P --all-pivots -- DIR
@@ -116,61 +129,68 @@ SolvesWithoutBudget = (program pivots dir : Text)
     → asked (program ∷ codes "solve" ∷ (codes "--pivots=" ++ pivots) ∷ codes "--all-pivots" ∷ codes "--" ∷ dir ∷ [])
     ≡ solve_at default_reading (options_at (search_at (Some DEFAULT_NODES) (number_read 0 MAX_PIVOTS pivots) true) default_rotations false) dir
 
--- check -- DIR
+-- check [--windows] [--optional] -- DIR
 abbrev pub ChecksByDefault : Type 0
-ChecksByDefault = (program dir : Text) → asked (program ∷ codes "check" ∷ codes "--" ∷ dir ∷ [])
-    ≡ check_at default_reading dir
+ChecksByDefault = (program dir : Text) (windows optional : Bool) → asked (program ∷ codes "check" ∷ (flag_words windows optional ++ codes "--" ∷ dir ∷ []))
+    ≡ check_at (reading_at default_settings windows optional) dir
 
--- check --day-start=HH:MM --period=P -- DIR
+-- check --day-start=HH:MM --period=P [--windows] [--optional] -- DIR
 abbrev pub ChecksFrom : Type 0
-ChecksFrom = (program time period dir : Text)
-    → asked (program ∷ codes "check" ∷ (codes "--day-start=" ++ time) ∷ (codes "--period=" ++ period) ∷ codes "--" ∷ dir ∷ [])
-    ≡ check_at (reading_from time period) dir
+ChecksFrom = (program time period dir : Text) (windows optional : Bool)
+    → asked (program ∷ codes "check" ∷ (codes "--day-start=" ++ time) ∷ (codes "--period=" ++ period) ∷ (flag_words windows optional ++ codes "--" ∷ dir ∷ []))
+    ≡ check_at (reading_at (settings_from time period) windows optional) dir
 
--- tails -- DIR DATE COUNT
+-- tails [--windows] [--optional] -- DIR DATE COUNT
 abbrev pub TailsByDefault : Type 0
-TailsByDefault = (program dir date count : Text) → asked (program ∷ codes "tails" ∷ codes "--" ∷ dir ∷ date ∷ count ∷ [])
-    ≡ tails_at default_reading default_rotations (dates_at (date_read date) (count_read count)) dir
+TailsByDefault = (program dir date count : Text) (windows optional : Bool)
+    → asked (program ∷ codes "tails" ∷ (flag_words windows optional ++ codes "--" ∷ dir ∷ date ∷ count ∷ []))
+    ≡ tails_at (reading_at default_settings windows optional) default_rotations (dates_at (date_read date) (count_read count)) dir
 
--- tails --day-start=HH:MM --period=P --through-max=M --days=D --visits=V -- DIR DATE COUNT
+-- tails --day-start=HH:MM --period=P --through-max=M --days=D --visits=V [--windows] [--optional] -- DIR DATE COUNT
 abbrev pub TailsWithin : Type 0
-TailsWithin = (program time period wait days visits dir date count : Text)
+TailsWithin = (program time period wait days visits dir date count : Text) (windows optional : Bool)
     → asked (program ∷ codes "tails" ∷ (codes "--day-start=" ++ time) ∷ (codes "--period=" ++ period) ∷ (codes "--through-max=" ++ wait) ∷ (codes "--days=" ++ days)
-    ∷ (codes "--visits=" ++ visits) ∷ codes "--" ∷ dir ∷ date ∷ count ∷ [])
-    ≡ tails_at (reading_with time period wait) (rotations_with days visits) (dates_at (date_read date) (count_read count)) dir
+    ∷ (codes "--visits=" ++ visits) ∷ (flag_words windows optional ++ codes "--" ∷ dir ∷ date ∷ count ∷ []))
+    ≡ tails_at (reading_at (settings_with time period wait) windows optional) (rotations_with days visits) (dates_at (date_read date) (count_read count)) dir
 
--- due -- DIR DATE COUNT
+-- due [--windows] [--optional] -- DIR DATE COUNT
 abbrev pub DueByDefault : Type 0
-DueByDefault = (program dir date count : Text) → asked (program ∷ codes "due" ∷ codes "--" ∷ dir ∷ date ∷ count ∷ [])
-    ≡ due_at default_reading default_rotations (dates_at (date_read date) (count_read count)) dir
+DueByDefault = (program dir date count : Text) (windows optional : Bool)
+    → asked (program ∷ codes "due" ∷ (flag_words windows optional ++ codes "--" ∷ dir ∷ date ∷ count ∷ []))
+    ≡ due_at (reading_at default_settings windows optional) default_rotations (dates_at (date_read date) (count_read count)) dir
 
--- due --day-start=HH:MM --period=P --through-max=M --days=D --visits=V -- DIR DATE COUNT
+-- due --day-start=HH:MM --period=P --through-max=M --days=D --visits=V [--windows] [--optional] -- DIR DATE COUNT
 abbrev pub DueWithin : Type 0
-DueWithin = (program time period wait days visits dir date count : Text)
+DueWithin = (program time period wait days visits dir date count : Text) (windows optional : Bool)
     → asked (program ∷ codes "due" ∷ (codes "--day-start=" ++ time) ∷ (codes "--period=" ++ period) ∷ (codes "--through-max=" ++ wait) ∷ (codes "--days=" ++ days)
-    ∷ (codes "--visits=" ++ visits) ∷ codes "--" ∷ dir ∷ date ∷ count ∷ [])
-    ≡ due_at (reading_with time period wait) (rotations_with days visits) (dates_at (date_read date) (count_read count)) dir
+    ∷ (codes "--visits=" ++ visits) ∷ (flag_words windows optional ++ codes "--" ∷ dir ∷ date ∷ count ∷ []))
+    ≡ due_at (reading_at (settings_with time period wait) windows optional) (rotations_with days visits) (dates_at (date_read date) (count_read count)) dir
 
 -- make -- DIR NUMBER LEGS
 abbrev pub MakesByDefault : Type 0
 MakesByDefault = (program dir number legs : Text) → asked (program ∷ codes "make" ∷ codes "--" ∷ dir ∷ number ∷ legs ∷ [])
     ≡ make_at (made_number_read number) (legs_read legs) dir
 
--- whatif -- DIR FLEET COUNT
+-- whatif [--windows] [--optional] -- DIR FLEET COUNT
 abbrev pub AsksByDefault : Type 0
-AsksByDefault = (program dir fleet count : Text) → asked (program ∷ codes "whatif" ∷ codes "--" ∷ dir ∷ fleet ∷ count ∷ [])
-    ≡ whatif_at default_reading (Some fleet) (aircraft_read count) dir
+AsksByDefault = (program dir fleet count : Text) (windows optional : Bool)
+    → asked (program ∷ codes "whatif" ∷ (flag_words windows optional ++ codes "--" ∷ dir ∷ fleet ∷ count ∷ []))
+    ≡ whatif_at (reading_at default_settings windows optional) (Some fleet) (aircraft_read count) dir
 
--- whatif --day-start=HH:MM --period=P -- DIR FLEET COUNT
+-- whatif --day-start=HH:MM --period=P [--windows] [--optional] -- DIR FLEET COUNT
 abbrev pub AsksFrom : Type 0
-AsksFrom = (program time period dir fleet count : Text)
-    → asked (program ∷ codes "whatif" ∷ (codes "--day-start=" ++ time) ∷ (codes "--period=" ++ period) ∷ codes "--" ∷ dir ∷ fleet ∷ count ∷ [])
-    ≡ whatif_at (reading_from time period) (Some fleet) (aircraft_read count) dir
+AsksFrom = (program time period dir fleet count : Text) (windows optional : Bool)
+    → asked (program ∷ codes "whatif" ∷ (codes "--day-start=" ++ time) ∷ (codes "--period=" ++ period) ∷ (flag_words windows optional ++ codes "--" ∷ dir ∷ fleet ∷ count ∷ []))
+    ≡ whatif_at (reading_at (settings_from time period) windows optional) (Some fleet) (aircraft_read count) dir
 
--- make takes none of the other commands' options: --day-start=HH:MM, --period=P, --through-max=M, --days=D, --visits=V, --nodes=N, --pivots=P, --all-pivots, --json
+-- make takes none of the other commands' options: --day-start=HH:MM, --period=P, --through-max=M, --days=D, --visits=V, --nodes=N, --pivots=P, and
+-- none of their flags: --windows, --optional, --all-pivots, --json
 abbrev pub MakesWithoutOption : Text → Type 0
 MakesWithoutOption option = (program text dir number legs : Text)
     → asked (program ∷ codes "make" ∷ (option ++ text) ∷ codes "--" ∷ dir ∷ number ∷ legs ∷ []) ≡ None
+
+abbrev pub MakesWithoutFlag : Text → Type 0
+MakesWithoutFlag flag = (program dir number legs : Text) → asked (program ∷ codes "make" ∷ flag ∷ codes "--" ∷ dir ∷ number ∷ legs ∷ []) ≡ None
 
 pub record MakesWithoutOptions : Type 0 where
   pub day_start : MakesWithoutOption (codes "--day-start=")
@@ -180,5 +200,7 @@ pub record MakesWithoutOptions : Type 0 where
   pub visits : MakesWithoutOption (codes "--visits=")
   pub nodes : MakesWithoutOption (codes "--nodes=")
   pub pivots : MakesWithoutOption (codes "--pivots=")
-  pub all_pivots : (program dir number legs : Text) → asked (program ∷ codes "make" ∷ codes "--all-pivots" ∷ codes "--" ∷ dir ∷ number ∷ legs ∷ []) ≡ None
-  pub json : (program dir number legs : Text) → asked (program ∷ codes "make" ∷ codes "--json" ∷ codes "--" ∷ dir ∷ number ∷ legs ∷ []) ≡ None
+  pub windows : MakesWithoutFlag (codes "--windows")
+  pub optional : MakesWithoutFlag (codes "--optional")
+  pub all_pivots : MakesWithoutFlag (codes "--all-pivots")
+  pub json : MakesWithoutFlag (codes "--json")

@@ -67,11 +67,24 @@ abbrev pub TakesFlagOnce : Text → Text → Type 0
 TakesFlagOnce command flag = (program : Text) (before between after : List Text) → has_dashes before ≡ false → has_dashes between ≡ false
     → asked (program ∷ command ∷ before ++ (codes "--" ++ flag) ∷ (between ++ (codes "--" ++ flag) ∷ after)) ≡ None
 
--- ---- the commands' options
+-- the flag is refused where it is given twice, and with a value
+pub record TakesPlainly (command flag : Text) : Type 0 where
+  pub once : TakesFlagOnce command flag
+  pub no_value : TakesNoValue command flag
+
+-- each of these flags is
+abbrev pub TakesEachPlainly : Text → List Text → Type 0
+TakesEachPlainly command flags = (flag : Text) → is_one_of flag flags ≡ true → TakesPlainly command flag
+
+-- ---- the commands' options, and their flags
 
 -- by which the tables of a folder are read
 abbrev pub table_options : List Text
 table_options = codes "day-start" ∷ codes "period" ∷ []
+
+-- by which further tables are
+abbrev pub table_flags : List Text
+table_flags = codes "windows" ∷ codes "optional" ∷ []
 
 -- by which rotations are looked for
 abbrev pub rotation_options : List Text
@@ -88,17 +101,17 @@ abbrev pub solve_options : List Text
 solve_options = table_options ++ rotation_options ++ search_options
 
 abbrev pub solve_flags : List Text
-solve_flags = codes "json" ∷ codes "all-pivots" ∷ []
+solve_flags = table_flags ++ codes "json" ∷ codes "all-pivots" ∷ []
 
--- each command takes its own options alone, so it refuses those of the others, `--help`, and what is misspelt
+-- each command takes its own options and flags alone, so it refuses those of the others, `--help`, and what is misspelt
 pub record TakeOwnOptions : Type 0 where
-  pub judge : TakesOnly (codes "judge") table_options
+  pub judge : TakesOnly (codes "judge") (table_options ++ table_flags)
   pub solve : TakesOnly (codes "solve") (solve_options ++ solve_flags)
-  pub check : TakesOnly (codes "check") table_options
-  pub tails : TakesOnly (codes "tails") tails_options
-  pub due : TakesOnly (codes "due") tails_options
+  pub check : TakesOnly (codes "check") (table_options ++ table_flags)
+  pub tails : TakesOnly (codes "tails") (tails_options ++ table_flags)
+  pub due : TakesOnly (codes "due") (tails_options ++ table_flags)
   pub make : TakesOnly (codes "make") []
-  pub whatif : TakesOnly (codes "whatif") table_options
+  pub whatif : TakesOnly (codes "whatif") (table_options ++ table_flags)
 
 -- each command takes each of its options once at most
 pub record TakeOptionsOnce : Type 0 where
@@ -108,5 +121,12 @@ pub record TakeOptionsOnce : Type 0 where
   pub tails : TakesEachOnce (codes "tails") tails_options
   pub due : TakesEachOnce (codes "due") tails_options
   pub whatif : TakesEachOnce (codes "whatif") table_options
-  pub json : TakesFlagOnce (codes "solve") (codes "json")
-  pub all_pivots : TakesFlagOnce (codes "solve") (codes "all-pivots")
+
+-- each command takes each of its flags once at most, and with no value
+pub record TakeFlagsPlainly : Type 0 where
+  pub judge : TakesEachPlainly (codes "judge") table_flags
+  pub solve : TakesEachPlainly (codes "solve") solve_flags
+  pub check : TakesEachPlainly (codes "check") table_flags
+  pub tails : TakesEachPlainly (codes "tails") table_flags
+  pub due : TakesEachPlainly (codes "due") table_flags
+  pub whatif : TakesEachPlainly (codes "whatif") table_flags

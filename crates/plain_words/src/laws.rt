@@ -1,7 +1,6 @@
 //! The laws of words: each contract is the statement, and the functions do nothing.
-ghost use Rattle.std.specs.Prelude.{codes};
 ghost use Rattle.plain_words.specs.Plain.{AsksByDefault, AsksFrom, AsksPlainly, ChecksByDefault, ChecksFrom, ChecksPlainly, DueByDefault, DuePlainly, DueWithin, JudgesByDefault, JudgesFrom, JudgesPlainly, MakesByDefault, MakesPlainly, MakesWithoutOptions, SolvesByDefault, SolvesPlainly, SolvesWithin, SolvesWithoutBudget, TailsByDefault, TailsPlainly, TailsWithin};
-ghost use Rattle.plain_words.specs.Refusals.{NameAloneAsksNothing, NoWordsAskNothing, OtherWordsAskNothing, TakeOptionsOnce, TakeOwnOptions, TakesNoValue};
+ghost use Rattle.plain_words.specs.Refusals.{NameAloneAsksNothing, NoWordsAskNothing, OtherWordsAskNothing, TakeFlagsPlainly, TakeOptionsOnce, TakeOwnOptions};
 
 /// What the definition of a match comes to, for words that don't begin with a dash, or are a dash alone; for
 /// words of any kind behind `--`; and for any text behind `=`.
@@ -31,13 +30,12 @@ pub fn plain_reading()
 {}
 
 /// What asks for nothing, whatever other words stand there: no command, another option than the command's own, one
-/// that is given twice, and a value for `--json` or `--all-pivots`.
+/// that is given twice, and a flag that is given twice or with a value.
 pub fn plain_refusals()
     ensures no_words { NoWordsAskNothing }
     ensures name_alone { NameAloneAsksNothing }
     ensures other_words { OtherWordsAskNothing }
     ensures own_options { TakeOwnOptions }
     ensures options_once { TakeOptionsOnce }
-    ensures json_without_value { TakesNoValue (codes "solve") (codes "json") }
-    ensures all_pivots_without_value { TakesNoValue (codes "solve") (codes "all-pivots") }
+    ensures flags_plainly { TakeFlagsPlainly }
 {}

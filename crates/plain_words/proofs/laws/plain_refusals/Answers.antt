@@ -1,5 +1,6 @@
+use Rattle.plain_words.proofs.Flags.{flags_plainly}
 use Rattle.plain_words.proofs.OtherWords.{name_alone, no_words, other_words}
-use Rattle.plain_words.proofs.OwnOptions.{all_pivots_without_value, json_without_value, own_options}
+use Rattle.plain_words.proofs.OwnOptions.{own_options}
 use Rattle.plain_words.proofs.Twice.{options_once}
 use Rattle.plain_words.proofs.laws.plain_refusals.Goals as goal
 
@@ -10,6 +11,5 @@ returns c = record {
   other_words = other_words;
   own_options = own_options;
   options_once = options_once;
-  json_without_value = json_without_value;
-  all_pivots_without_value = all_pivots_without_value;
+  flags_plainly = flags_plainly;
 }
