@@ -141,6 +141,8 @@ const PATHS: &[(DeskFile, &str, u8, u8)] = &[
     (DeskFile::Legs, "edge/legs.csv", b'c', b'C'),
     (DeskFile::Costs, "edge/costs.csv", b'd', b'D'),
     (DeskFile::Throughs, "edge/throughs.csv", b'e', b'E'),
+    (DeskFile::Windows, "edge/windows.csv", b'j', b'J'),
+    (DeskFile::Optional, "edge/optional.csv", b'k', b'K'),
     (DeskFile::Tails, "edge/tails.csv", b'f', b'F'),
     (DeskFile::Plan, "edge/plan.csv", b'g', b'G'),
     (DeskFile::Proof, "edge/proof.txt", b'h', b'H'),

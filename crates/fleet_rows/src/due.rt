@@ -9,10 +9,10 @@ use std::process::Abort;
 use std::test::Fail;
 
 /// A line of words, a table of tails, the status, and the text.
-type Named = (&'static str, &'static [u8], u8, &'static [u8]);
+pub type Named = (&'static str, &'static [u8], u8, &'static [u8]);
 
-// Runs each case with its tails beside these files.
-fn run_named<R: Abort + Alloc<A = Global>>(
+/// Runs each case with its tails beside these files.
+pub fn run_named<R: Abort + Alloc<A = Global>>(
     rt: &R,
     files: &[Laid<'static>],
     cases: &[Named],
@@ -181,9 +181,11 @@ fn tails_without_a_tour(rt: HostRuntime) -> Result<(), Fail> {
 /// What asks for the tails of the first run on one date.
 pub const DUE: &str = "fleetplan due d 2025-02-28 1 --day-start 00:00";
 
-const ONE_TAIL: Laid<'static> = Laid::Bytes(Tails, b"tail,fleet,left\nT1,F1,1\n");
+/// One tail of the first fleet.
+pub const ONE_TAIL: Laid<'static> = Laid::Bytes(Tails, b"tail,fleet,left\nT1,F1,1\n");
 
-const FLOWN: &[u8] = b"2025-02-28 T1: X1 X2\nF2: unused\n";
+/// What is told of it.
+pub const FLOWN: &[u8] = b"2025-02-28 T1: X1 X2\nF2: unused\n";
 
 // Tails of the first run, whose second fleet flies nothing, and texts that read as one tail.
 const ON_FIRST_RUN: &[Named] = &[
@@ -293,7 +295,8 @@ fn tails_that_are_refused(rt: HostRuntime) -> Result<(), Fail> {
     run_texts(&rt, DUE, Tails, BAD_INPUT, REFUSED_NIGHTS)
 }
 
-const BAD_TAILS: Laid<'static> = Laid::Bytes(Tails, b"nonsense");
+/// No table of tails.
+pub const BAD_TAILS: Laid<'static> = Laid::Bytes(Tails, b"nonsense");
 
 const BAD_PLAN: Laid<'static> = Laid::Bytes(Plan, b"flight,fleet\nX1,F1\n");
 

@@ -1,8 +1,12 @@
 //! The order in which files are judged, and what reading makes of bytes in any of them.
-use crate::rows::{Case, JUDGE, Laid, run_case, run_texts};
-use crate::statuses::{BAD_INPUT, DONE, REFUSED};
+use crate::optional::{
+    BOTH_OPTIONAL, CHECK_BY_BOTH, CHECK_BY_OPTIONAL, JUDGE_BY_BOTH, JUDGE_BY_OPTIONAL,
+};
+use crate::rows::{Asked, Case, JUDGE, Laid, run_asked, run_case, run_texts};
+use crate::statuses::{BAD_INPUT, DONE, FAULT, REFUSED};
 use crate::tables::{FIRST_RUN, LEGAL};
-use plan_desk::DeskFile::{Costs, Fleets, Legs, Plan, Stations, Throughs};
+use crate::windows::{JUDGE_BY_WINDOWS, LATER};
+use plan_desk::DeskFile::{Costs, Fleets, Legs, Optional, Plan, Stations, Throughs, Windows};
 use std::alloc::Global;
 use std::test::Fail;
 
@@ -21,7 +25,8 @@ const BAD_LEGS: Laid<'static> = Laid::Bytes(
 
 const BAD_COSTS: Laid<'static> = Laid::Bytes(Costs, b"flight,fleet,cost\nX1,F9,100\n");
 
-const BAD_THROUGHS: Laid<'static> = Laid::Bytes(Throughs, b"in,out,value\nX1,X9,1\n");
+/// A through pair of a leg that isn't there.
+pub const BAD_THROUGHS: Laid<'static> = Laid::Bytes(Throughs, b"in,out,value\nX1,X9,1\n");
 
 /// A file that is bad late in it, beside a later file that is bad in its first record; and names that an earlier file
 /// lacks, which make the later file bad.
@@ -72,6 +77,137 @@ pub const ORDER: &[Case] = &[
         b"bad input: costs.csv record 4 kind 7\n",
     ),
 ];
+
+/// Windows that are bad in the last record, and optional legs.
+pub const BAD_WINDOWS: Laid<'static> = Laid::Bytes(
+    Windows,
+    b"flight,shift,extra\nX2,10,5\nX2,10,6\n",
+);
+
+pub const BAD_OPTIONAL: Laid<'static> = Laid::Bytes(Optional, b"flight,skip\nX1,5\nX1,5\n");
+
+const NO_PLAN: Laid<'static> = Laid::Bytes(Plan, b"");
+
+// Tables that are asked for by words of their own. One that isn't asked for may hold anything.
+const ASKED_FOR: &[Asked] = &[
+    (JUDGE, (&[BAD_WINDOWS, BAD_OPTIONAL], DONE, LEGAL, &[])),
+    (
+        JUDGE_BY_WINDOWS,
+        (
+            &[BAD_THROUGHS, Laid::Bytes(Windows, b"")],
+            BAD_INPUT,
+            b"bad input: throughs.csv record 2 kind 7\n",
+            &[],
+        ),
+    ),
+    (
+        JUDGE_BY_WINDOWS,
+        (
+            &[BAD_WINDOWS, Laid::Bytes(Optional, b""), NO_PLAN],
+            BAD_INPUT,
+            b"bad input: windows.csv record 3 kind 5\n",
+            &[],
+        ),
+    ),
+    (
+        JUDGE_BY_OPTIONAL,
+        (
+            &[Laid::Bytes(Windows, b""), BAD_OPTIONAL, NO_PLAN],
+            BAD_INPUT,
+            b"bad input: optional.csv record 3 kind 5\n",
+            &[],
+        ),
+    ),
+    (
+        JUDGE_BY_BOTH,
+        (
+            &[BAD_WINDOWS, Laid::Bytes(Optional, b"")],
+            BAD_INPUT,
+            b"bad input: windows.csv record 3 kind 5\n",
+            &[],
+        ),
+    ),
+    (
+        JUDGE_BY_BOTH,
+        (
+            &[LATER, BAD_OPTIONAL, NO_PLAN],
+            BAD_INPUT,
+            b"bad input: optional.csv record 3 kind 5\n",
+            &[],
+        ),
+    ),
+];
+
+#[test]
+fn tables_that_are_asked_for(rt: HostRuntime) -> Result<(), Fail> {
+    run_asked(&rt, ASKED_FOR)
+}
+
+// Such a table is read behind the five others. One that isn't asked for may be missing.
+const MISSING: &[Asked] = &[
+    (
+        JUDGE_BY_WINDOWS,
+        (
+            &[Laid::Away(Throughs)],
+            FAULT,
+            b"fault: throughs.csv\n",
+            &[],
+        ),
+    ),
+    (
+        JUDGE_BY_BOTH,
+        (
+            &[BAD_LEGS, Laid::Away(Plan)],
+            FAULT,
+            b"fault: windows.csv\n",
+            &[],
+        ),
+    ),
+    (
+        JUDGE_BY_BOTH,
+        (
+            &[BAD_WINDOWS, Laid::Away(Plan)],
+            FAULT,
+            b"fault: optional.csv\n",
+            &[],
+        ),
+    ),
+    (
+        JUDGE_BY_BOTH,
+        (
+            &[BAD_WINDOWS, BAD_OPTIONAL, Laid::Away(Plan)],
+            FAULT,
+            b"fault: plan.csv\n",
+            &[],
+        ),
+    ),
+    (
+        JUDGE_BY_OPTIONAL,
+        (&[], FAULT, b"fault: optional.csv\n", &[]),
+    ),
+    (CHECK_BY_BOTH, (&[], FAULT, b"fault: windows.csv\n", &[])),
+    (
+        CHECK_BY_OPTIONAL,
+        (&[BOTH_OPTIONAL], FAULT, b"fault: proof.txt\n", &[]),
+    ),
+    (
+        "fleetplan solve d --windows",
+        (&[], FAULT, b"fault: windows.csv\n", &[]),
+    ),
+    (
+        "fleetplan tails d 2025-02-28 1 --optional",
+        (&[], FAULT, b"fault: optional.csv\n", &[]),
+    ),
+    (
+        "fleetplan whatif d F1 1 --windows",
+        (&[], FAULT, b"fault: windows.csv\n", &[]),
+    ),
+];
+
+#[test]
+fn tables_that_are_missing(rt: HostRuntime) -> Result<(), Fail> {
+    run_asked(&rt, MISSING)
+}
 
 /// Header and nothing else in each file.
 pub const NO_RECORDS: &[Case] = &[

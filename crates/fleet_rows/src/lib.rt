@@ -15,9 +15,13 @@ mod desk;
 #[cfg(test)]
 mod due;
 #[cfg(test)]
+mod due_by_flags;
+#[cfg(test)]
 mod faults;
 #[cfg(test)]
 mod files;
+#[cfg(test)]
+mod flag_limits;
 #[cfg(test)]
 mod fleets;
 #[cfg(test)]
@@ -30,6 +34,10 @@ mod limits;
 mod made;
 #[cfg(test)]
 mod making;
+#[cfg(test)]
+mod optional;
+#[cfg(test)]
+mod optional_texts;
 #[cfg(test)]
 mod outgrown;
 #[cfg(test)]
@@ -78,3 +86,7 @@ mod throughs;
 mod usage;
 #[cfg(test)]
 mod using;
+#[cfg(test)]
+mod window_texts;
+#[cfg(test)]
+mod windows;

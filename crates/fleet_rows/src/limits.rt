@@ -1,16 +1,19 @@
 //! Tables at their limits, and one record or one byte past them.
 use crate::due::DUE;
+use crate::optional::{CHECK_BY_OPTIONAL, JUDGE_BY_BOTH};
 use crate::rows::{CHECK, JUDGE, Laid, SOLVE, run_case, run_texts};
 use crate::statuses::{BAD_INPUT, DONE, FAULT, REFUSED, UNPLACED};
 use crate::tables::{FLEETS, LEGAL, OPEN_PROOF, PRICED_PROOF, STATIONS, THROUGHS};
 use crate::tails::TAILS;
-use plan_desk::DeskFile::{self, Costs, Fleets, Legs, Plan, Proof, Stations, Tails, Throughs};
+use plan_desk::DeskFile::{
+    self, Costs, Fleets, Legs, Optional, Plan, Proof, Stations, Tails, Throughs, Windows,
+};
 use std::alloc::Global;
 use std::process::Abort;
 use std::test::Fail;
 
-// Both legs have a plan, and a third one has none.
-const THIRD_LEG: &[u8] = b"plan refused: record 4 kind 5\n";
+/// Both legs have a plan, and a third one has none.
+pub const THIRD_LEG: &[u8] = b"plan refused: record 4 kind 5\n";
 
 // The stations of the first run and more.
 fn stations(alloc: Global, more: u32) -> Result<Vec<u8>, Fail> {
@@ -35,8 +38,8 @@ fn push_number(alloc: Global, text: &mut Vec<u8>, number: u32) -> Result<(), Fai
     Ok(())
 }
 
-// The fleets of the first run and more.
-fn fleets(alloc: Global, more: u32) -> Result<Vec<u8>, Fail> {
+/// The fleets of the first run and more.
+pub fn fleets(alloc: Global, more: u32) -> Result<Vec<u8>, Fail> {
     let mut text = FLEETS.to_vec(alloc)?;
     for number in 0..more {
         text.push(b'G')?;
@@ -46,15 +49,30 @@ fn fleets(alloc: Global, more: u32) -> Result<Vec<u8>, Fail> {
     Ok(text)
 }
 
-// Legs X1, X2 and so on.
-fn legs(alloc: Global, count: u32) -> Result<Vec<u8>, Fail> {
-    let mut text = b"flight,from,dep,to,arr\n".to_vec(alloc)?;
-    for number in 1..=count {
-        text.push(b'X')?;
-        push_number(alloc, &mut text, number)?;
-        text.extend_from_slice(b",AAA,08:00,BBB,09:00\n")?;
+/// A header, and for each ending as many records: a letter, the record's number from 1 on, and the ending.
+pub fn numbered(
+    alloc: Global,
+    header: &[u8],
+    letter: u8,
+    count: u32,
+    endings: &[&[u8]],
+) -> Result<Vec<u8>, Fail> {
+    let mut text = header.to_vec(alloc)?;
+    for ending in endings {
+        for number in 1..=count {
+            text.push(letter)?;
+            push_number(alloc, &mut text, number)?;
+            text.extend_from_slice(ending)?;
+        }
     }
     Ok(text)
+}
+
+const LEG_ENDING: &[&[u8]] = &[b",AAA,08:00,BBB,09:00\n"];
+
+/// Legs X1, X2 and so on.
+pub fn legs(alloc: Global, count: u32) -> Result<Vec<u8>, Fail> {
+    numbered(alloc, b"flight,from,dep,to,arr\n", b'X', count, LEG_ENDING)
 }
 
 // Different pairs of the legs X1 to X45.
@@ -151,15 +169,11 @@ fn throughs_at_the_limit(rt: HostRuntime) -> Result<(), Fail> {
     Ok(())
 }
 
+const TAIL_ENDING: &[&[u8]] = &[b",F2,1\n"];
+
 // Tails T1, T2 and so on of the second fleet.
 fn tails(alloc: Global, count: u32) -> Result<Vec<u8>, Fail> {
-    let mut text = b"tail,fleet,left\n".to_vec(alloc)?;
-    for number in 1..=count {
-        text.push(b'T')?;
-        push_number(alloc, &mut text, number)?;
-        text.extend_from_slice(b",F2,1\n")?;
-    }
-    Ok(text)
+    numbered(alloc, b"tail,fleet,left\n", b'T', count, TAIL_ENDING)
 }
 
 /// How many tails, the status, and the lines.
@@ -276,6 +290,21 @@ const LONG_TO_OTHERS: &[Long] = &[
         BAD_INPUT,
         b"bad input: tails.csv record 0 kind 12\n",
     ),
+    (
+        JUDGE_BY_BOTH,
+        Windows,
+        &[Laid::Away(Optional)],
+        BAD_INPUT,
+        b"bad input: windows.csv record 0 kind 12\n",
+    ),
+    (
+        CHECK_BY_OPTIONAL,
+        Optional,
+        &[Laid::Bytes(Legs, b"")],
+        BAD_INPUT,
+        b"bad input: optional.csv record 0 kind 12\n",
+    ),
+    (JUDGE, Windows, &[], DONE, LEGAL),
 ];
 
 /// A file that is too long is refused in the order of the reads, and before any table is judged.

@@ -17,7 +17,7 @@ const ROOM_FOR_ONE: Laid<'static> = Laid::Bytes(
     b"code,extra,maintenance,parking\nAAA,0,yes,1\nBBB,0,no,-\n",
 );
 
-const NO_ROOM_AWAY: Laid<'static> = Laid::Bytes(
+pub const NO_ROOM_AWAY: Laid<'static> = Laid::Bytes(
     Stations,
     b"code,extra,maintenance,parking\nAAA,0,yes,-\nBBB,0,no,0\n",
 );

@@ -5,19 +5,22 @@ use crate::tables::SOLE_PROOF;
 use plan_desk::DeskFile::{Costs, Fleets, Legs, Plan, Proof, Rotation, Stations, Throughs};
 use std::test::Fail;
 
-const ONE_FLEET: Laid<'static> = Laid::Bytes(Fleets, b"fleet,aircraft,turn\nF1,1,30\n");
+/// One fleet of one aircraft.
+pub const ONE_FLEET: Laid<'static> = Laid::Bytes(Fleets, b"fleet,aircraft,turn\nF1,1,30\n");
 
-const ONE_FLEET_COSTS: Laid<'static> = Laid::Bytes(
+/// What it flies each leg of the first run for.
+pub const ONE_FLEET_COSTS: Laid<'static> = Laid::Bytes(
     Costs,
     b"flight,fleet,cost\nX1,F1,100\nX2,F1,100\n",
 );
 
-const THERE_AND_BACK: Laid<'static> = Laid::Bytes(
+/// A leg there on the first day, and the leg back on the second.
+pub const THERE_AND_BACK: Laid<'static> = Laid::Bytes(
     Legs,
     b"flight,day,from,dep,to,arr\nX1,1,AAA,08:00,BBB,09:00\nX2,2,BBB,10:00,AAA,11:00\n",
 );
 
-/// A leg there on the first day, and the leg back on the second.
+/// The same with one aircraft.
 const TWO_DAYS: &[Laid<'static>] = &[ONE_FLEET, ONE_FLEET_COSTS, THERE_AND_BACK];
 
 const PLANNED: Laid<'static> = Laid::Bytes(Plan, b"flight,fleet\nX1,F1\nX2,F1\n");
@@ -67,7 +70,8 @@ fn legs_on_two_days(rt: HostRuntime) -> Result<(), Fail> {
     run_asked(&rt, SOLVES)
 }
 
-const AWAY_AT_NIGHT: Laid<'static> = Laid::Bytes(
+/// The stations of the first run, of which the other one maintains aircraft.
+pub const AWAY_AT_NIGHT: Laid<'static> = Laid::Bytes(
     Stations,
     b"code,extra,maintenance\nAAA,0,no\nBBB,0,yes\n",
 );

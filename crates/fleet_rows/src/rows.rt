@@ -58,12 +58,14 @@ pub type Asked = (&'static str, Writing);
 pub type Text = (&'static [u8], &'static [u8]);
 
 /// All files of a folder.
-const FOLDER: [DeskFile; 9] = [
+const FOLDER: [DeskFile; 11] = [
     DeskFile::Stations,
     DeskFile::Fleets,
     DeskFile::Legs,
     DeskFile::Costs,
     DeskFile::Throughs,
+    DeskFile::Windows,
+    DeskFile::Optional,
     DeskFile::Tails,
     DeskFile::Plan,
     DeskFile::Proof,
@@ -228,6 +230,26 @@ pub fn run_texts<R: Abort + Alloc<A = Global>>(
 ) -> Result<(), Fail> {
     for (number, (bytes, wanted)) in texts.iter().enumerate() {
         let laid = [Laid::Bytes(file, bytes)];
+        run_case(rt, number, line, &laid, status, wanted)?;
+    }
+    Ok(())
+}
+
+/// Runs the words of a line for each text of one file, beside others.
+pub fn run_texts_beside<R: Abort + Alloc<A = Global>>(
+    rt: &R,
+    line: &'static str,
+    beside: &[Laid<'static>],
+    file: DeskFile,
+    status: u8,
+    texts: &[Text],
+) -> Result<(), Fail> {
+    for (number, (bytes, wanted)) in texts.iter().enumerate() {
+        let mut laid = Vec::new(rt.alloc());
+        for one in beside {
+            laid.push(*one)?;
+        }
+        laid.push(Laid::Bytes(file, bytes))?;
         run_case(rt, number, line, &laid, status, wanted)?;
     }
     Ok(())

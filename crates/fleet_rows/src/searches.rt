@@ -38,8 +38,17 @@ pub struct Search {
 
 /// Runs each search.
 pub fn run_searches<R: Abort + Alloc<A = Global>>(rt: &R, searches: &[Search]) -> Result<(), Fail> {
+    run_searches_by(rt, CHECK, searches)
+}
+
+/// Runs each search, with the words of a line for its check.
+pub fn run_searches_by<R: Abort + Alloc<A = Global>>(
+    rt: &R,
+    check: &'static str,
+    searches: &[Search],
+) -> Result<(), Fail> {
     for (number, search) in searches.iter().enumerate() {
-        run_search(rt, number, search)?;
+        run_search(rt, number, check, search)?;
     }
     Ok(())
 }
@@ -48,6 +57,7 @@ pub fn run_searches<R: Abort + Alloc<A = Global>>(rt: &R, searches: &[Search]) -
 fn run_search<R: Abort + Alloc<A = Global>>(
     rt: &R,
     number: usize,
+    check: &'static str,
     search: &Search,
 ) -> Result<(), Fail> {
     let alloc = rt.alloc();
@@ -70,7 +80,7 @@ fn run_search<R: Abort + Alloc<A = Global>>(
         rt,
         number,
         &mut desk,
-        CHECK,
+        check,
         DONE,
         Known::Whole(search.checked),
     )
