@@ -121,6 +121,11 @@ const ORDER: &[Asked] = &[
     ),
 ];
 
+#[test]
+fn tables_of_tails_in_their_order(rt: HostRuntime) -> Result<(), Fail> {
+    run_asked(&rt, ORDER)
+}
+
 /// All are read first, in the same order.
 const READS: &[Asked] = &[
     (
@@ -171,7 +176,6 @@ const READS: &[Asked] = &[
 ];
 
 #[test]
-fn tables_of_tails_in_their_order(rt: HostRuntime) -> Result<(), Fail> {
-    run_asked(&rt, ORDER)?;
+fn reads_of_tails_in_their_order(rt: HostRuntime) -> Result<(), Fail> {
     run_asked(&rt, READS)
 }

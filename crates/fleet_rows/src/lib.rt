@@ -27,6 +27,8 @@ mod fleets;
 #[cfg(test)]
 mod judging;
 #[cfg(test)]
+mod left_out;
+#[cfg(test)]
 mod legs;
 #[cfg(test)]
 mod limits;

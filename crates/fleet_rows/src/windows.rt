@@ -122,11 +122,21 @@ const LEFT: &[Asked] = &[
     ),
     (
         CHECK,
-        (MOVED, REFUSED, b"proof refused: line 1 kind 1\n", &[]),
+        (
+            &[MOVED_PROOF],
+            REFUSED,
+            b"proof refused: line 1 kind 1\n",
+            &[],
+        ),
     ),
     (
         JUDGE,
-        (MOVED, REFUSED, b"plan refused: record 1 kind 1\n", &[]),
+        (
+            &[MOVED_PLAN],
+            REFUSED,
+            b"plan refused: record 1 kind 1\n",
+            &[],
+        ),
     ),
     (
         "fleetplan whatif d F1 0 --windows --day-start 00:00",
