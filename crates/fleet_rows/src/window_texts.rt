@@ -106,7 +106,7 @@ const SHIFTED_PLANS: &[Text] = &[
         b"flight,fleet,shift\nX1,F1,0\nX2,F1,11\n",
         b"plan refused: record 3 kind 4\n",
     ),
-    // A shift of another leg, and that of the day after.
+    // A shift of another leg, and the same minute a day earlier.
     (
         b"flight,fleet,shift\nX1,F1,10\nX2,F1,10\n",
         b"plan refused: record 2 kind 4\n",
