@@ -92,6 +92,7 @@ class Chart:
         start = bar.day * MINUTES
         departs, lands, ready = (self.schedule.moment(start + it) for it in (bar.departs, bar.lands, bar.ready))
         title = f"{leg.flight}: {leg.start} {departs} to {leg.end} {lands}, ready {ready}"
+        title += f", {abs(leg.shift)} minutes {'later' if leg.shift > 0 else 'earlier'} than in legs.csv" if leg.shift else ""
         return group("leg", leg.flight, title, parts)
 
     def number(self, flight, left, right, row):

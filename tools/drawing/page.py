@@ -5,6 +5,7 @@ from html import escape
 from drawing.gantt import Chart
 from drawing.grounds import Grounds
 from drawing.svg import Palette
+from hints.records import NO_FLEET
 
 STYLE = """
 :root{color-scheme:light}
@@ -39,6 +40,7 @@ class Plan:
         self.name, self.schedule, self.plan, self.rotations, self.proved = name, schedule, plan, rotations, proved
         self.palette = Palette(schedule.aircraft)
         self.cost = sum(schedule.cost[it] for it in plan.items())
+        self.left_out = [flight for flight, fleet in plan.items() if fleet == NO_FLEET]
         self.used = {it: schedule.used(schedule.flown_by(plan, it)) for it in schedule.aircraft}
 
     def charts(self):
@@ -58,6 +60,7 @@ def page(plan):
     unused = [it.fleet for it in plan.rotations if it.words == "unused"]
     if unused:
         parts.append(f"<p>Without a flight: {', '.join(unused)}.</p>")
+    parts += choices(plan)
     parts.append("<h2>Aircraft on the ground</h2>")
     parts.append(f'<p class="note">{LANES.format(span="day" if plan.schedule.period == 1 else "period")}</p>')
     grounds = Grounds(plan.schedule, plan.plan)
@@ -69,6 +72,15 @@ def page(plan):
     title = f"<title>{escape(plan.name)}: the plan</title>"
     head = f'<head><meta charset="utf-8">{title}<style>{STYLE}</style></head>'
     return f'<!doctype html>\n<html lang="en">{head}\n<body>\n' + "\n".join(parts) + "\n</body></html>\n"
+
+
+def choices(plan):
+    """Returns paragraphs on the flights that depart at another time than their own, and on those that are left out."""
+    schedule = plan.schedule
+    moved = [f"{it.flight} at {schedule.moment(it.departure)} ({it.shift:+})" for it in schedule.legs.values() if it.shift]
+    out = [f"{flight} ({schedule.skips[flight]:,})" for flight in plan.left_out]
+    told = [("Moved, with their departures and the minutes by which they are later", moved), ("Left out, with what that costs", out)]
+    return [f"<p>{escape(what)}: {escape(', '.join(flights))}.</p>" for what, flights in told if flights]
 
 
 def key(plan, fleet):
@@ -91,7 +103,7 @@ def told(rotation, period):
 def summary(plan):
     """Returns the numbers of the summary."""
     schedule = plan.schedule
-    rows = [("cost", f"{plan.cost:,}"), *plan.proved, ("flights", f"{len(schedule.legs):,}"), ("day start", f"{schedule.clock(0)} UTC")]
+    rows = [("cost", f"{plan.cost:,}"), *plan.proved, ("flights", f"{len(schedule.legs) - len(plan.left_out):,}"), ("day start", f"{schedule.clock(0)} UTC")]
     rows += [("period", f"{schedule.period} days")] if schedule.period > 1 else []
     head = "".join(f'<tr><th>{name}</th><td class="n">{value}</td></tr>' for name, value in rows)
     fleets = "".join(

@@ -51,7 +51,7 @@ def tell(hint, status, said, command, call):
     elif status == "4":
         from hints import infeasible
 
-        infeasible.explain(hint, call)
+        infeasible.explain(hint, command, call)
     elif status == "10":
         from hints import unplaced
 
@@ -79,7 +79,7 @@ def tell_refusal(hint, command, call, said):
     other_sizes.tell_unknown(hint, command, call, line)
     refused_tables.explain(hint, call.folder, line, call.value("period"))
     refused_plans.explain(hint, command, call, line)
-    refused_proofs.explain(hint, call.folder, line, call)
+    refused_proofs.explain(hint, command, call, line)
 
 
 def tell_answer(hint, status, said, command, call):

@@ -5,18 +5,27 @@ import os
 import shutil
 import stat
 
-from hints.records import TABLES
+from hints.records import ASKED, TABLES
 from hints.saying import listed, typed
 
 SECTION = "the-files-of-a-folder"
+# What a command reads behind the tables.
 READS = {
-    "judge": (*TABLES, "plan.csv"),
-    "tails": (*TABLES, "plan.csv"),
-    "due": (*TABLES, "tails.csv", "plan.csv"),
-    "solve": TABLES,
-    "check": (*TABLES, "proof.txt", "plan.csv"),
-    "make": (),
-    "whatif": (*TABLES, "proof.txt", "plan.csv"),
+    "judge": ("plan.csv",),
+    "tails": ("plan.csv",),
+    "due": ("tails.csv", "plan.csv"),
+    "solve": (),
+    "check": ("proof.txt", "plan.csv"),
+    "whatif": ("proof.txt", "plan.csv"),
+}
+# Of a table that only some calls read what it is for, and lines of one.
+MORE_TABLES = {
+    "windows.csv": ("each flight that may depart some minutes later, or earlier (below 0), and what that costs", ("flight,shift,extra", "X2,10,5")),
+    "optional.csv": ("each flight that may be left out, and what that costs", ("flight,skip", "X2,30")),
+    "tails.csv": (
+        "the aircraft of each fleet, with the nights left to each until it has to come to maintenance",
+        ("tail,fleet,left", "DAFPA,A320,3"),
+    ),
 }
 WRITES = {"solve": ("plan.csv", "proof.txt", "rotation.csv"), "make": (*TABLES, "plan.csv", "proof.txt", "rotation.csv")}
 # How many names of a folder are looked through.
@@ -72,15 +81,22 @@ def tell_folder(hint, folder, call):
         hint.say(f"you may not look at {folder}")
     else:
         hint.say(f"{folder} is a file, and DIR is the folder that holds the tables")
-        if os.path.basename(folder) in (*TABLES, "tails.csv", "plan.csv", "proof.txt"):
+        if os.path.basename(folder) in (*TABLES, *MORE_TABLES, "plan.csv", "proof.txt"):
             hint.say(f"give its folder: {os.path.dirname(folder) or '.'}")
     return True
+
+
+def files_of(call):
+    """Returns the files that a call reads, in its order."""
+    if call.command not in READS:
+        return ()
+    return (*TABLES, *(name for option, name in ASKED.items() if call.has(option)), *READS[call.command])
 
 
 def tell_reads(hint, command, call):
     """Says which file can't be read, the first in the order of reading, and returns whether one can't."""
     folder = call.folder
-    bad = [it for it in READS[call.command] if wrong_to_read(os.path.join(folder, it))]
+    bad = [it for it in files_of(call) if wrong_to_read(os.path.join(folder, it))]
     if call.command in ("check", "whatif") and bad == ["plan.csv"] and not says_plan(os.path.join(folder, "proof.txt")):
         bad = []
     if not bad:
@@ -130,7 +146,8 @@ def tell_missing(hint, command, call, name):
     """Says what may stand for a missing file, and how to come by it."""
     has = names_in(call.folder)
     like = [it for it in has if it.lower() == name]
-    near = like or [it for it in difflib.get_close_matches(name, has, 3, 0.75) if it not in READS["check"] + ("tails.csv", "rotation.csv")]
+    known = (*TABLES, *MORE_TABLES, "plan.csv", "proof.txt", "rotation.csv")
+    near = like or [it for it in difflib.get_close_matches(name, has, 3, 0.75) if it not in known]
     if near:
         why = "in other letters" if like else "with a name like it"
         hint.say(f"there is {near[0]}, {why}: names are taken letter by letter")
@@ -138,9 +155,10 @@ def tell_missing(hint, command, call, name):
     elif name == "throughs.csv":
         hint.say("where there are no through pairs an empty file will do:")
         hint.show(typed(["touch", os.path.join(call.folder, name)]))
-    elif name == "tails.csv":
-        hint.say("it names the aircraft of each fleet, with the nights left to each until it has to come to maintenance, such as:")
-        for line in ("tail,fleet,left", "DAFPA,A320,3"):
+    elif name in MORE_TABLES:
+        holds, lines = MORE_TABLES[name]
+        hint.say(f"it names {holds}, such as:")
+        for line in lines:
             hint.show(line)
     elif name in ("plan.csv", "proof.txt"):
         hint.say("solve writes it, where it has a plan:" if name == "plan.csv" else "solve writes it:")

@@ -9,6 +9,7 @@ from hints.words import Time
 
 MOST_DIGITS = 20
 MOST_PARKED = 10_000
+MOST_SHIFT = 720
 
 
 def code(text):
@@ -69,6 +70,14 @@ def limit(text):
     return f"{wrong}; - stands for any number" if wrong else None
 
 
+def shift(text):
+    """Says what is wrong with the minutes by which a leg may depart later or earlier, or returns None."""
+    wrong = whole(-MOST_SHIFT, MOST_SHIFT)(text)
+    if wrong or int(text):
+        return wrong
+    return "each leg may depart at its own time anyway"
+
+
 def case(text, form):
     """Returns what is said of a name that would do in capital letters, or None."""
     if re.fullmatch(form, text) and text != text.upper():
@@ -97,6 +106,8 @@ FIELDS = {
     "legs.csv": (name, code, time, code, time),
     "costs.csv": (name, name, whole(-TRILLION, TRILLION)),
     "throughs.csv": (name, name, whole(0, TRILLION)),
+    "windows.csv": (name, shift, whole(-TRILLION, TRILLION)),
+    "optional.csv": (name, whole(-TRILLION, TRILLION)),
     "tails.csv": (name, name, whole(1, 30)),
 }
 

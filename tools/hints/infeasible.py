@@ -4,19 +4,22 @@ import os
 
 from hints.records import Unread
 from hints.saying import counted, listed
-from hints.schedule import DAY, Schedule, under_way
+from hints.schedule import DAY, schedule_of, under_way
+from hints.unread import tell_unread
 
 SECTION = "what-solve-prints-and-writes"
 # The most groups of fleets that are counted one by one.
 MOST_GROUPS = 60
 # The most causes of one kind that are told.
 MOST_CAUSES = 3
+# What flights may do beside, by an option.
+WAYS = {"windows": "depart at several times (--windows)", "optional": "be left out (--optional)"}
 
 
-def explain(hint, call):
+def explain(hint, command, call):
     """Says why no plan is legal, as far as it is plain, and what to try."""
     try:
-        causes = list(causes_of(Schedule(call.folder, call.value("day-start"), call.value("period"))))
+        causes = list(causes_of(schedule_of(call)))
     except Unread:
         causes = []
     for text in causes:
@@ -24,6 +27,9 @@ def explain(hint, call):
     if not causes:
         hint.say("the tables don't show the cause at a look: proof.txt has it, as prices by which no plan can be legal.")
         hint.say("Try more pairs in costs.csv, more aircraft in fleets.csv, or other times in legs.csv.")
+    ways = [means for option, means in WAYS.items() if not call.has(option)]
+    if not tell_unread(hint, command, call) and ways and not causes:
+        hint.say(f"Flights may also {' or '.join(ways)}.")
     if os.path.exists(os.path.join(call.folder, "plan.csv")):
         hint.say(f"{os.path.join(call.folder, 'plan.csv')} is of an earlier call: this one has found no plan, and left it as it was")
     hint.see(SECTION)
@@ -41,7 +47,7 @@ def causes_of(schedule):
 
 def legs_without_pair(schedule):
     """A leg that no fleet may fly."""
-    none = [flight for flight, fleets in schedule.fleets_of.items() if not fleets]
+    none = [it.flight for it in schedule.must if not schedule.fleets_of[it.flight]]
     if none:
         yield f"no fleet may fly {listed(none)}: costs.csv has no record of {'it' if len(none) == 1 else 'them'}"
 
@@ -51,7 +57,10 @@ def legs_out_of_balance(schedule):
     for station in schedule.extra:
         comes = [it.flight for it in schedule.legs.values() if it.end == station]
         goes = [it.flight for it in schedule.legs.values() if it.start == station]
-        if len(comes) != len(goes):
+        stay = [it for it in comes if it not in schedule.skips], [it for it in goes if it not in schedule.skips]
+        if stay != (comes, goes):
+            yield from more_than_can_go(schedule, station, stay, (comes, goes))
+        elif len(comes) != len(goes):
             yield (
                 f"{schedule.each} {counted(len(comes), 'flight')} arrive{'s' if len(comes) == 1 else ''} at {station} and {len(goes)} "
                 f"depart{'s' if len(goes) == 1 else ''}, and as many have to depart as arrive"
@@ -59,18 +68,29 @@ def legs_out_of_balance(schedule):
             )
 
 
+def more_than_can_go(schedule, station, must, may):
+    """A station at which more legs have to arrive than may depart, or the other way round, where some may be left out."""
+    for at, (one, other) in enumerate((("arrive", "depart"), ("depart", "arrive"))):
+        if len(must[at]) > len(may[1 - at]):
+            yield (
+                f"{schedule.each} {listed(must[at])} {one}{'s' if len(must[at]) == 1 else ''} at {station} and may not be left out, and "
+                f"{listed(may[1 - at]) or 'none'} {other}{'s' if len(may[1 - at]) < 2 else ''} there"
+            )
+
+
 def legs_without_aircraft(schedule):
     """A leg whose fleets all have no aircraft."""
-    for fleets in {tuple(it): None for it in schedule.fleets_of.values()}:
+    for fleets in {tuple(schedule.fleets_of[it.flight]): None for it in schedule.must}:
         if not any(schedule.aircraft[it] for it in fleets):
-            flights = [flight for flight, own in schedule.fleets_of.items() if tuple(own) == fleets]
+            flights = [it.flight for it in schedule.must if tuple(schedule.fleets_of[it.flight]) == fleets]
             has = "has no aircraft" if len(fleets) == 1 else "have no aircraft"
             yield f"{listed(flights)} may be flown by {listed(fleets)} alone, which {has} in fleets.csv"
 
 
 def groups(schedule):
-    """Returns the groups of fleets that are all that may fly some leg, single fleets first, and all fleets."""
-    found = {tuple(sorted(it)): None for it in schedule.fleets_of.values()}
+    """Returns the groups of fleets that are all that may fly some leg, single fleets first, and all fleets. A leg that may be left out
+    has none."""
+    found = {tuple(sorted(schedule.fleets_of[it.flight])): None for it in schedule.must}
     found[tuple(sorted(schedule.aircraft))] = None
     return sorted(found, key=lambda it: (len(it), it))[:MOST_GROUPS]
 
@@ -82,7 +102,7 @@ def pairs_out_of_balance(schedule):
         for at, other, arrive, depart in (("end", "start", "arrive", "depart"), ("start", "end", "depart", "arrive")):
             forced, free = {}, {}
             for leg in schedule.legs.values():
-                if own.issuperset(schedule.fleets_of[leg.flight]):
+                if leg.flight not in schedule.skips and own.issuperset(schedule.fleets_of[leg.flight]):
                     forced.setdefault(getattr(leg, at), []).append(leg.flight)
                 if not own.isdisjoint(schedule.fleets_of[leg.flight]):
                     free.setdefault(getattr(leg, other), []).append(leg.flight)
@@ -98,8 +118,8 @@ def aircraft_wanted(schedule):
     """A minute in which more aircraft of a group of fleets are wanted than there are."""
     for group in groups(schedule):
         own, has = set(group), sum(schedule.aircraft[it] for it in group)
-        legs = [leg for leg in schedule.legs.values() if schedule.fleets_of[leg.flight] and own.issuperset(schedule.fleets_of[leg.flight])]
-        flown = [(leg, min(schedule.busy(leg, it) for it in schedule.fleets_of[leg.flight])) for leg in legs]
+        flown = [surely(schedule, leg) for leg in schedule.must if own.issuperset(schedule.fleets_of[leg.flight])]
+        flown = [(leg, busy) for leg, busy in flown if busy > 0]
         minutes = under_way(flown, schedule.minutes)
         most = max(minutes)
         is_all = len(group) == len(schedule.aircraft)
@@ -107,8 +127,16 @@ def aircraft_wanted(schedule):
         have = f"and fleets.csv has {has} aircraft {'in all' if is_all else f'of {listed(group)}'}"
         if most > has:
             yield f"at {schedule.moment(minutes.index(most))} {most} flights{which} are in the air or in their turn, {have}"
-        elif len(legs) == len(schedule.legs) and schedule.used(flown) > has:
+        elif len(flown) == len(schedule.legs) and schedule.used(flown) > has:
             yield f"the flights need {schedule.used(flown)} aircraft, however they are shared out, {have}"
+
+
+def surely(schedule, leg):
+    """Returns a leg at its last time, and the minutes from then on in which an aircraft is away with it, whichever fleet flies it and
+    whichever of its times is taken."""
+    shifts = schedule.extras[leg.flight]
+    busy = min(schedule.busy(leg, it) for it in schedule.fleets_of[leg.flight])
+    return leg.moved(max(shifts), schedule.minutes), busy - max(shifts) + min(shifts)
 
 
 def nights_without_room(schedule):
@@ -123,12 +151,13 @@ def nights_without_room(schedule):
 
 
 def least_stay(schedule, station, end):
-    """Returns how many aircraft at least stand at a station when a day ends, whichever fleets fly: those that depart from then on before
-    another one can be ready."""
-    moves = [((leg.departure - end) % schedule.minutes, 1) for leg in schedule.legs.values() if leg.start == station]
+    """Returns how many aircraft at least stand at a station when a day ends, whichever fleets fly at whichever times: those that depart from
+    then on before another one can be ready."""
+    times = {it.flight: [it.departure + shift - end for shift in schedule.extras[it.flight]] for it in schedule.legs.values()}
+    moves = [(max(at % schedule.minutes for at in times[it.flight]), 1) for it in schedule.must if it.start == station]
     for flight, leg in schedule.legs.items():
-        if leg.end == station:
-            ready = (leg.departure + schedule.busy(leg, fleet) - end for fleet in schedule.fleets_of[flight])
+        ready = [at + schedule.busy(leg, fleet) for fleet in schedule.fleets_of[flight] for at in times[flight]]
+        if leg.end == station and ready:
             moves.append((min(it % schedule.minutes for it in ready), -1))
     lacking = most = 0
     for _, change in sorted(moves):

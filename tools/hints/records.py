@@ -14,15 +14,23 @@ HEADERS = {
     "legs.csv": ("flight", "from", "dep", "to", "arr"),
     "costs.csv": ("flight", "fleet", "cost"),
     "throughs.csv": ("in", "out", "value"),
+    "windows.csv": ("flight", "shift", "extra"),
+    "optional.csv": ("flight", "skip"),
     "plan.csv": ("flight", "fleet"),
     "tails.csv": ("tail", "fleet", "left"),
     "rotation.csv": ("fleet", "round", "kind", "a", "b"),
 }
 TABLES = tuple(HEADERS)[:5]
+# The tables that are read behind these where an option says so, in the order of reading.
+ASKED = {"windows": "windows.csv", "optional": "optional.csv"}
 # The header of a legs.csv that tells the day of each flight. The one above is read too where the period is one day.
 DATED = ("flight", "day", "from", "dep", "to", "arr")
 # The header of a stations.csv that tells how many aircraft may stay at a station for a night.
 LIMITED = (*HEADERS["stations.csv"], "parking")
+# The header of a plan.csv where legs may depart at several times.
+SHIFTED = (*HEADERS["plan.csv"], "shift")
+# What stands in a plan.csv in the place of a fleet where the leg is left out.
+NO_FLEET = "-"
 
 
 class Unread(Exception):

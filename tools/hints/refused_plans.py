@@ -3,10 +3,10 @@
 import os
 import re
 
-from hints.records import record_of
+from hints.records import HEADERS, NO_FLEET, SHIFTED, record_of, rows_of
 from hints.refused_tables import names_in, show, unknown
 from hints.saying import counted, listed, quietly, typed
-from hints.schedule import Schedule
+from hints.schedule import schedule_of
 
 PLAN = "the-plan-and-its-kinds-1-to-5"
 JUDGE = "what-judge-prints"
@@ -16,17 +16,17 @@ UNBALANCED = re.compile(r"unbalanced: (\w+) at (\w+), in (\d+), out (\d+)")
 TOO_MANY = re.compile(r"too many: (\w+) used (\d+) of (\d+)")
 CROWDED = re.compile(r"crowded: (\w+) day (\d+) parked (\d+) of (\d+)")
 MEANS = {
-    1: "the first record of plan.csv isn't its header, flight,fleet",
-    2: "this record of plan.csv isn't two fields of UTF-8",
+    1: "the first record of plan.csv isn't its header",
+    2: "this record of plan.csv has too many or too few fields, or one that isn't UTF-8",
     3: "another flight stands at this place in legs.csv",
-    4: "this record names a fleet that fleets.csv doesn't have",
+    4: "this record names a fleet that fleets.csv doesn't have, or a shift that the flight hasn't",
     5: "plan.csv has a record too many or too few",
 }
 
 
 # What the other lines mean, where the tables don't tell more.
 OTHERS = {
-    NOT_ALLOWED: "costs.csv has no cost for this flight with its fleet in plan.csv",
+    NOT_ALLOWED: "costs.csv has no cost for this flight with its fleet in plan.csv, or it may not be left out",
     UNBALANCED: "each day, or in the period, more or fewer aircraft of this fleet come to the station than leave it",
     TOO_MANY: "the plan needs more aircraft of this fleet than fleets.csv has",
     CROWDED: "more aircraft stay at this station for the night than stations.csv lets (its column parking)",
@@ -37,8 +37,9 @@ def explain(hint, command, call, said):
     """Says what the line of a refused plan means."""
     unread = UNREAD.fullmatch(said)
     if unread and int(unread[2]) in MEANS:
-        record, told = quietly(look, call.folder, *map(int, unread.groups())) or (None, None)
+        record, told = quietly(look, call, *map(int, unread.groups())) or (None, None)
         show(hint, os.path.join(call.folder, "plan.csv"), record, [told or MEANS[int(unread[2])]])
+        quietly(tell_option, hint, command, call, record, int(unread[2]))
         hint.see(PLAN)
     for form, tell in ((NOT_ALLOWED, tell_pair), (UNBALANCED, tell_balance), (TOO_MANY, tell_use), (CROWDED, tell_crowd)):
         found = form.fullmatch(said)
@@ -55,24 +56,38 @@ def tell_solve(hint, command, call):
     hint.show(typed([command, "solve", call.folder, *call.reading]))
 
 
-def schedule_of(call):
-    return Schedule(call.folder, call.value("day-start"), call.value("period"))
+def header_of(call):
+    """Returns the header that a plan has by the words of a call."""
+    return SHIFTED if call.has("windows") else HEADERS["plan.csv"]
 
 
-def look(folder, number, kind):
+def tell_option(hint, command, call, record, kind):
+    """Says which option of the words doesn't go with the plan."""
+    if kind == 1 and tuple(record.texts) == SHIFTED:
+        hint.say("it tells a shift of each flight, as a plan of a call with --windows:")
+        hint.show(typed([command, *call.with_more("--windows")]))
+    elif kind == 1 and tuple(record.texts) == HEADERS["plan.csv"]:
+        hint.say("it tells no shifts, as a plan of a call without --windows. With --windows solve writes another one:")
+        hint.show(typed([command, "solve", call.folder, *call.reading]))
+    elif kind == 4 and record.texts[1] == NO_FLEET and not call.has("optional"):
+        hint.say("a flight is left out (-) by a plan of a call with --optional alone:")
+        hint.show(typed([command, *call.with_more("--optional")]))
+
+
+def look(call, number, kind):
     """Returns the record of the plan and what is wrong with it, or nothing where the file doesn't show that (any more)."""
+    folder, header = call.folder, header_of(call)
     record = record_of(os.path.join(folder, "plan.csv"), number)
     flights = names_in(os.path.join(folder, "legs.csv"))
-    fleets = names_in(os.path.join(folder, "fleets.csv"))
     told = None
-    if kind == 1 and record and record.texts != ["flight", "fleet"]:
-        told = "the header is flight,fleet"
-    elif kind == 2 and record and len(record.fields) != 2:
-        told = f"it has {counted(len(record.fields), 'field')}, and two are wanted: a flight and its fleet"
+    if kind == 1 and record and tuple(record.texts) != header:
+        told = f"the header is {','.join(header)}"
+    elif kind == 2 and record and len(record.fields) != len(header):
+        told = f"it has {counted(len(record.fields), 'field')}, and {len(header)} are wanted: {','.join(header)}"
     elif kind == 3 and record and number - 2 < len(flights) and record.texts[0] != flights[number - 2]:
         told = f"here {flights[number - 2]} is due: plan.csv has the flights of legs.csv in their order"
-    elif kind == 4 and record and record.texts[1] not in fleets:
-        told = unknown(record.texts[1], "fleets.csv", fleets)
+    elif kind == 4 and record:
+        told = wrong_choice(call, *record.texts)
     elif kind == 5 and record and number - 1 > len(flights):
         told = f"legs.csv has {counted(len(flights), 'flight')}, and this record comes after the last of them"
     elif kind == 5 and record is None and number - 2 < len(flights):
@@ -80,11 +95,27 @@ def look(folder, number, kind):
     return (record, told) if told else None
 
 
+def wrong_choice(call, flight, fleet, *shifts):
+    """Returns why a fleet isn't one, or the shift beside it is none of the flight's; or None."""
+    fleets = names_in(os.path.join(call.folder, "fleets.csv"))
+    if fleet == NO_FLEET and not call.has("optional"):
+        return f"{NO_FLEET} is no fleet of fleets.csv"
+    if fleet not in (NO_FLEET, *fleets):
+        return unknown(fleet, "fleets.csv", fleets)
+    may = {0} if fleet == NO_FLEET else {0, *(int(shift) for it, shift, _ in rows_of(call.folder, "windows.csv") if it == flight)}
+    if not shifts or shifts[0] in map(str, may):
+        return None
+    which = "0 alone, since it is left out" if fleet == NO_FLEET else listed(map(str, sorted(may)))
+    return f"the shift of {flight} is {shifts[0] or 'empty'}, and it may be {which}"
+
+
 def tell_pair(call, flight):
-    schedule = schedule_of(call)
-    fleet = schedule.plan()[flight]
+    schedule, plan = schedule_of(call).planned()
+    fleet = plan[flight]
     if (flight, fleet) in schedule.cost:
         return []
+    if fleet == NO_FLEET:
+        return [f"plan.csv leaves {flight} out, and optional.csv has no record of it"]
     may = schedule.fleets_of[flight]
     return [
         f"plan.csv has {fleet} fly {flight}, and costs.csv has no record {flight},{fleet}",
@@ -93,8 +124,7 @@ def tell_pair(call, flight):
 
 
 def tell_balance(call, fleet, station, comes, goes):
-    schedule, comes, goes = schedule_of(call), int(comes), int(goes)
-    plan = schedule.plan()
+    (schedule, plan), comes, goes = schedule_of(call).planned(), int(comes), int(goes)
     own = [it for it in schedule.legs.values() if plan[it.flight] == fleet]
     into = [f"{it.flight} at {schedule.moment(it.departure + it.block)}" for it in own if it.end == station]
     out = [f"{it.flight} at {schedule.moment(it.departure)}" for it in own if it.start == station]
@@ -110,8 +140,8 @@ def tell_balance(call, fleet, station, comes, goes):
 
 
 def tell_use(call, fleet, used, has):
-    schedule, used, has = schedule_of(call), int(used), int(has)
-    flown = schedule.flown_by(schedule.plan(), fleet)
+    (schedule, plan), used, has = schedule_of(call).planned(), int(used), int(has)
+    flown = schedule.flown_by(plan, fleet)
     need, _, _ = schedule.needs(flown)
     aloft = sum((leg.departure + busy) // schedule.minutes for leg, busy in flown)
     if sum(need.values()) + aloft != used or schedule.aircraft[fleet] != has:
@@ -126,8 +156,7 @@ def tell_use(call, fleet, used, has):
 
 
 def tell_crowd(call, station, day, parked, cap):
-    schedule, day, parked, cap = schedule_of(call), int(day), int(parked), int(cap)
-    plan = schedule.plan()
+    (schedule, plan), day, parked, cap = schedule_of(call).planned(), int(day), int(parked), int(cap)
     stay = {fleet: schedule.stands(schedule.flown_by(plan, fleet), station, day) for fleet in schedule.aircraft}
     if sum(stay.values()) != parked or schedule.parking.get(station) != cap:
         return []

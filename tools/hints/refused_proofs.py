@@ -4,20 +4,22 @@ import os
 import re
 import stat
 
-from hints.saying import plain, quietly
+from hints.records import NO_FLEET
+from hints.saying import plain, quietly, typed
+from hints.unread import tell_unread
 
 TEXT = "what-is-wrong-with-the-text-of-a-proof-kinds-1-to-9"
 RULES = "what-check-prints"
 UNREAD = re.compile(r"proof refused: line (\d+) kind (\d+)")
 BROKEN = re.compile(r"broken: node (\d+) rule (\d+)")
 KINDS = {
-    1: "the first line of proof.txt isn't its head, fleet proof 2 or, without charges, fleet proof 1",
+    1: "the first line of proof.txt isn't its head: with --windows fleet proof 3, else fleet proof 2 or, without charges, fleet proof 1",
     2: "this line has no line feed, or a byte that no proof has",
     3: "proof.txt ends where this line is due",
     4: "this line may not stand here",
     5: "this line has too many or too few words, or spaces",
     6: "a number of this line hasn't its form, or is out of its range",
-    7: "this line names a flight, fleet or station that the tables don't have",
+    7: "this line names a flight, fleet or station that the tables don't have, or a shift that the flight hasn't",
     8: "this line isn't in its order",
     9: "too many lines trim and split stand above this node",
 }
@@ -33,18 +35,20 @@ RULE = {
     9: "the fractional assignment isn't one of this node",
     10: "the fractional assignment is whole, or doesn't cost what the prices are worth, or doesn't part the pair",
 }
-# The head of a text that has no lines of charges.
-OLD_HEAD = b"fleet proof 1\n"
+# The heads of texts: of one without lines of charges, of the one that is written without --windows, and of the one with shifts.
+FIRST, SECOND, THIRD = (b"fleet proof %d\n" % it for it in (1, 2, 3))
+# The lines that tell what flies a flight, behind the flight.
+PAIRS = (b"trim", b"split", b"weight")
 # Proofs have no limit of their length; this many lines are looked through for the one that is told.
 MOST_LINES = 1_000_000
 
 
-def explain(hint, folder, said, call):
+def explain(hint, command, call, said):
     """Says what the line of a refused proof means, and shows the line of the text."""
     unread, broken = UNREAD.fullmatch(said), BROKEN.fullmatch(said)
     if unread and int(unread[2]) in KINDS:
         hint.say(KINDS[int(unread[2])])
-        quietly(show_line, hint, os.path.join(folder, "proof.txt"), int(unread[1]))
+        quietly(look, hint, command, call, *map(int, unread.groups()))
         hint.see(TEXT)
     elif broken and int(broken[2]) in RULE:
         hint.say(RULE[int(broken[2])])
@@ -52,19 +56,35 @@ def explain(hint, folder, said, call):
         hint.say(f"a proof counts minutes from the day start that it was made for, and these words say {start}")
         if call.value("period") != 1:
             hint.say(f"it is a proof of as many days, and these words say --period {call.value('period')}")
+        tell_unread(hint, command, call)
         hint.see(RULES)
 
 
-def show_line(hint, path, number):
-    """Shows a line of the proof, where it has one and it is within reach."""
+def look(hint, command, call, number, kind):
+    """Shows the line of the proof, where it has one and it is within reach, and says what doesn't go with its head or with the words."""
+    path = os.path.join(call.folder, "proof.txt")
     if number > MOST_LINES or not stat.S_ISREG(os.stat(path).st_mode):
         return
     with open(path, "rb") as lines:
         for at in range(1, number + 1):
             line = lines.readline(1 << 20)
-            has_charges = line != OLD_HEAD if at == 1 else has_charges
-            if at == number and line:
-                hint.say(f"{path}, line {number}:")
-                hint.show(plain(line.rstrip(b"\n").decode("latin-1")))
-                if not has_charges and line.split(b" ", 1)[0].rstrip(b"\n") == b"charge":
-                    hint.say("a proof that begins with fleet proof 1 has no charges; one with charges begins with fleet proof 2")
+            head = line if at == 1 else head
+    if line:
+        hint.say(f"{path}, line {number}:")
+        hint.show(plain(line.rstrip(b"\n").decode("latin-1")))
+        first, *words = line.split() or [b""]
+        if head == FIRST and first == b"charge":
+            hint.say("a proof that begins with fleet proof 1 has no charges; one with charges begins with fleet proof 2")
+        elif kind == 1 and head == THIRD:
+            tell_option(hint, command, call, "it tells shifts", "windows")
+        elif kind == 1 and head in (FIRST, SECOND):
+            hint.say("it tells no shifts, as a proof of a call without --windows. With --windows solve writes another one:")
+            hint.show(typed([command, "solve", call.folder, *call.reading]))
+        elif kind == 7 and first in PAIRS and words[1:2] == [NO_FLEET.encode()] and not call.has("optional"):
+            tell_option(hint, command, call, "it leaves a flight out (-)", "optional")
+
+
+def tell_option(hint, command, call, what, option):
+    """Says that a proof is one of a call with an option."""
+    hint.say(f"{what}, as a proof of a call with --{option}:")
+    hint.show(typed([command, *call.with_more(f"--{option}")]))

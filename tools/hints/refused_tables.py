@@ -3,13 +3,14 @@
 import difflib
 import os
 import re
+from collections import Counter
 
 from hints.forms import fields_of, whole
 from hints.headers import explain_header
 from hints.records import DATED, HEADERS, LIMITED, MOST_BYTES, bytes_of, headers_of, record_of, records_in
 from hints.saying import listed, plain, quietly
 
-SECTION = "what-is-wrong-with-a-table-kinds-1-to-12"
+SECTION = "what-is-wrong-with-a-table-kinds-1-to-14"
 REFUSAL = re.compile(r"bad input: (\S+) record (\d+) kind (\d+)")
 MEANS = {
     1: "the first record of this file isn't its header",
@@ -24,16 +25,20 @@ MEANS = {
     10: "this flight arrives at the station that it departs from",
     11: "the file has more records than it may have, and this is the first of them",
     12: "the file is too long",
+    13: "this flight may depart at more times than a flight may have, and this record is the first of them",
+    14: "with this record there are more flights with a fleet at a time than there may be",
 }
 # Of each table the most records, where there is a limit, and how many of its first fields may stand there once.
-LIMITS = {"stations.csv": 200, "fleets.csv": 20, "legs.csv": 1000, "throughs.csv": 2000, "tails.csv": 10000}
+LIMITS = {"stations.csv": 200, "fleets.csv": 20, "legs.csv": 1000, "throughs.csv": 2000, "windows.csv": 8000, "optional.csv": 1000, "tails.csv": 10000}
+# The most records of a flight in windows.csv, and the most pairs of a flight and a fleet that may fly it, each at each of the flight's times.
+MOST_WINDOWS, MOST_TRIPLES = 8, 20_000
 # The column that a period says more of, and the most days of one.
 DAY, MOST_DAYS = DATED[1], 7
-KEYS = {"stations.csv": 1, "fleets.csv": 1, "legs.csv": 1, "costs.csv": 2, "throughs.csv": 2, "tails.csv": 1}
+KEYS = {"costs.csv": 2, "throughs.csv": 2, "windows.csv": 2}
 # Of each kind that looks a name up, where, and the fields of each table that hold such names.
 LOOKUPS = {
     6: ("stations.csv", {"legs.csv": ("from", "to")}),
-    7: ("legs.csv", {"costs.csv": ("flight",), "throughs.csv": ("in", "out")}),
+    7: ("legs.csv", {"costs.csv": ("flight",), "throughs.csv": ("in", "out"), "windows.csv": ("flight",), "optional.csv": ("flight",)}),
     8: ("fleets.csv", {"costs.csv": ("fleet",), "tails.csv": ("fleet",)}),
 }
 
@@ -47,7 +52,7 @@ def explain(hint, folder, said, period):
     path = os.path.join(folder, name)
     record, told = quietly(look, path, name, number, kind, period) or (None, [])
     show(hint, path, record, told or [MEANS[kind]])
-    hint.see("limits" if kind in (11, 12) else SECTION)
+    hint.see("limits" if kind in (11, 12, 13, 14) else SECTION)
 
 
 def show(hint, path, record, told):
@@ -133,18 +138,20 @@ def tell_form(path, form, record):
 
 
 def key_of(name, record):
-    return tuple(record.fields[: KEYS[name]])
+    """Returns what may stand once in a table. Minutes of a shift are one number, however they are written."""
+    flight, *others = record.texts[: KEYS.get(name, 1)]
+    return (flight, *map(int, others)) if name == "windows.csv" else (flight, *others)
 
 
 def tell_twice(path, form, record):
-    name = form.name
+    name, count = form.name, KEYS.get(form.name, 1)
     key = key_of(name, record)
     for it in records_in(bytes_of(path)):
         if it.number >= record.number:
             return None
         if it.number > 1 and key_of(name, it) == key:
-            stand = "stands" if KEYS[name] == 1 else "stand"
-            return [f"{listed(record.texts[: KEYS[name]])} {stand} in {place(it)} too: take one of the two away", f"there it is {plain(str(it))}"]
+            stand = "stands" if count == 1 else "stand"
+            return [f"{listed(record.texts[:count])} {stand} in {place(it)} too: take one of the two away", f"there it is {plain(str(it))}"]
     return None
 
 
@@ -188,6 +195,24 @@ def tell_many(path, form, record):
     return [f"the file has {number:,} records below its header, and may have {limit:,}"] if number > limit else []
 
 
+def tell_windows(path, form, record):
+    flight = form.of(record, "flight")
+    number = sum(1 for it in records_in(bytes_of(path)) if it.number > 1 and it.texts[0] == flight)
+    return [f"{flight} has {number} records here, and may have {MOST_WINDOWS}"] if number > MOST_WINDOWS else []
+
+
+def tell_triples(path, form, record):
+    fleets = Counter(it.texts[0] for it in records_in(bytes_of(os.path.join(os.path.dirname(path), "costs.csv"))) if it.number > 1)
+    windows = Counter(it.texts[0] for it in records_in(bytes_of(path)) if it.number > 1)
+    number = sum(count * (1 + windows[flight]) for flight, count in fleets.items())
+    if number <= MOST_TRIPLES:
+        return []
+    return [
+        f"flights with a fleet that may fly them, each at each of its times, come to {number:,}, and may come to {MOST_TRIPLES:,}",
+        "take records away here, most where many fleets may fly the flight, or from costs.csv",
+    ]
+
+
 TELLERS = {
     2: tell_width,
     3: tell_text,
@@ -199,4 +224,6 @@ TELLERS = {
     9: tell_block,
     10: tell_station,
     11: tell_many,
+    13: tell_windows,
+    14: tell_triples,
 }

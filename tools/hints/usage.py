@@ -16,6 +16,8 @@ FILES = (
     ("legs.csv", "the flights of a day, or of some days (--period): from, departure, to, arrival, in UTC"),
     ("costs.csv", "which fleet may fly which flight, and what it costs"),
     ("throughs.csv", "pairs of flights that one aircraft should fly in turn; an empty file will do"),
+    ("windows.csv", "by how many minutes legs may depart later or earlier, and at what price: read with --windows"),
+    ("optional.csv", "which legs may be left out, and at what price: read with --optional"),
     ("tails.csv", "the aircraft of fleets by name, and the nights left to each until maintenance: due reads it"),
     ("plan.csv", "a fleet for each flight: solve writes it"),
     ("proof.txt", "why no legal plan costs less: solve writes it"),

@@ -93,6 +93,8 @@ class Name:
 OPTIONS = {
     "day-start": ("HH:MM", Time(), "03:00", "when a day begins, in UTC, 00:00 to 23:59"),
     "period": ("P", Number(1, 7), "1", "the days after which the schedule repeats, 1 to 7"),
+    "windows": ("", None, "", "reads windows.csv: legs may depart at several times; plan.csv tells which"),
+    "optional": ("", None, "", "reads optional.csv: legs may be left out, with - in the place of a fleet"),
     "through-max": ("M", Number(0, 1439), "60", "the most minutes that a through flight may wait beyond the turn, 0 to 1439"),
     "days": ("D", Number(1, 30), "3", "an aircraft comes to maintenance every D days at least, 1 to 30"),
     "visits": ("V", Number(0, 1_000_000), "200000", "how long to search for one rotation, 0 to 1000000"),
@@ -102,7 +104,7 @@ OPTIONS = {
     "json": ("", None, "", "prints the summary as JSON"),
 }
 # The options by which the tables of a folder are read: those of one call belong to the next one over the same folder.
-READING = ("day-start", "period")
+READING = ("day-start", "period", "windows", "optional")
 OPTIONS_OF = {
     "judge": READING,
     "check": READING,
@@ -169,7 +171,11 @@ class Call:
     @property
     def reading(self):
         """The words of the options that say how tables are read, as far as they are given."""
-        return [word for it in READING if it in self.given for word in (f"--{it}", self.given[it][0])]
+        return [word for it in READING if it in self.given for word in (f"--{it}", self.given[it][0]) if word]
+
+    def has(self, option):
+        """Returns whether a flag is given."""
+        return option in self.given
 
     def value(self, option):
         """Returns what an option is read as, also where it isn't given; None where its text doesn't read."""
@@ -181,11 +187,15 @@ class Call:
         """Returns the words of the same call with another value of an option."""
         words = list(self.all)
         if option not in self.given:
-            end = words.index("--") if "--" in words else len(words)
-            return [*words[:end], f"--{option}", text, *words[end:]]
+            return self.with_more(f"--{option}", text)
         place = self.given[option][1]
         words[place] = f"--{option}={text}" if words[place].startswith(f"--{option}=") else text
         return words
+
+    def with_more(self, *options):
+        """Returns the words of the same call with options more."""
+        end = self.all.index("--") if "--" in self.all else len(self.all)
+        return [*self.all[:end], *options, *self.all[end:]]
 
     def with_word(self, place, *texts):
         """Returns the words of the same call with others at a place."""

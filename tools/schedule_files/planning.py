@@ -5,7 +5,8 @@ import os
 import re
 from collections import Counter
 
-from hints.records import HEADERS, Unread, headers_of
+from hints.forms import MOST_SHIFT
+from hints.records import HEADERS, NO_FLEET, SHIFTED, Unread, headers_of
 from schedule_files.days import DAY, clock, text_of
 from schedule_files.files import rows
 from schedule_files.layout import BadLine, ZEROS, printed
@@ -17,12 +18,7 @@ from schedule_files.tables import NAMES
 # How many records fill a block, with lines of zeros where there are too few.
 BLOCK = 5
 LETTERS = " ABCDEFGHIJKLMNOPQRSTUVWXYZ"
-# The header of a plan whose legs may depart by some minutes later, or earlier where they are below 0.
-SHIFTED = (*HEADERS["plan.csv"], "shift")
 SHIFT = re.compile("0|-?[1-9][0-9]{0,2}")
-MOST_SHIFT = 720
-# The fleet of a leg that isn't flown.
-NO_FLEET = "-"
 
 
 def changes_of(schedule, folder):

@@ -1,0 +1,17 @@
+"""The tables that stand in the folder of a call and aren't read, since no option of it says so."""
+
+import os
+
+from hints.records import ASKED
+from hints.saying import listed, typed
+
+
+def tell_unread(hint, command, call):
+    """Says which of these there are, with the words that read them, and returns whether there are any."""
+    options = [it for it, name in ASKED.items() if not call.has(it) and os.path.isfile(os.path.join(call.folder, name))]
+    if options:
+        stand, are = ("stands", "is") if len(options) == 1 else ("stand", "are")
+        by = listed(f"--{it}" for it in options)
+        hint.say(f"{listed(ASKED[it] for it in options)} {stand} in {call.folder}, and {are} read with {by} alone:")
+        hint.show(typed([command, *call.with_more(*(f"--{it}" for it in options))]))
+    return bool(options)
