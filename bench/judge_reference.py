@@ -1,7 +1,7 @@
 #!/usr/bin/env python3
-"""Judges a plan apart from the program, and prints what `fleetplan judge DIR --day-start HH:MM --period P` must print.
+"""Judges a plan apart from the program, and prints what `fleetplan judge DIR --day-start HH:MM --period P` must print, with the same flags.
 
-usage: judge_reference.py DIR HH:MM [P]      (without a P: a period of 1 day)
+usage: judge_reference.py DIR HH:MM [P] [--windows] [--optional]      (without a P: a period of 1 day)
 
 It takes tables that read, and stops with an error where they don't. It counts aircraft at every minute of the period,
 and stops with an error where flights under way and aircraft on the ground don't sum to the aircraft used.
@@ -13,6 +13,8 @@ from pathlib import Path
 
 DAY = 1440
 MOST_COST = 10**12
+MOST_SHIFT, MOST_WINDOWS, MOST_TRIPLES = 720, 8, 20_000
+LEFT_OUT = "-"
 CODE = "[A-Z]{3}"
 NAME = "[A-Z0-9]{1,8}"
 TIME = "([01][0-9]|2[0-3]):[0-5][0-9]"
@@ -26,6 +28,8 @@ FILES = {
     "legs.csv": {"flight": NAME, "day": WHOLE, "from": CODE, "dep": TIME, "to": CODE, "arr": TIME},
     "costs.csv": {"flight": NAME, "fleet": NAME, "cost": WHOLE},
     "throughs.csv": {"in": NAME, "out": NAME, "value": WHOLE},
+    "windows.csv": {"flight": NAME, "shift": WHOLE, "extra": WHOLE},
+    "optional.csv": {"flight": NAME, "skip": WHOLE},
     "plan.csv": {"flight": NAME, "fleet": NAME},
 }
 
@@ -35,14 +39,14 @@ def wanted(holds, what):
         sys.exit(f"judge_reference: {what}")
 
 
-def records(folder, name, period=1):
-    """The records of a file below its header, each field in its form. Where the period is a day legs may have none, and stations may
+def records(folder, name, period=1, forms=None):
+    """The records of a file below its header, each field in its form, by the file's forms where none are given. Where the period is a day legs may have none, and stations may
     have no limits."""
     if name == "throughs.csv" and (folder / name).stat().st_size == 0:
         return []
     with open(folder / name, newline="", encoding="utf-8-sig") as file:
         header, *rows = [row for row in csv.reader(file) if row]
-    forms = FILES[name]
+    forms = forms or FILES[name]
     if name == "legs.csv" and period == 1 and "day" not in header:
         header.insert(1, "day")
         rows = [[*row[:1], "1", *row[1:]] for row in rows]
@@ -75,8 +79,8 @@ def minute(text):
 
 
 class Tables:
-    def __init__(self, folder, day_start, period=1):
-        self.minutes = DAY * period
+    def __init__(self, folder, day_start, period=1, windows=False, optional=False):
+        self.minutes, self.windows, self.optional = DAY * period, windows, optional
         stations = table(records(folder, "stations.csv"), 1, 200, "stations.csv")
         fleets = table(records(folder, "fleets.csv"), 1, 20, "fleets.csv")
         legs = table(records(folder, "legs.csv", period), 1, 1000, "legs.csv")
@@ -98,12 +102,51 @@ class Tables:
         for (arriving, departing), row in throughs.items():
             wanted(arriving in legs and departing in legs, "throughs.csv: an unknown flight")
             number(row[0], 0, MOST_COST)
+        self.extras = {flight: {0: 0} for flight in legs}
+        if windows:
+            self.read_windows(records(folder, "windows.csv"))
+        skips = table(records(folder, "optional.csv"), 1, 1000, "optional.csv") if optional else {}
+        wanted(all(flight in legs for flight in skips), "optional.csv: an unknown flight")
+        self.skips = {flight: number(row[0], -MOST_COST, MOST_COST) for flight, row in skips.items()}
+
+    def read_windows(self, rows):
+        for flight, text, extra in rows:
+            shift = number(text, -MOST_SHIFT, MOST_SHIFT)
+            wanted(flight in self.legs and shift not in self.extras[flight], "windows.csv: an unknown flight, or a shift that it has")
+            self.extras[flight][shift] = number(extra, -MOST_COST, MOST_COST)
+        wanted(all(len(it) <= MOST_WINDOWS + 1 for it in self.extras.values()), "windows.csv: a flight has too many shifts")
+        wanted(len(rows) <= 8000, "windows.csv: there are too many records")
+        triples = sum(len(self.extras[flight]) for flight, _ in self.costs)
+        wanted(not rows or triples <= MOST_TRIPLES, "windows.csv: flights with a fleet at a time are too many")
+
+    def price(self, flight, fleet, shift):
+        """What it costs to fly a leg so, or to leave it out; none where that may not be."""
+        if fleet == LEFT_OUT:
+            return self.skips.get(flight)
+        cost = self.costs.get((flight, fleet))
+        return None if cost is None else cost + self.extras[flight][shift]
+
+    def choices(self, flight):
+        """The fleets and shifts by which a leg may be flown, and that it is left out, where it may be."""
+        flown = [(fleet, shift) for fleet in self.aircraft if (flight, fleet) in self.costs for shift in self.extras[flight]]
+        return flown + [(LEFT_OUT, 0)] * (flight in self.skips)
+
+    def plan(self, folder):
+        """The fleet and the shift of each flight by the plan of a folder."""
+        forms = {"flight": NAME, "fleet": f"{LEFT_OUT}|{NAME}", **({"shift": WHOLE} if self.windows else {})}
+        rows = records(folder, "plan.csv", forms=forms)
+        wanted([row[0] for row in rows] == list(self.legs), "plan.csv: not one record a leg, in schedule order")
+        wanted(all(row[1] in self.aircraft or self.optional and row[1] == LEFT_OUT for row in rows), "plan.csv: an unknown fleet")
+        for flight, fleet, *shifts in rows:
+            own = {0} if fleet == LEFT_OUT else self.extras[flight]
+            wanted(all(it in map(str, own) for it in shifts), f"plan.csv: an unknown shift of {flight}")
+        return {flight: (fleet, int(shifts[0]) if shifts else 0) for flight, fleet, *shifts in rows}
 
 
 class Movements:
-    """What the aircraft of one fleet do through the period."""
+    """What the aircraft of one fleet do through the period: its flights, by some minutes later where shifts say so."""
 
-    def __init__(self, tables, flights, fleet):
+    def __init__(self, tables, flights, fleet, shifts={}):
         self.minutes = minutes = tables.minutes
         self.out = {code: [0] * minutes for code in tables.extra}
         self.ready = {code: [0] * minutes for code in tables.extra}
@@ -111,6 +154,7 @@ class Movements:
         self.laps = 0
         for flight in flights:
             origin, dep, target, block = tables.legs[flight]
+            dep = (dep + shifts.get(flight, 0)) % minutes
             free = dep + block + tables.turn[fleet] + tables.extra[target]
             self.out[origin][dep] += 1
             self.ready[target][free % minutes] += 1
@@ -142,12 +186,14 @@ class Movements:
 
 def verdict(tables, plan):
     """The lines to print, and the status."""
-    for pair in plan.items():
-        if pair not in tables.costs:
-            return [f"not allowed: {pair[0]}"], 9
+    prices = {flight: tables.price(flight, *choice) for flight, choice in plan.items()}
+    for flight, price in prices.items():
+        if price is None:
+            return [f"not allowed: {flight}"], 9
     moves = {}
     for fleet in tables.aircraft:
-        moves[fleet] = Movements(tables, [flight for flight in plan if plan[flight] == fleet], fleet)
+        shifts = {flight: shift for flight, (flown, shift) in plan.items() if flown == fleet}
+        moves[fleet] = Movements(tables, shifts, fleet, shifts)
     for fleet, move in moves.items():
         for code in tables.extra:
             came, left = sum(move.ready[code]), sum(move.out[code])
@@ -161,22 +207,20 @@ def verdict(tables, plan):
             parked = sum(move.stands(code, end) for move in moves.values())
             if parked > limit:
                 return [f"crowded: {code} day {end // DAY} parked {parked} of {limit}"], 9
-    lines = [f"legal: cost {sum(tables.costs[pair] for pair in plan.items())}"]
+    lines = [f"legal: cost {sum(prices.values())}"]
     for fleet, move in moves.items():
         lines.append(f"fleet {fleet}: used {move.used} of {tables.aircraft[fleet]}")
     return lines, 0
 
 
 def main():
-    given = dict(enumerate(sys.argv))
-    if len(sys.argv) not in (3, 4) or not re.fullmatch(TIME, given[2]) or not re.fullmatch("[1-7]", given.get(3, "1")):
+    flags = [it for it in ("--windows", "--optional") if it in sys.argv]
+    words = [it for it in sys.argv[1:] if it not in flags]
+    if len(words) not in (2, 3) or not re.fullmatch(TIME, words[1]) or not re.fullmatch("[1-7]", (words[2:] or "1")[0]):
         sys.exit(__doc__)
-    folder = Path(given[1])
-    tables = Tables(folder, minute(given[2]), int(given.get(3, "1")))
-    rows = records(folder, "plan.csv")
-    wanted([row[0] for row in rows] == list(tables.legs), "plan.csv: not one record a leg, in schedule order")
-    wanted(all(row[1] in tables.aircraft for row in rows), "plan.csv: an unknown fleet")
-    lines, status = verdict(tables, dict(rows))
+    folder = Path(words[0])
+    tables = Tables(folder, minute(words[1]), int((words[2:] or "1")[0]), "--windows" in flags, "--optional" in flags)
+    lines, status = verdict(tables, tables.plan(folder))
     print("\n".join(lines))
     sys.exit(status)
 

@@ -1,10 +1,11 @@
 #!/usr/bin/env python3
 """Writes the largest tables that read, and a legal plan for them, into a folder.
 
-usage: make_tables.py DIR [--shuffled] [--limited] [--filled]
+usage: make_tables.py DIR [--shuffled] [--limited] [--timed] [--filled]
 
 --shuffled  the costs in another order than by leg and fleet
 --limited   each station with room for as many aircraft as all fleets have
+--timed     each leg with eight windows and two fleets, and to be left out: 8,000 windows, 18,000 pairs at their times
 --filled    each file with blank lines at its end, up to the most bytes that are read
 
 The plan is legal because each fleet flies round trips alone, each of them is back and ready within a day, and no
@@ -16,7 +17,7 @@ from pathlib import Path
 DAY = 1440
 MOST_BYTES = 4_194_304
 STATIONS, FLEETS, LEGS, THROUGHS = 200, 20, 1000, 2000
-NAMES = ("stations.csv", "fleets.csv", "legs.csv", "costs.csv", "throughs.csv", "plan.csv")
+SHIFTS = (-20, -15, -10, -5, 5, 10, 15, 20)
 
 
 def code(station):
@@ -59,9 +60,10 @@ def round_trip(trip):
     return [out, back]
 
 
-def largest(shuffled=False, limited=False):
-    """The six files, each as its lines."""
-    pairs = [(leg, fleet) for leg in range(LEGS) for fleet in range(FLEETS)]
+def largest(shuffled=False, limited=False, timed=False):
+    """The files, each as its lines."""
+    fleets_of = (lambda leg: sorted((fleet_of(leg), (fleet_of(leg) + 1) % FLEETS))) if timed else (lambda leg: range(FLEETS))
+    pairs = [(leg, fleet) for leg in range(LEGS) for fleet in fleets_of(leg)]
     if shuffled:
         pairs = [pairs[7919 * place % len(pairs)] for place in range(len(pairs))]
     links = [(leg, (leg + step) % LEGS) for step in range(1, THROUGHS // LEGS + 1) for leg in range(LEGS)]
@@ -71,26 +73,36 @@ def largest(shuffled=False, limited=False):
     legs = [line for trip in range(LEGS // 2) for line in round_trip(trip)]
     costs = [f"{flight(leg)},{fleet_name(fleet)},{10_000 + (31 * leg + 977 * fleet) % 90_000}" for leg, fleet in pairs]
     throughs = [f"{flight(arriving)},{flight(departing)},{arriving % 500}" for arriving, departing in links]
-    plan = [f"{flight(leg)},{fleet_name(fleet_of(leg))}" for leg in range(LEGS)]
-    places = f"code,extra,maintenance{',parking' if limited else ''}"
-    headers = (places, "fleet,aircraft,turn", "flight,from,dep,to,arr", "flight,fleet,cost", "in,out,value", "flight,fleet")
-    bodies = (stations, fleets, legs, costs, throughs, plan)
-    return {name: [header, *body] for name, header, body in zip(NAMES, headers, bodies)}
+    plan = [f"{flight(leg)},{fleet_name(fleet_of(leg))}{',0' if timed else ''}" for leg in range(LEGS)]
+    files = {
+        "stations.csv": [f"code,extra,maintenance{',parking' if limited else ''}", *stations],
+        "fleets.csv": ["fleet,aircraft,turn", *fleets],
+        "legs.csv": ["flight,from,dep,to,arr", *legs],
+        "costs.csv": ["flight,fleet,cost", *costs],
+        "throughs.csv": ["in,out,value", *throughs],
+        "plan.csv": [f"flight,fleet{',shift' if timed else ''}", *plan],
+    }
+    if timed:
+        windows = [f"{flight(leg)},{shift},{10 * abs(shift) + leg % 7}" for leg in range(LEGS) for shift in SHIFTS]
+        files["windows.csv"] = ["flight,shift,extra", *windows]
+        files["optional.csv"] = ["flight,skip", *(f"{flight(leg)},{90_000 + leg}" for leg in range(LEGS))]
+    return files
 
 
-def write(folder, shuffled=False, limited=False, filled=False):
-    """Writes the six files, and gives their paths."""
+def write(folder, shuffled=False, limited=False, timed=False, filled=False):
+    """Writes the files, and gives their paths."""
     folder.mkdir(parents=True, exist_ok=True)
-    for name, lines in largest(shuffled, limited).items():
+    files = largest(shuffled, limited, timed)
+    for name, lines in files.items():
         text = "\n".join(lines) + "\n"
         (folder / name).write_text(text.ljust(MOST_BYTES, "\n") if filled else text, encoding="ascii")
-    return [folder / name for name in NAMES]
+    return [folder / name for name in files]
 
 
 def main():
     folders = [word for word in sys.argv[1:] if not word.startswith("-")]
     options = set(sys.argv[1:]) - set(folders)
-    if len(folders) != 1 or not options <= {"--shuffled", "--limited", "--filled"}:
+    if len(folders) != 1 or not options <= {"--shuffled", "--limited", "--timed", "--filled"}:
         sys.exit(__doc__)
     write(Path(folders[0]), **{word.removeprefix("--"): True for word in options})
 

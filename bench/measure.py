@@ -1,4 +1,4 @@
-"""Times `fleetplan judge` beside a Python process whose csv module merely reads the same six files."""
+"""Times `fleetplan judge` beside a Python process whose csv module merely reads the same files."""
 import shutil
 import subprocess
 import sys
@@ -27,10 +27,10 @@ def peak_of(words):
         return int(note.read()) * 1024 / 1e6
 
 
-def compare(title, program, folder, files):
+def compare(title, program, folder, files, flags):
     """Prints the best time of several runs, taken in turn, and the peak memory. Answers whether the program's time is no more."""
     sides = {
-        "fleetplan judge": [str(program), "judge", str(folder), "--day-start", DAY_START],
+        "fleetplan judge": [str(program), "judge", str(folder), "--day-start", DAY_START, *flags],
         "Python csv": [sys.executable, str(BENCH / "read_csv.py"), *map(str, files)],
     }
     best = {name: float("inf") for name in sides}
@@ -43,16 +43,16 @@ def compare(title, program, folder, files):
     return best["fleetplan judge"] <= best["Python csv"]
 
 
-def same_answer(program, folder):
+def same_answer(program, folder, flags):
     """Whether the program prints what the reference prints."""
-    ours = subprocess.run([str(program), "judge", str(folder), "--day-start", DAY_START], capture_output=True)
-    reference = [sys.executable, str(BENCH / "judge_reference.py"), str(folder), DAY_START]
+    ours = subprocess.run([str(program), "judge", str(folder), "--day-start", DAY_START, *flags], capture_output=True)
+    reference = [sys.executable, str(BENCH / "judge_reference.py"), str(folder), DAY_START, *flags]
     theirs = subprocess.run(reference, capture_output=True)
     return (ours.returncode, ours.stdout) == (theirs.returncode, theirs.stdout) and ours.returncode == 0
 
 
 def main(filled):
-    """Measures on the largest tables, in both orders of costs. Its status is 0 where the program took no more time."""
+    """Measures on the largest tables, in both orders of costs, and on those with windows and optional legs. Its status is 0 where the program took no more time."""
     program = Path(sys.argv[1] if len(sys.argv) > 1 else BUILT).resolve()
     if not program.exists():
         sys.exit(f"{program} is not there: run ./fleetplan first, which builds it")
@@ -60,11 +60,13 @@ def main(filled):
         sys.exit("GNU time is not on the PATH, by which memory is measured")
     print(f"best of {RUNS} runs, and the most memory held")
     no_more = True
-    for title, shuffled in (("costs by leg and fleet", False), ("costs in another order", True)):
+    kinds = (("costs by leg and fleet", {}), ("costs in another order", {"shuffled": True}), ("windows and optional legs", {"timed": True}))
+    for title, kind in kinds:
+        flags = ["--windows", "--optional"] if "timed" in kind else []
         with tempfile.TemporaryDirectory() as scratch:
-            files = make_tables.write(Path(scratch), shuffled=shuffled, filled=filled)
-            if not same_answer(program, scratch):
+            files = make_tables.write(Path(scratch), filled=filled, **kind)
+            if not same_answer(program, scratch, flags):
                 sys.exit("the program does not print what judge_reference.py prints")
-            no_more = compare(title, program, scratch, files) and no_more
+            no_more = compare(title, program, scratch, files, flags) and no_more
     print("no more than Python" if no_more else "MORE than Python")
     sys.exit(0 if no_more else 1)

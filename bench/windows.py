@@ -1,0 +1,43 @@
+#!/usr/bin/env python3
+"""Writes a hub and spoke schedule whose legs may depart at several times, always the same for a number.
+
+usage: windows.py FOLDER LEGS FLEETS [NUMBER [TIMES [FEWER]]]
+
+The tables are those of hubs.py. Beside them windows.csv gives each leg TIMES times, 4 where it isn't given, its own with them: 5, 10 and
+more minutes later and earlier, in turn, each dearer than the one before. Each fleet has so many aircraft FEWER, 0 where it isn't given,
+in percent of its own, rounded down.
+"""
+import csv
+import random
+import sys
+from pathlib import Path
+
+import hubs
+
+STEP = 5
+
+
+def shifts_of(times):
+    """So many times of a leg but its own."""
+    return [STEP * (at // 2 + 1) * (-1 if at % 2 else 1) for at in range(times - 1)]
+
+
+def write(folder, legs, fleets, number=1, times=4, fewer=0):
+    hubs.write(folder, legs, fleets, number)
+    draw = random.Random(f"windows {number}")
+    with open(Path(folder, "legs.csv"), newline="") as file:
+        flights = [row["flight"] for row in csv.DictReader(file)]
+    with open(Path(folder, "fleets.csv"), newline="") as file:
+        kinds = [(row["fleet"], int(row["aircraft"]) * (100 - fewer) // 100, row["turn"]) for row in csv.DictReader(file)]
+    windows = [(flight, shift, abs(shift) * draw.randrange(5, 30)) for flight in flights for shift in shifts_of(times)]
+    hubs.put(folder, {"windows.csv": [("flight", "shift", "extra"), *windows], "fleets.csv": [("fleet", "aircraft", "turn"), *kinds]})
+
+
+def main():
+    if not 4 <= len(sys.argv) <= 7:
+        sys.exit(__doc__)
+    write(sys.argv[1], *map(int, sys.argv[2:]))
+
+
+if __name__ == "__main__":
+    main()
