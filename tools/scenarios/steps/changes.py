@@ -5,7 +5,7 @@ from fractions import Fraction
 
 from hints.forms import MOST_PARKED, TRILLION
 from hints.records import DATED, HEADERS, Unread
-from steps.flagged import HEADERS as FLAGGED_HEADERS
+from steps.flagged import FLAGGED
 
 MOST_AIRCRAFT = 500
 # Where a record of a station has its limit, if it has one.
@@ -132,7 +132,7 @@ def record_more(name, words, forms):
 
 def drop(tables, flights):
     """Takes flights away, with all that speaks of them."""
-    for name in {"legs.csv", "costs.csv", *FLAGGED_HEADERS} & set(tables):
+    for name in {"legs.csv", "costs.csv", *FLAGGED.values()} & set(tables):
         tables[name][:] = [it for it in tables[name] if it[0] not in flights]
     tables["throughs.csv"][:] = [it for it in tables["throughs.csv"] if flights.isdisjoint(it[:2])]
 

@@ -3,11 +3,11 @@
 import os
 import shutil
 
-from hints.records import LIMITED, Unread, headers_of, table_of
+from hints.records import HEADERS, LIMITED, Unread, headers_of, table_of
 from schedule_files.files import table
 from steps import whole
 from steps.changes import read_change
-from steps.flagged import HEADERS, flags_of, tables_in
+from steps.flagged import flags_of, tables_in
 from steps.running import run
 
 # Stands beside tables that can't be solved, and says why.
@@ -38,7 +38,7 @@ def changed(folder, texts):
     """Changes the tables of a folder, and returns why that can't be done, or None."""
     if not texts:
         return None
-    read = {it: table_of(folder, it, (HEADERS[it],) if it in HEADERS else headers_of(it)) for it in tables_in(folder)}
+    read = {it: table_of(folder, it, headers_of(it)) for it in tables_in(folder)}
     tables = {it: rows for it, (_, rows) in read.items()}
     for text in texts:
         try:

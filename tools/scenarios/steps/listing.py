@@ -27,7 +27,7 @@ class Scenario:
     def flagged(self, base):
         """Returns the tables that its words want beside the five, but those that its changes alone fill."""
         filled = {FLAG_OF.get(it.split()[0]) for it in self.changes}
-        wanted = ((flag, name) for flag, (name, _) in FLAGGED.items() if flag in self.words)
+        wanted = ((flag, name) for flag, name in FLAGGED.items() if flag in self.words)
         return [name for flag, name in wanted if flag not in filled or self.own(name) or os.path.lexists(os.path.join(base, name))]
 
     @property
@@ -71,7 +71,7 @@ def scenario_of(fields, beside):
     if not NAME.fullmatch(name):
         raise Unread(f'a scenario is named "{name}", it should be 1 to 64 of A to Z, a to z, 0 to 9, ".", "_", "+" and "-"')
     place = os.path.join(beside, folder) if folder else None
-    names = (*TABLES, *(it for it, _ in FLAGGED.values()))
+    names = (*TABLES, *FLAGGED.values())
     if place and not any(os.path.isfile(os.path.join(place, it)) for it in names):
         raise Unread(f"the folder {place} has none of {', '.join(names)}")
     texts = [it.strip() for it in changes.split(";") if it.strip()]

@@ -10,7 +10,7 @@ import sys
 from hints.records import TABLES
 from hints.words import Call
 from steps import whole
-from steps.flagged import HEADERS, reading_of, tables_in
+from steps.flagged import FLAGGED, tables_in
 from steps.laying import REFUSED
 from steps.running import Fault, run
 
@@ -18,7 +18,7 @@ TOP = os.path.dirname(os.path.dirname(os.path.dirname(os.path.dirname(os.path.re
 ANSWER = "answer.json"
 # Beside the folder of the solution: what is written of it.
 CHECK, SIZES, DRAWN = "check.json", "sizes.json", "drawn"
-CLAIMED = (*TABLES, *HEADERS, "plan.csv", "proof.txt")
+CLAIMED = (*TABLES, *FLAGGED.values(), "plan.csv", "proof.txt")
 # The statuses with which `solve` has written a proof.
 PROVED = (0, 3, 4, 5)
 
@@ -52,7 +52,7 @@ def answer_of(program, folder, words, limits):
     answer = {"status": ran.status, "told": ran.told, "seconds": ran.seconds, "memory": ran.memory}
     if ran.status in PROVED:
         answer["solved"] = json.loads(ran.told)
-        answer["reading"] = reading_of(call, folder)
+        answer["reading"] = call.reading
     return answer
 
 
