@@ -4,7 +4,7 @@
 usage: plan_by_cbc.py DIR [HH:MM]
 
 The day starts at the time of the second word, or else at 03:00. Where legs have a day, the schedule repeats after the last of these.
-The plan is written as DIR/plan.csv, and its cost is printed. Each fleet has a time line at each station: its aircraft wait on arcs
+Where windows.csv or optional.csv stands there, legs may depart at its times, or be left out. The plan is written as DIR/plan.csv, and its cost is printed. Each fleet has a time line at each station: its aircraft wait on arcs
 from a node, which are some that become ready and then some that depart, to the next one, and from the last to the first.
 """
 import subprocess
@@ -13,9 +13,10 @@ import tempfile
 from collections import defaultdict
 from pathlib import Path
 
-from schedules import period_of, rows
+from schedules import FLAGGED, flags_of, period_of, rows
 
 DAY = 1440
+LEFT_OUT = "-"
 
 
 def minute(text):
@@ -23,19 +24,25 @@ def minute(text):
 
 
 def pairs_of(folder, start):
-    """The legs, the fleets, and of each pair its departure, ready minute, laps and cost."""
+    """The legs, the fleets, and of each way to fly a leg, by its fleet and shift, its departure, ready minute, laps and cost. A leg that may
+    be left out has a way without fleet that has its cost alone."""
     extra = {row["code"]: int(row["extra"]) for row in rows(folder, "stations.csv")}
     fleets = [(row["fleet"], int(row["aircraft"]), int(row["turn"])) for row in rows(folder, "fleets.csv")]
     legs, period = rows(folder, "legs.csv"), DAY * period_of(folder)
     place = {leg["flight"]: number for number, leg in enumerate(legs)}
     turns = {name: turn for name, _, turn in fleets}
-    pairs = {}
+    flags, shifts, pairs = flags_of(folder), {it: [(0, 0)] for it in place}, {}
+    for row in rows(folder, FLAGGED["--windows"]) if "--windows" in flags else ():
+        shifts[row["flight"]].append((int(row["shift"]), int(row["extra"])))
     for row in rows(folder, "costs.csv"):
         leg = legs[place[row["flight"]]]
-        departs = (DAY * (int(leg.get("day", 1)) - 1) + minute(leg["dep"]) - start) % period
         block = (minute(leg["arr"]) - minute(leg["dep"])) % DAY
-        ready = departs + block + turns[row["fleet"]] + extra[leg["to"]]
-        pairs[place[row["flight"]], row["fleet"]] = (departs, ready % period, ready // period, int(row["cost"]))
+        for shift, more in shifts[row["flight"]]:
+            departs = (DAY * (int(leg.get("day", 1)) - 1) + minute(leg["dep"]) - start + shift) % period
+            ready = departs + block + turns[row["fleet"]] + extra[leg["to"]]
+            pairs[place[row["flight"]], row["fleet"], shift] = (departs, ready % period, ready // period, int(row["cost"]) + more)
+    for row in rows(folder, FLAGGED["--optional"]) if "--optional" in flags else ():
+        pairs[place[row["flight"]], LEFT_OUT, 0] = (None, None, 0, int(row["skip"]))
     return legs, fleets, pairs
 
 
@@ -44,12 +51,15 @@ def program(legs, fleets, pairs):
     name = {key: f"x{number}" for number, key in enumerate(pairs)}
     lines = ["Minimize", " cost: " + " + ".join(f"{pairs[key][3]} {name[key]}" for key in pairs).replace("+ -", "- "), "Subject To"]
     cover, events, laps = defaultdict(list), defaultdict(list), defaultdict(list)
-    for (leg, fleet), (departs, ready, crossed, _) in pairs.items():
-        cover[leg].append(name[leg, fleet])
-        events[fleet, legs[leg]["from"]].append((departs, 1, name[leg, fleet]))
-        events[fleet, legs[leg]["to"]].append((ready, 0, name[leg, fleet]))
+    for key, (departs, ready, crossed, _) in pairs.items():
+        leg, fleet, _ = key
+        cover[leg].append(name[key])
+        if fleet == LEFT_OUT:
+            continue
+        events[fleet, legs[leg]["from"]].append((departs, 1, name[key]))
+        events[fleet, legs[leg]["to"]].append((ready, 0, name[key]))
         if crossed:
-            laps[fleet].append(f"{crossed} {name[leg, fleet]}")
+            laps[fleet].append(f"{crossed} {name[key]}")
     lines += [" " + " + ".join(terms) + " = 1" for terms in cover.values()]
     stocks, arcs = defaultdict(list), 0
     for (fleet, _), here in sorted(events.items()):
@@ -92,9 +102,11 @@ def write(folder, day_start):
     legs, fleets, pairs = pairs_of(folder, minute(day_start))
     text, name = program(legs, fleets, pairs)
     chosen = solve(text)
-    flown = {leg: fleet for (leg, fleet), it in name.items() if it in chosen}
+    flown = {leg: (fleet, shift) for (leg, fleet, shift), it in name.items() if it in chosen}
+    width = 3 if "--windows" in flags_of(folder) else 2
+    lines = [("flight", "fleet", "shift"), *((leg["flight"], *flown[number]) for number, leg in enumerate(legs))]
     with open(Path(folder, "plan.csv"), "w") as plan:
-        plan.write("flight,fleet\n" + "".join(f"{leg['flight']},{flown[number]}\n" for number, leg in enumerate(legs)))
+        plan.write("".join(",".join(map(str, it[:width])) + "\n" for it in lines))
     return sum(pairs[key][3] for key, it in name.items() if it in chosen)
 
 

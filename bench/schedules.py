@@ -10,6 +10,7 @@ from pathlib import Path
 
 BUILT = Path(__file__).resolve().parent.parent / "crates" / "fleetplan" / "out" / "fleetplan"
 SOLVED = (0, 3, 5)
+FLAGGED = {"--windows": "windows.csv", "--optional": "optional.csv"}
 
 
 def make(folder, number, legs, program=BUILT):
@@ -26,10 +27,15 @@ def period_of(folder):
     return max((int(row.get("day", 1)) for row in rows(folder, "legs.csv")), default=1)
 
 
-def period_words(folder):
-    """The words by which the program reads the tables of a folder, none where it repeats each day."""
+def flags_of(folder):
+    """The flags by which the program reads tables that stand in a folder beside the five."""
+    return [flag for flag, name in FLAGGED.items() if Path(folder, name).exists()]
+
+
+def reading_words(folder):
+    """The words by which the program reads the tables of a folder, none where it repeats each day and has five."""
     period = period_of(folder)
-    return ["--period", str(period)] if period > 1 else []
+    return [*(["--period", str(period)] if period > 1 else []), *flags_of(folder)]
 
 
 def want_one_day(folder, what):
