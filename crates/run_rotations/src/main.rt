@@ -4,8 +4,9 @@
 //! the day starts at 03:00, a tour comes to maintenance every 3 days, and a search visits 200,000 beginnings of tours.
 #![tactic(auto)]
 
-ghost use Rattle.std.specs.Prelude.{◌<◌};
+ghost use Rattle.std.specs.Prelude.{◌<◌, IfOk};
 ghost use Rattle.fleet_model.specs.Legal.{IsLegal};
+ghost use Rattle.fleet_model.specs.Plain.{IsPlain};
 ghost use Rattle.fleet_model.specs.Schedule.{fleets_in};
 
 mod parts;
@@ -51,8 +52,10 @@ fn main(rt: HostRuntime) -> Result<()> {
     Ok(())
 }
 
-/// The tables that the bytes hold.
-fn tables_of(alloc: Global, bytes: &[u8]) -> Result<Tables> {
+/// The tables that the bytes hold. Each leg of them departs at one time.
+fn tables_of(alloc: Global, bytes: &[u8]) -> Result<Tables>
+    ensures { IfOk result IsPlain }
+{
     let settings = Settings {
         day_start: 180,
         through_max: 60,

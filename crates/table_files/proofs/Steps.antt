@@ -1,5 +1,5 @@
 -- What a further file comes to, where it is asked for and where it isn't.
-use Rattle.std.proofs.Common.{◌≡◌, ℕ, true, false, Result, Ok, Err, MatchResult, refl, sym, subst}
+use Rattle.std.proofs.Common.{◌≡◌, true, false, Result, Ok, Err, MatchResult, refl, sym, subst}
 use Rattle.csv_fields.specs.Record.{records_of}
 use Rattle.fleet_model.specs.declared.options.TableOptions.{TableOptions}
 use Rattle.fleet_model.specs.declared.refusals.LoadError.{LoadError}

@@ -4,6 +4,7 @@ use Rattle.fleet_model.specs.Limits.{AreSettings}
 use Rattle.fleet_model.specs.declared.options.TableOptions.{TableOptions}
 use Rattle.fleet_model.specs.declared.refusals.TableFile.{TableFile}
 use Rattle.fleet_model.specs.declared.tables.Tables.{Tables}
+use Rattle.retime_windows.specs.Settled.{CanSettle}
 use Rattle.sched_read.specs.Laws.{SameFault}
 use Rattle.table_files.specs.Files.{AllBytes, FilesBad, FilesRead}
 
@@ -35,3 +36,7 @@ OneReading = (bytes : AllBytes) (options : TableOptions) (a b : Tables) → File
 abbrev pub OneFirstFault : Type 0
 OneFirstFault = (bytes : AllBytes) (options : TableOptions) (file other : TableFile) (row other_row kind other_kind : ℕ)
     → FilesBad bytes options file row kind → FilesBad bytes options other other_row other_kind → SameFault file other row other_row kind other_kind
+
+-- plans can be settled on tables that read
+abbrev pub PlansSettle : Type 0
+PlansSettle = (bytes : AllBytes) (options : TableOptions) (t : Tables) → FilesRead bytes options t → CanSettle t

@@ -1,6 +1,6 @@
 //! The laws of reading: of the files of a folder one thing holds and no more. Each function is a law: its contract is the
 //! statement, and it does nothing.
-ghost use Rattle.table_files.specs.Laws.{OneFirstFault, OneReading, ReadOrFault, ReadOrFaultNotBoth};
+ghost use Rattle.table_files.specs.Laws.{OneFirstFault, OneReading, PlansSettle, ReadOrFault, ReadOrFaultNotBoth};
 
 /// Files read as some tables, or they have a first fault.
 pub fn read_or_fault()
@@ -20,4 +20,9 @@ pub fn one_reading()
 /// Files have one first fault at most.
 pub fn one_first_fault()
     ensures { OneFirstFault }
+{}
+
+/// Plans can be settled on tables that read.
+pub fn plans_settle()
+    ensures { PlansSettle }
 {}

@@ -10,7 +10,7 @@ use sched_read::load;
 use std::alloc::Global;
 
 /// The bytes of the files of tables. Those that aren't asked for are not looked at.
-#[derive(Debug)]
+#[derive(Debug, Drop)]
 pub struct FileTexts<'a> {
     pub stations: &'a [u8],
     pub fleets: &'a [u8],
