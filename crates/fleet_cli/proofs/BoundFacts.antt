@@ -15,7 +15,7 @@ use Rattle.fleet_model.specs.declared.tables.Tables.{Tables}
 use Rattle.plan_desk.specs.Desk.{Files}
 use Rattle.plan_desk.specs.Sink.{output_with}
 use Rattle.plan_desk.specs.declared.file.DeskFile.TheVariants as file
-use Rattle.sched_read.specs.Reading.{Reads}
+use Rattle.table_files.specs.Files.{FilesRead}
 use Rattle.fleet_cli.proofs.Skeletons.{either_legal, either_plan, either_proof, either_tables}
 use Rattle.fleet_cli.specs.Answer.{Answers, ChecksTree, TellsOn, TellsProof, TellsRead, TellsWith, checked_status}
 use Rattle.fleet_cli.specs.Contents.{bytes_in, table_bytes}
@@ -54,7 +54,7 @@ module _ (answer : Answer) (done : answer.status.code ≡ DONE) where
       by_verdict (checked.Broken node rule) breaks is = absurd (other 9 _ is (λ e. omega arith))
 
   module _ (held : Files) (dir : List ℕ) (reading : TableOptions) (before after : Option (List ℕ)) (put : after ≡ output_with before answer.text)
-      (within : AllWithin (Some (check dir reading)) held) (there : AllStand held dir proof_files) (t : Tables) (reads : Reads (table_bytes (bytes_in held dir)) reading.settings t) where
+      (within : AllWithin (Some (check dir reading)) held) (there : AllStand held dir (proof_files reading)) (t : Tables) (reads : FilesRead (table_bytes (bytes_in held dir)) reading t) where
     alone : HoldsAs t None answer → TellsBound held dir reading before after
     alone holds = record {
       tables = t;

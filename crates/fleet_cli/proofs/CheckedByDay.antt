@@ -1,5 +1,5 @@
 -- What checking says of a proof doesn't change with the longest wait of a through pair.
-use Rattle.std.proofs.Common.{◌≡◌, ◌⊎◌, ℕ, ◌<◌, ◌≤◌, Bool, List, ℤ, Option, Some, None, inl, inr, refl, sym, ap, ◌∙◌, arith}
+use Rattle.std.proofs.Common.{◌≡◌, ◌⊎◌, ℕ, ◌<◌, ◌≤◌, Bool, List, ℤ, Option, Some, None, inl, inr, refl, sym, ap, subst, ◌∙◌, arith}
 use Rattle.std.proofs.lemmas.Bool.{cases_lt}
 use Rattle.bound_cert.proofs.OtherReading.{reads_by}
 use Rattle.cert_check.proofs.OtherSettings.{holds_by, legal_by}
@@ -13,31 +13,34 @@ use Rattle.fleet_model.specs.declared.parts.Settings.{Settings}
 use Rattle.fleet_model.specs.declared.tables.Tables.{Tables}
 use Rattle.plan_desk.specs.Desk.{Files}
 use Rattle.plan_desk.specs.declared.file.DeskFile.TheVariants as file
-use Rattle.sched_read.proofs.OtherSettings.{bad_by_day, reads_by_day, with_settings}
-use Rattle.sched_read.proofs.ReadLaws.{reads_no_fault}
-use Rattle.sched_read.specs.Reading.{Reads, TableBytes}
+use Rattle.sched_read.proofs.OtherSettings.{with_settings}
+use Rattle.table_files.proofs.OtherSettings.{fault_by_day, read_by_day, settings_read}
+use Rattle.table_files.proofs.ReadLaws.{no_fault}
+use Rattle.table_files.specs.Files.{AllBytes, FilesRead}
 use Rattle.fleet_cli.proofs.OneAnswer.{all_within}
 use Rattle.fleet_cli.proofs.OneReading.{within_or_long}
 use Rattle.fleet_cli.specs.Answer.{Answers, Checks}
 use Rattle.fleet_cli.specs.Contents.{bytes_in, table_bytes}
+use Rattle.fleet_cli.specs.Gathered.{AllStand}
+use Rattle.fleet_cli.specs.Reading.{proof_files}
 use Rattle.fleet_cli.specs.Run.{IsCostThere, ProofThere}
 use Rattle.fleet_cli.specs.SolvedChecked.{CountAlike}
 use Rattle.fleet_cli.specs.declared.answer.Answer.{Answer}
 
 -- files read by settings that are within their limits
-wait_in_day : (bytes : TableBytes) (settings : Settings) (t : Tables) → Reads bytes settings t → settings.through_max < MINUTES_PER_DAY
-wait_in_day bytes settings t reads =
+wait_in_day : (bytes : AllBytes) (options : TableOptions) (t : Tables) → FilesRead bytes options t → options.settings.through_max < MINUTES_PER_DAY
+wait_in_day bytes options t reads =
     let fits = t.in_range.settings_fit.through_max in
-    let same : t.settings.through_max ≡ settings.through_max = ap (λ (s : Settings). s.through_max) reads.settings_are in
+    let same : t.settings.through_max ≡ options.settings.through_max = ap (λ (s : Settings). s.through_max) (settings_read bytes options t reads) in
     omega (arith, fits, same)
 
-days_are : (bytes : TableBytes) (settings : Settings) (t : Tables) → Reads bytes settings t → t.settings.period ≡ settings.period
-days_are bytes settings t reads = ap (λ (s : Settings). s.period) reads.settings_are
+days_are : (bytes : AllBytes) (options : TableOptions) (t : Tables) → FilesRead bytes options t → t.settings.period ≡ options.settings.period
+days_are bytes options t reads = ap (λ (s : Settings). s.period) (settings_read bytes options t reads)
 
-day_in_day : (bytes : TableBytes) (settings : Settings) (t : Tables) → Reads bytes settings t → settings.day_start < MINUTES_PER_DAY
-day_in_day bytes settings t reads =
+day_in_day : (bytes : AllBytes) (options : TableOptions) (t : Tables) → FilesRead bytes options t → options.settings.day_start < MINUTES_PER_DAY
+day_in_day bytes options t reads =
     let fits = t.in_range.settings_fit.day_start in
-    let same : t.settings.day_start ≡ settings.day_start = ap (λ (s : Settings). s.day_start) reads.settings_are in
+    let same : t.settings.day_start ≡ options.settings.day_start = ap (λ (s : Settings). s.day_start) (settings_read bytes options t reads) in
     omega (arith, fits, same)
 
 module _ (held : Files) (dir : List ℕ) where
@@ -66,20 +69,24 @@ module _ (held : Files) (dir : List ℕ) where
         )
 
   module _ (solving checking : TableOptions) (alike : CountAlike solving checking) where
+    -- the same files are read
+    same_files : proof_files solving ≡ proof_files checking
+    same_files = rw (alike.windows, alike.optional) refl
+
     -- a proof that stands there stands there by other settings that count minutes alike
     proof_by : AreSettings checking.settings → ProofThere held dir solving → ProofThere held dir checking
     unfolding days_in
     proof_by fit x =
         let t = x.tables in
-        let as_long = days_are (table_bytes (bytes_in held dir)) solving.settings t x.reads ∙ alike.days in
+        let as_long = days_are (table_bytes (bytes_in held dir)) solving t x.reads ∙ alike.days in
         let u = with_settings t checking.settings fit as_long in
         record {
           tables = u;
           proof = x.proof;
           cost = x.cost;
           bound = x.bound;
-          there = x.there;
-          reads = reads_by_day (table_bytes (bytes_in held dir)) solving.settings checking.settings alike.day_start alike.days t fit as_long x.reads;
+          there = subst (AllStand held dir) same_files x.there;
+          reads = read_by_day (table_bytes (bytes_in held dir)) solving checking alike.day_start alike.days alike.windows alike.optional fit t as_long x.reads;
           proof_reads = reads_by t.stations t.fleets t.legs t.costs t.throughs t.departures t.windows t.optional (t.settings, t.in_range) (checking.settings, u.in_range) as_long (bytes_in held dir file.Proof) x.proof x.proof_reads;
           plan = plan_by t checking.settings fit as_long x.proof.planned x.cost x.plan;
           holds = holds_by t.stations t.fleets t.legs t.costs t.throughs t.departures t.windows t.optional (t.settings, t.in_range) (checking.settings, u.in_range) as_long x.cost x.proof.tree x.bound x.holds;
@@ -89,28 +96,31 @@ module _ (held : Files) (dir : List ℕ) where
     never_answered : (answer : Answer) → ProofThere held dir solving → MINUTES_PER_DAY ≤ checking.settings.through_max → Answers held (Some (check dir checking)) answer → ⊥
     never_answered answer x great (inl long) =
         within_or_long (Some (check dir checking)) held long.file
-        (all_within held (Some (check dir checking)) x.there (λ follows. absurd (unread follows.1.tables follows.1.reads))) long.longer
+        (all_within held (Some (check dir checking)) (subst (AllStand held dir) same_files x.there) (λ follows. absurd (unread follows.1.tables follows.1.reads))) long.longer
       where
-        unread : (t : Tables) → Reads (table_bytes (bytes_in held dir)) checking.settings t → ⊥
-        unread t reads = let small = wait_in_day (table_bytes (bytes_in held dir)) checking.settings t reads in omega (arith, great, small)
+        unread : (t : Tables) → FilesRead (table_bytes (bytes_in held dir)) checking t → ⊥
+        unread t reads = let small = wait_in_day (table_bytes (bytes_in held dir)) checking t reads in omega (arith, great, small)
     never_answered answer x great (inr read) = by_tables read.answers
       where
+        solving_fits : AreSettings solving.settings
+        solving_fits = subst AreSettings (settings_read (table_bytes (bytes_in held dir)) solving x.tables x.reads) x.tables.in_range.settings_fit
+
         by_tables : Checks checking (table_bytes (bytes_in held dir)) (bytes_in held dir file.Proof) (bytes_in held dir file.Plan) answer → ⊥
         by_tables (inl refused) =
-            reads_no_fault (table_bytes (bytes_in held dir)) solving.settings x.tables refused.file refused.row refused.kind x.reads
-            (bad_by_day (table_bytes (bytes_in held dir)) checking.settings solving.settings (sym alike.day_start) (sym alike.days) refused.file refused.row refused.kind refused.bad)
-        by_tables (inr answers) = let small = wait_in_day (table_bytes (bytes_in held dir)) checking.settings answers.tables answers.reads in omega (arith, great, small)
+            no_fault (table_bytes (bytes_in held dir)) solving x.tables refused.file refused.row refused.kind x.reads
+            (fault_by_day (table_bytes (bytes_in held dir)) checking solving (sym alike.day_start) (sym alike.days) (sym alike.windows) (sym alike.optional) solving_fits refused.file refused.row refused.kind refused.bad)
+        by_tables (inr answers) = let small = wait_in_day (table_bytes (bytes_in held dir)) checking answers.tables answers.reads in omega (arith, great, small)
 
     -- so a proof that stands there by some settings is one by those of an answer to checking that counts minutes alike
     pub proof_by_day : (answer : Answer) → ProofThere held dir solving → Answers held (Some (check dir checking)) answer → ProofThere held dir checking
     proof_by_day answer x answers = by_wait (cases_lt checking.settings.through_max MINUTES_PER_DAY)
       where
         days : x.tables.settings.period ≡ checking.settings.period
-        days = days_are (table_bytes (bytes_in held dir)) solving.settings x.tables x.reads ∙ alike.days
+        days = days_are (table_bytes (bytes_in held dir)) solving x.tables x.reads ∙ alike.days
 
         settings_fit : checking.settings.through_max < MINUTES_PER_DAY → AreSettings checking.settings
         settings_fit small = record {
-          day_start = rw (← alike.day_start) (day_in_day (table_bytes (bytes_in held dir)) solving.settings x.tables x.reads);
+          day_start = rw (← alike.day_start) (day_in_day (table_bytes (bytes_in held dir)) solving x.tables x.reads);
           through_max = small;
           some_days = rw (← days) x.tables.in_range.settings_fit.some_days;
           few_days = rw (← days) x.tables.in_range.settings_fit.few_days;

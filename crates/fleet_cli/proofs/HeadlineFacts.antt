@@ -55,8 +55,8 @@ here held name bytes = update_same bytes_eq held name bytes name (bytes_eq-self 
 other : (held : Files) (name written : List ℕ) (bytes : Option (List ℕ)) → written ≢ name → with_file held written bytes name ≡ held name
 other held name written bytes differ = update_other bytes_eq held written bytes name (bytes_eq-differ written name differ)
 
-module _ (held : Files) (dir : List ℕ) (t : Tables) (rotations : List FleetRotation) (visits : ℕ) where
-  pub plan_stands : (s : Solved) → with_texts held dir (solved_files t s rotations visits) (path_of dir desk_file.Plan) ≡ plan_there t s (held (path_of dir desk_file.Plan))
+module _ (held : Files) (dir : List ℕ) (t shown : Tables) (rotations : List FleetRotation) (visits : ℕ) where
+  pub plan_stands : (s : Solved) → with_texts held dir (solved_files t shown s rotations visits) (path_of dir desk_file.Plan) ≡ plan_there t s (held (path_of dir desk_file.Plan))
   unfolding solved_files
   plan_stands (solved.Planned plan cost bound tree) =
       other (with_file (with_file held (path_of dir desk_file.Plan) (Some (plan_text t plan))) (path_of dir desk_file.Proof) (Some (proof_text t true tree))) (path_of dir desk_file.Plan) (path_of dir desk_file.Rotation) _ (rotation_not_plan dir)
@@ -71,18 +71,18 @@ module _ (held : Files) (dir : List ℕ) (t : Tables) (rotations : List FleetRot
 
   -- the proof, over what stands where it is written
   proof_over : (before : Files) (planned : Bool) (tree : Tree)
-      → with_file (with_file before (path_of dir desk_file.Proof) (Some (proof_text t planned tree))) (path_of dir desk_file.Rotation) (Some (rotation_text t rotations visits)) (path_of dir desk_file.Proof)
+      → with_file (with_file before (path_of dir desk_file.Proof) (Some (proof_text t planned tree))) (path_of dir desk_file.Rotation) (Some (rotation_text shown rotations visits)) (path_of dir desk_file.Proof)
       ≡ Some (proof_text t planned tree)
   proof_over before planned tree =
       other (with_file before (path_of dir desk_file.Proof) (Some (proof_text t planned tree))) (path_of dir desk_file.Proof) (path_of dir desk_file.Rotation) _ (rotation_not_proof dir) ∙ here before (path_of dir desk_file.Proof) _
 
-  pub proof_stands : (s : Solved) → with_texts held dir (solved_files t s rotations visits) (path_of dir desk_file.Proof) ≡ Some (proof_text t (is_planned s) (tree_of s))
+  pub proof_stands : (s : Solved) → with_texts held dir (solved_files t shown s rotations visits) (path_of dir desk_file.Proof) ≡ Some (proof_text t (is_planned s) (tree_of s))
   unfolding solved_files
   proof_stands (solved.Planned plan cost bound tree) = proof_over (with_file held (path_of dir desk_file.Plan) (Some (plan_text t plan))) true tree
   proof_stands (solved.Infeasible tree) = proof_over held false tree
   proof_stands (solved.Unsettled bound tree) = proof_over held false tree
 
-  rotation_stands : (s : Solved) → with_texts held dir (solved_files t s rotations visits) (path_of dir desk_file.Rotation) ≡ Some (rotation_text t rotations visits)
+  rotation_stands : (s : Solved) → with_texts held dir (solved_files t shown s rotations visits) (path_of dir desk_file.Rotation) ≡ Some (rotation_text shown rotations visits)
   unfolding solved_files
   rotation_stands (solved.Planned plan cost bound tree) =
       here (with_file (with_file held (path_of dir desk_file.Plan) (Some (plan_text t plan))) (path_of dir desk_file.Proof) (Some (proof_text t true tree))) (path_of dir desk_file.Rotation) _
@@ -98,19 +98,20 @@ module _ (held : Files) (dir : List ℕ) (reading : TableOptions) (options : Sol
       by_tables : Solves reading options (table_bytes (bytes_in held dir)) answer → TellsSolution held told dir reading options code before after
       by_tables (inl refused) = absurd (not_refused code solution (is ∙ ap (λ (a : Answer). a.status.code) refused.is))
       by_tables (inr solves) = let given = solves.finishes in record {
-        stands = with_texts held dir (solved_files solves.tables given.solution given.rotations options.rotations.visits);
+        stands = with_texts held dir (solved_files solves.tables given.shown given.solution given.rotations options.rotations.visits);
         tells = written ∙ ap (λ (a : Answer). held_with_texts (Some held) dir a.files) given.is;
         leaves = record {
           tables = solves.tables;
           solution = given.solution;
+          shown = given.shown;
           rotations = given.rotations;
           there = read.within.first;
           reads = solves.reads;
           solves = given.solves;
           rotates = given.rotates;
-          plan = plan_stands held dir solves.tables given.rotations options.rotations.visits given.solution;
-          proof = proof_stands held dir solves.tables given.rotations options.rotations.visits given.solution;
-          rotation = rotation_stands held dir solves.tables given.rotations options.rotations.visits given.solution;
+          plan = plan_stands held dir solves.tables given.shown given.rotations options.rotations.visits given.solution;
+          proof = proof_stands held dir solves.tables given.shown given.rotations options.rotations.visits given.solution;
+          rotation = rotation_stands held dir solves.tables given.shown given.rotations options.rotations.visits given.solution;
           put = put ∙ ap (λ (a : Answer). output_with before a.text) given.is;
           code_is = is ∙ ap (λ (a : Answer). a.status.code) given.is;
         };

@@ -35,10 +35,10 @@ module _ (held : Files) (dir : List ℕ) (number legs : ℕ) (answer : Answer) (
       let solution : IsSolution code = rw is (is_solution answer.status.code (flyable number legs answer x)) in
       let solved = solved_leaves (with_texts held dir (made_files made)) dir DEFAULT_READING DEFAULT_OPTIONS x.solving code told before after (solving_answers held dir number legs answer x)
       (is ∙ ap (λ (a : Answer). a.status.code) x.is) (written ∙ written_over held dir number legs answer x) (put ∙ ap (λ (a : Answer). output_with before a.text) x.is) solution in
-      let files : answer.files ≡ made_files made ++ solved_files x.solves.tables given.solution given.rotations DEFAULT_OPTIONS.rotations.visits =
+      let files : answer.files ≡ made_files made ++ solved_files x.solves.tables given.shown given.solution given.rotations DEFAULT_OPTIONS.rotations.visits =
       ap (λ (a : Answer). a.files) x.is ∙ ap (λ (a : Answer). made_files made ++ a.files) given.is in
       let stands : with_texts held dir answer.files ≡ solved.stands = same_Some (with_texts held dir answer.files) solved.stands (sym written ∙ solved.tells) in
-      let there : TablesStand solved.stands dir made = subst (λ f. TablesStand f dir made) (ap (with_texts held dir) (sym files) ∙ stands) (still_stand held dir made x.solves.tables given.solution given.rotations DEFAULT_OPTIONS.rotations.visits) in
+      let there : TablesStand solved.stands dir made = subst (λ f. TablesStand f dir made) (ap (with_texts held dir) (sym files) ∙ stands) (still_stand held dir made x.solves.tables given.shown given.solution given.rotations DEFAULT_OPTIONS.rotations.visits) in
       record {
         stands = solved.stands;
         tells = solved.tells;

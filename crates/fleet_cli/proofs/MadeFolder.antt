@@ -23,7 +23,8 @@ use Rattle.plan_desk.specs.declared.file.DeskFile.TheVariants as file
 use Rattle.plan_desk.specs.declared.file.TheConstants.{PROOF_LIMIT}
 use Rattle.fleet_rotations.specs.declared.made.FleetRotation.{FleetRotation}
 use Rattle.sched_read.proofs.ReadLaws as tables
-use Rattle.sched_read.specs.Reading.{IsFirstBad, Reads}
+use Rattle.sched_read.specs.Reading.{IsFirstBad, Reads, TableBytes}
+use Rattle.table_files.specs.Files.{FilesRead}
 use Rattle.table_maker.proofs.MadeRead.{made_read}
 use Rattle.table_maker.proofs.TextLengths.{made_short}
 use Rattle.table_maker.specs.Laws.{AreShort, all_on_first, bytes_of}
@@ -31,12 +32,12 @@ use Rattle.table_maker.specs.Made.{CanBeMade, made_tables}
 use Rattle.table_maker.specs.declared.made.MadeTables.{MadeTables}
 use Rattle.fleet_cli.proofs.FrontFacts.{held_in}
 use Rattle.fleet_cli.proofs.TextsStand.{stands_last, with_more}
-use Rattle.fleet_cli.specs.Answer.{Answers, GivesSolution, Makes}
-use Rattle.fleet_cli.specs.Contents.{bytes_in, table_bytes}
+use Rattle.fleet_cli.specs.Answer.{Answers, Makes}
+use Rattle.fleet_cli.specs.Contents.{FileBytes, bytes_in, five_alone, five_bytes, table_bytes}
 use Rattle.fleet_cli.specs.Gathered.{AllStand, IsHeld, limit_of}
 use Rattle.fleet_cli.specs.MadeSolved.{MadeIsSolved}
 use Rattle.fleet_cli.specs.Making.{made_files}
-use Rattle.fleet_cli.specs.Reading.{IsReached, IsRead, table_files}
+use Rattle.fleet_cli.specs.Reading.{IsReached, IsRead, five_tables}
 use Rattle.fleet_cli.specs.Run.{IsFlyable}
 use Rattle.fleet_cli.specs.Skeletons.{TablesRead}
 use Rattle.fleet_cli.specs.Solution.{solved_files, solved_status}
@@ -66,39 +67,39 @@ module _ (held : Files) (dir : List ℕ) (made : MadeTables) where
   }
 
   -- and still stand after what solving writes
-  pub still_stand : (t : Tables) (s : Solved) (rotations : List FleetRotation) (visits : ℕ) → TablesStand (with_texts held dir (made_files made ++ solved_files t s rotations visits)) dir made
+  pub still_stand : (t shown : Tables) (s : Solved) (rotations : List FleetRotation) (visits : ℕ) → TablesStand (with_texts held dir (made_files made ++ solved_files t shown s rotations visits)) dir made
   unfolding made_files solved_files
-  still_stand t (solved.Planned plan cost bound tree) rotations visits = record {
-    stations = stands_last held dir (made_files made ++ solved_files t (solved.Planned plan cost bound tree) rotations visits) file.Stations;
-    fleets = stands_last held dir (made_files made ++ solved_files t (solved.Planned plan cost bound tree) rotations visits) file.Fleets;
-    legs = stands_last held dir (made_files made ++ solved_files t (solved.Planned plan cost bound tree) rotations visits) file.Legs;
-    costs = stands_last held dir (made_files made ++ solved_files t (solved.Planned plan cost bound tree) rotations visits) file.Costs;
-    throughs = stands_last held dir (made_files made ++ solved_files t (solved.Planned plan cost bound tree) rotations visits) file.Throughs;
+  still_stand t shown (solved.Planned plan cost bound tree) rotations visits = record {
+    stations = stands_last held dir (made_files made ++ solved_files t shown (solved.Planned plan cost bound tree) rotations visits) file.Stations;
+    fleets = stands_last held dir (made_files made ++ solved_files t shown (solved.Planned plan cost bound tree) rotations visits) file.Fleets;
+    legs = stands_last held dir (made_files made ++ solved_files t shown (solved.Planned plan cost bound tree) rotations visits) file.Legs;
+    costs = stands_last held dir (made_files made ++ solved_files t shown (solved.Planned plan cost bound tree) rotations visits) file.Costs;
+    throughs = stands_last held dir (made_files made ++ solved_files t shown (solved.Planned plan cost bound tree) rotations visits) file.Throughs;
   }
-  still_stand t (solved.Infeasible tree) rotations visits = record {
-    stations = stands_last held dir (made_files made ++ solved_files t (solved.Infeasible tree) rotations visits) file.Stations;
-    fleets = stands_last held dir (made_files made ++ solved_files t (solved.Infeasible tree) rotations visits) file.Fleets;
-    legs = stands_last held dir (made_files made ++ solved_files t (solved.Infeasible tree) rotations visits) file.Legs;
-    costs = stands_last held dir (made_files made ++ solved_files t (solved.Infeasible tree) rotations visits) file.Costs;
-    throughs = stands_last held dir (made_files made ++ solved_files t (solved.Infeasible tree) rotations visits) file.Throughs;
+  still_stand t shown (solved.Infeasible tree) rotations visits = record {
+    stations = stands_last held dir (made_files made ++ solved_files t shown (solved.Infeasible tree) rotations visits) file.Stations;
+    fleets = stands_last held dir (made_files made ++ solved_files t shown (solved.Infeasible tree) rotations visits) file.Fleets;
+    legs = stands_last held dir (made_files made ++ solved_files t shown (solved.Infeasible tree) rotations visits) file.Legs;
+    costs = stands_last held dir (made_files made ++ solved_files t shown (solved.Infeasible tree) rotations visits) file.Costs;
+    throughs = stands_last held dir (made_files made ++ solved_files t shown (solved.Infeasible tree) rotations visits) file.Throughs;
   }
-  still_stand t (solved.Unsettled bound tree) rotations visits = record {
-    stations = stands_last held dir (made_files made ++ solved_files t (solved.Unsettled bound tree) rotations visits) file.Stations;
-    fleets = stands_last held dir (made_files made ++ solved_files t (solved.Unsettled bound tree) rotations visits) file.Fleets;
-    legs = stands_last held dir (made_files made ++ solved_files t (solved.Unsettled bound tree) rotations visits) file.Legs;
-    costs = stands_last held dir (made_files made ++ solved_files t (solved.Unsettled bound tree) rotations visits) file.Costs;
-    throughs = stands_last held dir (made_files made ++ solved_files t (solved.Unsettled bound tree) rotations visits) file.Throughs;
+  still_stand t shown (solved.Unsettled bound tree) rotations visits = record {
+    stations = stands_last held dir (made_files made ++ solved_files t shown (solved.Unsettled bound tree) rotations visits) file.Stations;
+    fleets = stands_last held dir (made_files made ++ solved_files t shown (solved.Unsettled bound tree) rotations visits) file.Fleets;
+    legs = stands_last held dir (made_files made ++ solved_files t shown (solved.Unsettled bound tree) rotations visits) file.Legs;
+    costs = stands_last held dir (made_files made ++ solved_files t shown (solved.Unsettled bound tree) rotations visits) file.Costs;
+    throughs = stands_last held dir (made_files made ++ solved_files t shown (solved.Unsettled bound tree) rotations visits) file.Throughs;
   }
 
 module _ (stands : Files) (dir : List ℕ) (made : MadeTables) (there : TablesStand stands dir made) where
-  pub tables_are : table_bytes (bytes_in stands dir) ≡ bytes_of made
+  pub tables_are : five_bytes (bytes_in stands dir) ≡ bytes_of made
   tables_are = rw (there.stations, there.fleets, there.legs, there.costs, there.throughs) refl
 
-  pub all_stand : AreShort made → AllStand stands dir table_files
+  pub all_stand : AreShort made → AllStand stands dir five_tables
   unfolding limit_of
   all_stand short = record { each = at }
     where
-      at : (k : ℕ) (d : DeskFile) → k < 5 → IsHeld stands dir (get_or table_files k d) (bytes_in stands dir (get_or table_files k d))
+      at : (k : ℕ) (d : DeskFile) → k < 5 → IsHeld stands dir (get_or five_tables k d) (bytes_in stands dir (get_or five_tables k d))
       at zero d below = held_in stands dir file.Stations made.stations (record { stands = there.stations; within = short.stations_short })
       at (suc zero) d below = held_in stands dir file.Fleets made.fleets (record { stands = there.fleets; within = short.fleets_short })
       at (suc (suc zero)) d below = held_in stands dir file.Legs made.legs (record { stands = there.legs; within = short.legs_short })
@@ -117,6 +118,23 @@ pub none_read : (dir : List ℕ) (number legs : ℕ) (f : DeskFile) → IsRead (
 none_read dir number legs f (inl among) = let within = among.within in omega arith
 none_read dir number legs f (inr follows) = follows.1
 
+-- where no further file is asked for, the five alone read as tables
+pub read_alone : (five : TableBytes) (t : Tables) → Reads five DEFAULT_READING.settings t → FilesRead (five_alone five) DEFAULT_READING t
+read_alone five t reads = record { moved = t; before = record { first = t; five = reads; windows = refl }; optional = refl }
+
+-- .. and whatever stands in the other files
+alone : {finish : Tables → Answer → Type 0} {answer : Answer} (bytes : FileBytes) {five : TableBytes} → five_bytes bytes ≡ five
+    → TablesRead DEFAULT_READING (five_alone five) finish answer → TablesRead DEFAULT_READING (table_bytes bytes) finish answer
+alone bytes same x = record {
+  tables = x.tables;
+  reads = record {
+    moved = x.reads.moved;
+    before = record { first = x.reads.before.first; five = subst (λ b. Reads b DEFAULT_READING.settings x.reads.before.first) (sym same) x.reads.before.five; windows = x.reads.before.windows };
+    optional = x.reads.optional;
+  };
+  finishes = x.finishes;
+}
+
 module _ (held : Files) (dir : List ℕ) (number legs : ℕ) (answer : Answer) (x : Makes number legs answer) where
   abbrev pub with_made : Files
   with_made = with_texts held dir (made_files (made_tables number legs))
@@ -127,7 +145,7 @@ module _ (held : Files) (dir : List ℕ) (number legs : ℕ) (answer : Answer) (
       let there = made_stand held dir (made_tables number legs) in
       inr (record {
         within = record { first = all_stand with_made dir (made_tables number legs) there (made_short number legs x.can); further = λ f follows. absurd follows };
-        answers = inr (subst (λ b. TablesRead DEFAULT_READING b (GivesSolution DEFAULT_OPTIONS) x.solving) (sym (tables_are with_made dir (made_tables number legs) there)) x.solves);
+        answers = inr (alone (bytes_in with_made dir) (tables_are with_made dir (made_tables number legs) there) x.solves);
       })
 
   -- and its files are written over them
@@ -182,7 +200,9 @@ never_bad number legs made loaded error bad can are told failed same =
 pub flyable : (number legs : ℕ) (answer : Answer) → Makes number legs answer → IsFlyable answer.status.code
 flyable number legs answer x =
     let made = made_read number legs DEFAULT_READING.settings x.can defaults_fit refl in
-    let same = tables.one_reading (bytes_of (made_tables number legs)) DEFAULT_READING.settings made.tables x.solves.tables made.reads x.solves.reads in
+    let first = x.solves.reads.before.first in
+    let one : made.tables ≡ first = tables.one_reading (bytes_of (made_tables number legs)) DEFAULT_READING.settings made.tables first made.reads x.solves.reads.before.five in
+    let same : made.tables ≡ x.solves.tables = one ∙ sym x.solves.reads.before.windows ∙ sym x.solves.reads.optional in
     let legal = subst (λ t. IsLegal t (all_on_first legs)) same made.legal in
     rw (ap (λ (a : Answer). a.status.code) x.is ∙ ap (λ (a : Answer). a.status.code) x.solves.finishes.is)
     (by_plan x.solves.tables (all_on_first legs) x.solves.finishes.solution legal x.solves.finishes.solves.right)

@@ -116,13 +116,13 @@ module _ (answer other : Answer) where
   one_of (Some (tails dir reading limits dates)) bytes x y fixed =
       one_tables answer other reading (table_bytes bytes) (TailsOn limits dates (bytes file.Plan))
       (λ t. one_plan answer other t (bytes file.Plan) (OnLegal t (TellsTails t limits dates)) (OnLegal t (TellsTails t limits dates))
-      (λ p. one_legal answer other t (TellsTails t limits dates) (TellsTails t limits dates) p (λ a b. absurd (fixed (ap (λ (a : Answer). a.status.code) b.is))))) x y
+      (λ p. one_legal answer other t (TellsTails t limits dates) (TellsTails t limits dates) p (λ a b. absurd (fixed (ap (λ (a : Answer). a.status.code) b.finishes.is))))) x y
   one_of (Some (due dir reading limits dates)) bytes x y fixed =
       one_tables answer other reading (table_bytes bytes) (DueOn limits dates (bytes file.Tails) (bytes file.Plan))
       (λ t. one_tails answer other t (bytes file.Tails) (DueWith limits dates (bytes file.Plan) t)
       (λ s. one_plan answer other t (bytes file.Plan) (OnLegal t (TellsDue t limits dates s)) (OnLegal t (TellsDue t limits dates s))
       (λ p. one_legal answer other t (TellsDue t limits dates s) (TellsDue t limits dates s) p
-      (λ a b. absurd (never_told other (due_status b.placings) (sym (ap (λ (a : Answer). a.status.code) b.is)) (due_told b.placings) fixed))))) x y
+      (λ a b. absurd (never_told other (due_status b.finishes.placings) (sym (ap (λ (a : Answer). a.status.code) b.finishes.is)) (due_told b.finishes.placings) fixed))))) x y
   one_of (Some (make dir number legs)) bytes x y fixed = absurd fixed
   one_of (Some (whatif dir reading name count)) bytes x y fixed =
       one_tables answer other reading (table_bytes bytes) (AsksOn name count (bytes file.Proof) (bytes file.Plan))
@@ -177,7 +177,7 @@ module _ (held : Files) (dir : List ℕ) (reading : TableOptions) (answer : Answ
       let read = there_tables answer reading (table_bytes (bytes_in held dir)) (TailsOn limits dates (bytes_in held dir file.Plan)) x.tables x.reads answers in
       let judged = there_plan answer x.tables (bytes_in held dir file.Plan) (OnLegal x.tables (TellsTails x.tables limits dates)) x.plan x.plan_reads read in
       let told = there_legal answer x.tables (TellsTails x.tables limits dates) x.plan x.legal judged in
-      ap (λ (a : Answer). a.status.code) told.is
+      ap (λ (a : Answer). a.status.code) told.finishes.is
 
   -- so is what named tails fly, where their table reads
   due_there : (limits : RotationLimits) (dates : AskedDates) (x : DueThere held dir reading)
@@ -187,7 +187,7 @@ module _ (held : Files) (dir : List ℕ) (reading : TableOptions) (answer : Answ
       let listed = there_tails answer x.tables (bytes_in held dir file.Tails) (DueWith limits dates (bytes_in held dir file.Plan) x.tables) x.tails x.tails_read read in
       let judged = there_plan answer x.tables (bytes_in held dir file.Plan) (OnLegal x.tables (TellsDue x.tables limits dates x.tails)) x.plan x.plan_reads listed in
       let told = there_legal answer x.tables (TellsDue x.tables limits dates x.tails) x.plan x.legal judged in
-      rw (ap (λ (a : Answer). a.status.code) told.is) (due_told told.placings)
+      rw (ap (λ (a : Answer). a.status.code) told.finishes.is) (due_told told.finishes.placings)
 
   -- tables that read are solved
   solved_there : (options : SolveOptions) (x : TablesThere held dir reading) → Solves reading options (table_bytes (bytes_in held dir)) answer → IsSolution answer.status.code

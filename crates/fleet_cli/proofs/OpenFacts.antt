@@ -9,8 +9,8 @@ use Rattle.command_words.specs.Words.{check, whatif}
 use Rattle.fleet_model.specs.declared.options.TableOptions.{TableOptions}
 use Rattle.fleet_model.specs.declared.tables.Tables.{Tables}
 use Rattle.plan_desk.specs.declared.file.DeskFile.TheVariants as file
-use Rattle.sched_read.proofs.ReadLaws as tables
-use Rattle.sched_read.specs.Reading.{Reads, TableBytes}
+use Rattle.table_files.proofs.ReadLaws as tables
+use Rattle.table_files.specs.Files.{AllBytes, FilesRead}
 use Rattle.fleet_cli.proofs.Skeletons.{never_read, says_one}
 use Rattle.fleet_cli.specs.Answer.{TellsOn, TellsProof}
 use Rattle.fleet_cli.specs.Refusals.{RefusesProof, RefusesTables, fleet_named, says}
@@ -27,14 +27,14 @@ use Rattle.fleet_cli.specs.declared.opened.Question.TheVariants as question
 use Rattle.fleet_cli.specs.declared.opened.Opened.TheVariants as opened
 
 -- where the proof says that no plan comes with it, none is wanted
-module _ (reading : TableOptions) (bytes : TableBytes) (text : List ℕ) (t : Tables) (reads : Reads bytes reading.settings t) where
+module _ (reading : TableOptions) (bytes : AllBytes) (text : List ℕ) (t : Tables) (reads : FilesRead bytes reading t) where
   pub no_plan_of_fault : (answer : Answer) → RefusesProof t text answer → ¬ (WantsPlan reading bytes text)
   no_plan_of_fault answer refused wants =
-      never_read t text answer wants.proof refused (subst (λ u. ReadsAs u text wants.proof) (tables.one_reading bytes reading.settings wants.tables t wants.reads reads) wants.proof_reads)
+      never_read t text answer wants.proof refused (subst (λ u. ReadsAs u text wants.proof) (tables.one_reading bytes reading wants.tables t wants.reads reads) wants.proof_reads)
 
   pub no_plan_alone : (proof : Proof) → ReadsAs t text proof → proof.planned ≡ false → ¬ (WantsPlan reading bytes text)
   no_plan_alone proof text_reads alone wants =
-      let same = says_one t text wants.proof proof (subst (λ u. ReadsAs u text wants.proof) (tables.one_reading bytes reading.settings wants.tables t wants.reads reads) wants.proof_reads) text_reads in
+      let same = says_one t text wants.proof proof (subst (λ u. ReadsAs u text wants.proof) (tables.one_reading bytes reading wants.tables t wants.reads reads) wants.proof_reads) text_reads in
       let never : ◌≡◌ {A = Bool} true false = sym wants.planned ∙ same.0 ∙ alone in
       let bad : ⊥ = cc in bad
 
@@ -53,12 +53,12 @@ module _ (t : Tables) (asks : Question) (text plan : List ℕ) (answer : Answer)
   })
 
 -- no plan is wanted where the proof is told without one
-never_wanted : (reading : TableOptions) (bytes : TableBytes) (text : List ℕ) (t : Tables) (asks : Question) (answer : Answer) → Reads bytes reading.settings t
+never_wanted : (reading : TableOptions) (bytes : AllBytes) (text : List ℕ) (t : Tables) (asks : Question) (answer : Answer) → FilesRead bytes reading t
     → RefusesProof t text answer ⊎ TellsAlone t asks text answer → ¬ (WantsPlan reading bytes text)
 never_wanted reading bytes text t asks answer reads (inl refused) = no_plan_of_fault reading bytes text t reads answer refused
 never_wanted reading bytes text t asks answer reads (inr x) = no_plan_alone reading bytes text t reads x.proof x.reads x.alone
 
-wants_plan : (reading : TableOptions) (bytes : TableBytes) (text : List ℕ) (t : Tables) (asks : Question) (checking : Checking) → Reads bytes reading.settings t
+wants_plan : (reading : TableOptions) (bytes : AllBytes) (text : List ℕ) (t : Tables) (asks : Question) (checking : Checking) → FilesRead bytes reading t
     → OpensProof t asks text checking → WantsPlan reading bytes text
 wants_plan reading bytes text t asks checking reads by = record { tables = t; proof = checking.proof; reads = reads; proof_reads = by.reads; planned = by.planned }
 
@@ -67,11 +67,11 @@ wants_plan reading bytes text t asks checking reads by = record { tables = t; pr
 module _ (dir : List ℕ) (reading : TableOptions) (bytes : FileBytes) where
   pub refused_settles : (answer : Answer) → RefusesTables (table_bytes bytes) reading answer → Settles (Some (check dir reading)) bytes answer
   refused_settles answer x = record {
-    no_more = λ f follows. tables.reads_no_fault (table_bytes bytes) reading.settings follows.1.tables x.file x.row x.kind follows.1.reads x.bad;
+    no_more = λ f follows. tables.no_fault (table_bytes bytes) reading follows.1.tables x.file x.row x.kind follows.1.reads x.bad;
     answers = inl x;
   }
 
-  pub is_opened : (t : Tables) → Reads (table_bytes bytes) reading.settings t → (o : Opened) → IsOpenedBy t question.Holds (bytes file.Proof) o → IsOpened (Some (check dir reading)) bytes o
+  pub is_opened : (t : Tables) → FilesRead (table_bytes bytes) reading t → (o : Opened) → IsOpenedBy t question.Holds (bytes file.Proof) o → IsOpened (Some (check dir reading)) bytes o
   is_opened t reads (opened.Answered answer) by = record {
     no_more = λ f follows. never_wanted reading (table_bytes bytes) (bytes file.Proof) t question.Holds answer reads by follows.1;
     answers = inr (record { tables = t; reads = reads; finishes = told_alone t question.Holds (bytes file.Proof) (bytes file.Plan) answer by });
@@ -99,15 +99,15 @@ module _ (t : Tables) (name : List ℕ) (count : ℕ) (text : List ℕ) where
 module _ (dir : List ℕ) (reading : TableOptions) (name : List ℕ) (count : ℕ) (bytes : FileBytes) where
   pub refused_unasked : (answer : Answer) → RefusesTables (table_bytes bytes) reading answer → Settles (Some (whatif dir reading name count)) bytes answer
   refused_unasked answer x = record {
-    no_more = λ f follows. tables.reads_no_fault (table_bytes bytes) reading.settings follows.1.wants.tables x.file x.row x.kind follows.1.wants.reads x.bad;
+    no_more = λ f follows. tables.no_fault (table_bytes bytes) reading follows.1.wants.tables x.file x.row x.kind follows.1.wants.reads x.bad;
     answers = inl x;
   }
 
-  module _ (t : Tables) (reads : Reads (table_bytes bytes) reading.settings t) where
+  module _ (t : Tables) (reads : FilesRead (table_bytes bytes) reading t) where
     -- the tables are those that want a plan
-    unknown_there : (u : Tables) → Reads (table_bytes bytes) reading.settings u → fleet_named t name ≡ None → ¬ (IsSome (fleet_named u name))
+    unknown_there : (u : Tables) → FilesRead (table_bytes bytes) reading u → fleet_named t name ≡ None → ¬ (IsSome (fleet_named u name))
     unknown_there u others unknown known =
-        false≢true (subst IsSome unknown (subst (λ v. IsSome (fleet_named v name)) (tables.one_reading (table_bytes bytes) reading.settings u t others reads) known))
+        false≢true (subst IsSome unknown (subst (λ v. IsSome (fleet_named v name)) (tables.one_reading (table_bytes bytes) reading u t others reads) known))
 
     of_fleet : (fleet : ℕ) → fleet_named t name ≡ Some fleet → (o : Opened) → IsOpenedBy t (question.OtherSize fleet count) (bytes file.Proof) o → IsOpened (Some (whatif dir reading name count)) bytes o
     unfolding wants_plan

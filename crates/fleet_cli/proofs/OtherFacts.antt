@@ -20,7 +20,7 @@ use Rattle.fleet_model.specs.declared.tables.Tables.{Tables}
 use Rattle.plan_desk.specs.Desk.{Files}
 use Rattle.plan_desk.specs.Sink.{output_with}
 use Rattle.plan_desk.specs.declared.file.DeskFile.TheVariants as file
-use Rattle.sched_read.specs.Reading.{Reads}
+use Rattle.table_files.specs.Files.{FilesRead}
 use Rattle.fleet_cli.proofs.BoundFacts.{other}
 use Rattle.fleet_cli.proofs.Skeletons.{either_fleet, either_legal, either_plan, either_proof, either_tables}
 use Rattle.fleet_cli.specs.Answer.{Answers, AsksChecked, AsksOn, AsksTree, SaysOfOther, TellsOn, TellsProof, TellsRead, TellsWith, what_if_status}
@@ -86,7 +86,7 @@ module _ (answer : Answer) (done : answer.status.code ≡ DONE) where
         (λ proof reads. proof_told proof.planned proof.tree plan)
 
   module _ (held : Files) (dir : List ℕ) (reading : TableOptions) (name : List ℕ) (count : ℕ) (before after : Option (List ℕ)) (put : after ≡ output_with before answer.text) where
-    on_tables : AllStand held dir proof_files → (t : Tables) → Reads (table_bytes (bytes_in held dir)) reading.settings t
+    on_tables : AllStand held dir (proof_files reading) → (t : Tables) → FilesRead (table_bytes (bytes_in held dir)) reading t
         → AsksOn name count (bytes_in held dir file.Proof) (bytes_in held dir file.Plan) t answer → TellsOther held dir reading name count before after
     on_tables there t reads =
         either_fleet answer (TellsOther held dir reading name count before after) t name (λ fleet. TellsOn (question.OtherSize fleet count) (bytes_in held dir file.Proof) (bytes_in held dir file.Plan) t)

@@ -20,7 +20,7 @@ use Rattle.command_words.specs.declared.command.SolveOptions.{SolveOptions}
 use Rattle.command_words.specs.declared.command.TheConstants.{DEFAULT_OPTIONS}
 use Rattle.fleet_model.specs.Legal.{total_cost}
 use Rattle.fleet_model.specs.declared.options.TableOptions.{TableOptions}
-use Rattle.sched_read.specs.Reading.{TableBytes}
+use Rattle.table_files.specs.Files.{AllBytes}
 use Rattle.table_maker.specs.Made.{made_tables}
 use Rattle.table_maker.specs.declared.made.MadeTables.{MadeTables}
 use Rattle.fleet_model.specs.declared.tables.Tables.{Tables}
@@ -40,7 +40,7 @@ use Rattle.fleet_cli.proofs.Skeletons.{either_fleet, either_legal, either_plan, 
 use Rattle.fleet_cli.specs.Answer.{Answers, AnswersOf, AnswersSome, AsksChecked, AsksOn, GivesSolution, JudgesOn, JudgesPlan, Makes, TailsOn, TellsOn, TellsProof, TellsRead, TellsTails, TellsTree, TellsWith, checked_status, what_if_status}
 use Rattle.fleet_cli.specs.Contents.{FileBytes, table_bytes}
 use Rattle.fleet_cli.specs.Making.{after_files, made_files}
-use Rattle.fleet_cli.specs.Reading.{folder_of, solution_files, tables_and, written_files}
+use Rattle.fleet_cli.specs.Reading.{five_tables, folder_of, solution_files, written_files}
 use Rattle.fleet_cli.specs.Refusals.{says, verdict_status}
 use Rattle.fleet_cli.specs.Run.{IsEnd, IsRefusal, IsSolution, KeepsAllBut, KeepsOthers}
 use Rattle.fleet_cli.specs.Skeletons.{OnLegal, OnPlan, OnProof, OnTables, OnTails, TablesRead}
@@ -75,28 +75,28 @@ module _ (dir name : List ℕ) where
       ∙ texts_keep held (take part.written texts) (All-take IsOther part.written texts others))
 
 -- the files of a solution are the plan, the proof and the rotations
-module _ (t : Tables) (rotations : List FleetRotation) (visits : ℕ) (dir name : List ℕ) (plan_differs : name ≢ path_of dir desk_file.Plan) (proof_differs : name ≢ path_of dir desk_file.Proof)
+module _ (t shown : Tables) (rotations : List FleetRotation) (visits : ℕ) (dir name : List ℕ) (plan_differs : name ≢ path_of dir desk_file.Plan) (proof_differs : name ≢ path_of dir desk_file.Proof)
     (rotation_differs : name ≢ path_of dir desk_file.Rotation) where
-  pub solved_others : (s : Solved) → All (IsOther dir name) (solved_files t s rotations visits)
+  pub solved_others : (s : Solved) → All (IsOther dir name) (solved_files t shown s rotations visits)
   unfolding solved_files
   solved_others (solved.Planned plan cost bound tree) =
-      All-from_recursion (IsOther dir name) (solved_files t (solved.Planned plan cost bound tree) rotations visits) (plan_differs, (proof_differs, (rotation_differs, tt)))
-  solved_others (solved.Infeasible tree) = All-from_recursion (IsOther dir name) (solved_files t (solved.Infeasible tree) rotations visits) (proof_differs, (rotation_differs, tt))
-  solved_others (solved.Unsettled bound tree) = All-from_recursion (IsOther dir name) (solved_files t (solved.Unsettled bound tree) rotations visits) (proof_differs, (rotation_differs, tt))
+      All-from_recursion (IsOther dir name) (solved_files t shown (solved.Planned plan cost bound tree) rotations visits) (plan_differs, (proof_differs, (rotation_differs, tt)))
+  solved_others (solved.Infeasible tree) = All-from_recursion (IsOther dir name) (solved_files t shown (solved.Infeasible tree) rotations visits) (proof_differs, (rotation_differs, tt))
+  solved_others (solved.Unsettled bound tree) = All-from_recursion (IsOther dir name) (solved_files t shown (solved.Unsettled bound tree) rotations visits) (proof_differs, (rotation_differs, tt))
 
 -- the files of made tables are the five tables
-made_others : (made : MadeTables) (dir name : List ℕ) → All (λ other. name ≢ path_of dir other) (tables_and solution_files) → All (IsOther dir name) (made_files made)
+made_others : (made : MadeTables) (dir name : List ℕ) → All (λ other. name ≢ path_of dir other) (five_tables ++ solution_files) → All (IsOther dir name) (made_files made)
 unfolding made_files
 made_others made dir name differ =
     All-from_recursion (IsOther dir name) (made_files made)
     (differ 0 desk_file.Stations (omega arith), (differ 1 desk_file.Stations (omega arith), (differ 2 desk_file.Stations (omega arith), (differ 3 desk_file.Stations (omega arith), (differ 4 desk_file.Stations (omega arith), tt)))))
 
 -- how many they are
-solved_few : (t : Tables) (rotations : List FleetRotation) (visits : ℕ) (s : Solved) → length (solved_files t s rotations visits) ≤ 3
+solved_few : (t shown : Tables) (rotations : List FleetRotation) (visits : ℕ) (s : Solved) → length (solved_files t shown s rotations visits) ≤ 3
 unfolding solved_files
-solved_few t rotations visits (solved.Planned plan cost bound tree) = omega arith
-solved_few t rotations visits (solved.Infeasible tree) = omega arith
-solved_few t rotations visits (solved.Unsettled bound tree) = omega arith
+solved_few t shown rotations visits (solved.Planned plan cost bound tree) = omega arith
+solved_few t shown rotations visits (solved.Infeasible tree) = omega arith
+solved_few t shown rotations visits (solved.Unsettled bound tree) = omega arith
 
 made_few : (made : MadeTables) (more : List FileText) → length more ≤ 3 → length (made_files made ++ more) ≤ 8
 unfolding made_files
@@ -122,13 +122,14 @@ record IsSolved (asked : Option Asked) (answer : Answer) : Type 0 where
   tables : Tables
   options : SolveOptions
   solution : Solved
+  shown : Tables
   rotations : List FleetRotation
-  is : answer ≡ after_files first (solved_answer tables options solution rotations)
+  is : answer ≡ after_files first (solved_answer tables shown options solution rotations)
   one : DeskFile
   names : List DeskFile
   writes : written_files asked ≡ one ∷ names
-  few : length (first ++ solved_files tables solution rotations options.rotations.visits) ≤ length (one ∷ names)
-  others : (dir name : List ℕ) → All (λ other. name ≢ path_of dir other) (one ∷ names) → All (IsOther dir name) (first ++ solved_files tables solution rotations options.rotations.visits)
+  few : length (first ++ solved_files tables shown solution rotations options.rotations.visits) ≤ length (one ∷ names)
+  others : (dir name : List ℕ) → All (λ other. name ≢ path_of dir other) (one ∷ names) → All (IsOther dir name) (first ++ solved_files tables shown solution rotations options.rotations.visits)
 
 -- the answer of a solution of what was made
 made_kind : (dir : List ℕ) (number legs : ℕ) (answer : Answer) → Makes number legs answer → IsSolved (Some (make dir number legs)) answer
@@ -137,31 +138,33 @@ made_kind dir number legs answer x = let given = x.solves.finishes in record {
   tables = x.solves.tables;
   options = DEFAULT_OPTIONS;
   solution = given.solution;
+  shown = given.shown;
   rotations = given.rotations;
   is = x.is ∙ ap (after_files (made_files (made_tables number legs))) given.is;
   one = desk_file.Stations;
   names = desk_file.Fleets ∷ desk_file.Legs ∷ desk_file.Costs ∷ desk_file.Throughs ∷ solution_files;
   writes = refl;
-  few = made_few (made_tables number legs) (solved_files x.solves.tables given.solution given.rotations DEFAULT_OPTIONS.rotations.visits) (solved_few x.solves.tables given.rotations DEFAULT_OPTIONS.rotations.visits given.solution);
+  few = made_few (made_tables number legs) (solved_files x.solves.tables given.shown given.solution given.rotations DEFAULT_OPTIONS.rotations.visits) (solved_few x.solves.tables given.shown given.rotations DEFAULT_OPTIONS.rotations.visits given.solution);
   others = λ folder name differ. All-append (IsOther folder name) _ _ (made_others (made_tables number legs) folder name differ)
-      (solved_others x.solves.tables given.rotations DEFAULT_OPTIONS.rotations.visits folder name (differ 5 desk_file.Plan (omega arith)) (differ 6 desk_file.Proof (omega arith)) (differ 7 desk_file.Rotation (omega arith)) given.solution);
+      (solved_others x.solves.tables given.shown given.rotations DEFAULT_OPTIONS.rotations.visits folder name (differ 5 desk_file.Plan (omega arith)) (differ 6 desk_file.Proof (omega arith)) (differ 7 desk_file.Rotation (omega arith)) given.solution);
 }
 
 -- the answer of a solution of what was read
-solved_kind : (dir : List ℕ) (reading : TableOptions) (options : SolveOptions) (bytes : TableBytes) (answer : Answer) → TablesRead reading bytes (GivesSolution options) answer → IsSolved (Some (solve dir reading options)) answer
+solved_kind : (dir : List ℕ) (reading : TableOptions) (options : SolveOptions) (bytes : AllBytes) (answer : Answer) → TablesRead reading bytes (GivesSolution options) answer → IsSolved (Some (solve dir reading options)) answer
 solved_kind dir reading options bytes answer x = let given = x.finishes in record {
   first = [];
   tables = x.tables;
   options = options;
   solution = given.solution;
+  shown = given.shown;
   rotations = given.rotations;
   is = given.is;
   one = desk_file.Plan;
   names = desk_file.Proof ∷ desk_file.Rotation ∷ [];
   writes = refl;
-  few = solved_few x.tables given.rotations options.rotations.visits given.solution;
+  few = solved_few x.tables given.shown given.rotations options.rotations.visits given.solution;
   others = λ folder name differ.
-      solved_others x.tables given.rotations options.rotations.visits folder name (differ 0 desk_file.Plan (omega arith)) (differ 1 desk_file.Proof (omega arith)) (differ 2 desk_file.Rotation (omega arith)) given.solution;
+      solved_others x.tables given.shown given.rotations options.rotations.visits folder name (differ 0 desk_file.Plan (omega arith)) (differ 1 desk_file.Proof (omega arith)) (differ 2 desk_file.Rotation (omega arith)) given.solution;
 }
 
 done_ends : (asked : Option Asked) → Ends asked DONE
@@ -213,7 +216,7 @@ solution_ends code (inr (inr (inr is))) = (λ e. let bad : ◌≡◌ {A = ℕ} 5
 
 module _ (asked : Option Asked) (answer : Answer) where
   -- what is said of all that is answered on what was read is said of the refusals too
-  said_tables : (reading : TableOptions) (bytes : TableBytes) (finish : Tables → Answer → Type 0) → ((t : Tables) → finish t answer → IsSaid asked answer) → OnTables reading bytes finish answer → IsSaid asked answer
+  said_tables : (reading : TableOptions) (bytes : AllBytes) (finish : Tables → Answer → Type 0) → ((t : Tables) → finish t answer → IsSaid asked answer) → OnTables reading bytes finish answer → IsSaid asked answer
   said_tables reading bytes finish more = either_tables answer (IsSaid asked answer) reading bytes finish (λ x. bad asked answer _ x.is) (λ t reads. more t)
 
   module _ (t : Tables) where
@@ -237,10 +240,10 @@ module _ (asked : Option Asked) (answer : Answer) where
     said_tails bytes finish more = either_tails answer (IsSaid asked answer) t bytes finish (λ x. bad asked answer _ x.is) more
 
     tails_said : (limits : RotationLimits) (dates : AskedDates) (plan : List ℕ) → TellsTails t limits dates plan answer → IsSaid asked answer
-    tails_said limits dates plan x = record { code = DONE; text = _; is = x.is; ends = done_ends asked }
+    tails_said limits dates plan x = record { code = DONE; text = _; is = x.finishes.is; ends = done_ends asked }
 
     due_said : (limits : RotationLimits) (dates : AskedDates) (tails : List TailState) (plan : List ℕ) → TellsDue t limits dates tails plan answer → IsSaid asked answer
-    due_said limits dates named plan x = record { code = due_status x.placings; text = _; is = x.is; ends = due_ends asked (are_unplaced x.placings) }
+    due_said limits dates named plan x = record { code = due_status x.finishes.placings; text = _; is = x.finishes.is; ends = due_ends asked (are_unplaced x.finishes.placings) }
 
     asked_said : (fleet count : ℕ) (tree : Tree) (v : Checked) → AsksChecked t fleet count tree v answer → IsSaid asked answer
     asked_said fleet count tree (checked.Holds bound) x = record { code = what_if_status x.what; text = _; is = x.is; ends = what_if_ends asked x.what }

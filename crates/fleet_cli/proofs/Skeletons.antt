@@ -19,8 +19,8 @@ use Rattle.plan_judge.proofs.OneVerdict.{one_verdict}
 use Rattle.plan_judge.specs.declared.verdicts.Verdict.TheVariants as verdict
 use Rattle.plan_text.proofs.ReadOrNot.{reads_or_not}
 use Rattle.plan_text.specs.Reading.{PlanReads}
-use Rattle.sched_read.proofs.ReadLaws as tables
-use Rattle.sched_read.specs.Reading.{Reads, TableBytes}
+use Rattle.table_files.proofs.ReadLaws as tables
+use Rattle.table_files.specs.Files.{AllBytes, FilesRead}
 use Rattle.fleet_cli.specs.Refusals.{RefusesFleet, RefusesPlan, RefusesProof, RefusesTables, RefusesTails, RefusesVerdict, fleet_named, says, verdict_status}
 use Rattle.fleet_cli.specs.Skeletons.{OnFleet, OnLegal, OnPlan, OnProof, OnTables, OnTails}
 use Rattle.table_rows.proofs.OneReading.{table_bad_same, table_reads_no_fault, table_reads_same}
@@ -83,9 +83,9 @@ one_named t name one two x y = same_Some one two (sym x ∙ y)
 -- ---- one answer
 
 module _ (answer other : Answer) where
-  refuses_tables : (reading : TableOptions) (bytes : TableBytes) → RefusesTables bytes reading answer → RefusesTables bytes reading other → answer ≡ other
+  refuses_tables : (reading : TableOptions) (bytes : AllBytes) → RefusesTables bytes reading answer → RefusesTables bytes reading other → answer ≡ other
   refuses_tables reading bytes x y =
-      let same = tables.one_first_fault bytes reading.settings x.file y.file x.row y.row x.kind y.kind x.bad y.bad in
+      let same = tables.one_first_fault bytes reading x.file y.file x.row y.row x.kind y.kind x.bad y.bad in
       x.is ∙ rw (same.file_is, same.row_is, same.kind_is) refl ∙ sym y.is
 
   refuses_plan : (t : Tables) (bytes : List ℕ) → RefusesPlan t bytes answer → RefusesPlan t bytes other → answer ≡ other
@@ -108,13 +108,13 @@ module _ (answer other : Answer) where
       let same = table_bad_same tail_name_of (tail_read (map fleet_name_of t.fleets)) tail_header (records_of bytes) x.row y.row x.kind y.kind x.bad y.bad in
       x.is ∙ rw (same.0, same.1) refl ∙ sym y.is
 
-  pub one_tables : (reading : TableOptions) (bytes : TableBytes) (finish : Tables → Answer → Type 0) → ((t : Tables) → finish t answer → finish t other → answer ≡ other)
+  pub one_tables : (reading : TableOptions) (bytes : AllBytes) (finish : Tables → Answer → Type 0) → ((t : Tables) → finish t answer → finish t other → answer ≡ other)
       → OnTables reading bytes finish answer → OnTables reading bytes finish other → answer ≡ other
   one_tables reading bytes finish one (inl x) (inl y) = refuses_tables reading bytes x y
-  one_tables reading bytes finish one (inl x) (inr y) = absurd (tables.reads_no_fault bytes reading.settings y.tables x.file x.row x.kind y.reads x.bad)
-  one_tables reading bytes finish one (inr x) (inl y) = absurd (tables.reads_no_fault bytes reading.settings x.tables y.file y.row y.kind x.reads y.bad)
+  one_tables reading bytes finish one (inl x) (inr y) = absurd (tables.no_fault bytes reading y.tables x.file x.row x.kind y.reads x.bad)
+  one_tables reading bytes finish one (inr x) (inl y) = absurd (tables.no_fault bytes reading x.tables y.file y.row y.kind x.reads y.bad)
   one_tables reading bytes finish one (inr x) (inr y) =
-      one y.tables (subst (λ t. finish t answer) (tables.one_reading bytes reading.settings x.tables y.tables x.reads y.reads) x.finishes) y.finishes
+      one y.tables (subst (λ t. finish t answer) (tables.one_reading bytes reading x.tables y.tables x.reads y.reads) x.finishes) y.finishes
 
   module _ (t : Tables) where
     pub one_tails : (bytes : List ℕ) (finish : List TailState → Answer → Type 0) → ((tails : List TailState) → finish tails answer → finish tails other → answer ≡ other)
@@ -160,8 +160,8 @@ module _ (answer other : Answer) where
 -- ---- what follows of a refusal, and of all that is answered else, follows
 
 module _ (answer : Answer) (K : Type 0) where
-  pub either_tables : (reading : TableOptions) (bytes : TableBytes) (finish : Tables → Answer → Type 0) → (RefusesTables bytes reading answer → K)
-      → ((t : Tables) → Reads bytes reading.settings t → finish t answer → K) → OnTables reading bytes finish answer → K
+  pub either_tables : (reading : TableOptions) (bytes : AllBytes) (finish : Tables → Answer → Type 0) → (RefusesTables bytes reading answer → K)
+      → ((t : Tables) → FilesRead bytes reading t → finish t answer → K) → OnTables reading bytes finish answer → K
   either_tables reading bytes finish refused read (inl x) = refused x
   either_tables reading bytes finish refused read (inr x) = read x.tables x.reads x.finishes
 
@@ -193,9 +193,9 @@ module _ (answer : Answer) (K : Type 0) where
 -- ---- what reads and is legal isn't refused
 
 module _ (answer : Answer) where
-  pub there_tables : (reading : TableOptions) (bytes : TableBytes) (finish : Tables → Answer → Type 0) (t : Tables) → Reads bytes reading.settings t → OnTables reading bytes finish answer → finish t answer
-  there_tables reading bytes finish t reads (inl x) = absurd (tables.reads_no_fault bytes reading.settings t x.file x.row x.kind reads x.bad)
-  there_tables reading bytes finish t reads (inr x) = subst (λ u. finish u answer) (tables.one_reading bytes reading.settings x.tables t x.reads reads) x.finishes
+  pub there_tables : (reading : TableOptions) (bytes : AllBytes) (finish : Tables → Answer → Type 0) (t : Tables) → FilesRead bytes reading t → OnTables reading bytes finish answer → finish t answer
+  there_tables reading bytes finish t reads (inl x) = absurd (tables.no_fault bytes reading t x.file x.row x.kind reads x.bad)
+  there_tables reading bytes finish t reads (inr x) = subst (λ u. finish u answer) (tables.one_reading bytes reading x.tables t x.reads reads) x.finishes
 
   module _ (t : Tables) where
     pub there_tails : (bytes : List ℕ) (finish : List TailState → Answer → Type 0) (tails : List TailState) → TailsRead (map fleet_name_of t.fleets) (records_of bytes) tails → OnTails t bytes finish answer
@@ -225,7 +225,7 @@ module _ (answer : Answer) where
 -- ---- other answers on what was read
 
 module _ (answer : Answer) where
-  pub map_tables : (reading : TableOptions) (bytes : TableBytes) (finish other : Tables → Answer → Type 0) → ((t : Tables) → Reads bytes reading.settings t → finish t answer → other t answer)
+  pub map_tables : (reading : TableOptions) (bytes : AllBytes) (finish other : Tables → Answer → Type 0) → ((t : Tables) → FilesRead bytes reading t → finish t answer → other t answer)
       → OnTables reading bytes finish answer → OnTables reading bytes other answer
   map_tables reading bytes finish other more (inl x) = inl x
   map_tables reading bytes finish other more (inr x) = inr (record { tables = x.tables; reads = x.reads; finishes = more x.tables x.reads x.finishes })

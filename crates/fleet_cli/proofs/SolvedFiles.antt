@@ -1,7 +1,8 @@
 -- The files that solving leaves, as checking reads them.
-use Rattle.std.proofs.Common.{◌≡◌, ◌≢◌, ℕ, zero, suc, ◌<◌, ◌≤◌, List, [], ◌++◌, length, get_or, codes, Some, refl, sym, ◌∙◌, ap, subst, inl, inr, rules, arith}
-use Rattle.std.specs.Prelude.{unwrap_or}
+use Rattle.std.proofs.Common.{◌≡◌, ◌≢◌, ℕ, ◌≤◌, Bool, true, false, List, [], ◌∷◌, ◌++◌, length, get_or, All, codes, Some, refl, sym, ◌∙◌, ap, subst, inl, inr, rules, arith}
+use Rattle.std.specs.Prelude.{unwrap_or, ⊤}
 use Rattle.std.proofs.lemmas.List.{append_cancel_left}
+use Rattle.std.proofs.lemmas.List.Elements.{All-append, All-from_recursion}
 use Rattle.std.proofs.lemmas.Option.{same_Some}
 use Rattle.bound_cert.specs.ProofText.{proof_text}
 use Rattle.branch_bound.specs.Solved.{IsRight, plan_cost, tree_of}
@@ -20,7 +21,7 @@ use Rattle.plan_text.proofs.Lines.{reads_what_was_written}
 use Rattle.plan_text.specs.Reading.{PlanReads}
 use Rattle.plan_text.specs.Text.{plan_text}
 use Rattle.csv_fields.specs.Record.{records_of}
-use Rattle.sched_read.specs.Reading.{Reads}
+use Rattle.table_files.specs.Files.{FilesRead}
 use Rattle.bound_cert.specs.ReadProof.{ReadsAs}
 use Rattle.fleet_cli.proofs.CheckedByDay.{proof_by_day}
 use Rattle.fleet_cli.proofs.FrontFacts.{held_in, stands_in}
@@ -33,7 +34,7 @@ use Rattle.fleet_cli.specs.Answer.{Answers, Solves}
 use Rattle.fleet_cli.specs.Contents.{bytes_in, table_bytes}
 use Rattle.fleet_cli.specs.Gathered.{AllStand, IsHeld, limit_of}
 use Rattle.fleet_cli.specs.Headline.{is_planned}
-use Rattle.fleet_cli.specs.Reading.{proof_files, table_files}
+use Rattle.fleet_cli.specs.Reading.{five_tables, proof_files, tables_of, where_asked}
 use Rattle.fleet_cli.specs.Run.{IsCostThere, IsSolution, ProofThere}
 use Rattle.fleet_cli.specs.SolvedChecked.{CountAlike, ReadsAndHolds, SolvedIsChecked}
 use Rattle.fleet_cli.specs.Solution.{solved_files}
@@ -42,73 +43,116 @@ use Rattle.fleet_cli.specs.declared.answer.Answer.{Answer}
 
 -- ---- the tables stand as they did
 
--- no table has the name of the plan, of the proof or of the rotations
-not_plan : (dir : List ℕ) (k : ℕ) (d : DeskFile) → k < 5 → path_of dir (get_or table_files k d) ≢ path_of dir file.Plan
-not_plan dir zero d below = λ same. (let e : codes "stations.csv" ≡ codes "plan.csv" = append_cancel_left (dir ++ codes "/") _ _ same in search rules)
-not_plan dir (suc zero) d below = λ same. (let e : codes "fleets.csv" ≡ codes "plan.csv" = append_cancel_left (dir ++ codes "/") _ _ same in search rules)
-not_plan dir (suc (suc zero)) d below = λ same. (let e : codes "legs.csv" ≡ codes "plan.csv" = append_cancel_left (dir ++ codes "/") _ _ same in search rules)
-not_plan dir (suc (suc (suc zero))) d below = λ same. (let e : codes "costs.csv" ≡ codes "plan.csv" = append_cancel_left (dir ++ codes "/") _ _ same in search rules)
-not_plan dir (suc (suc (suc (suc zero)))) d below = λ same. (let e : codes "throughs.csv" ≡ codes "plan.csv" = append_cancel_left (dir ++ codes "/") _ _ same in search rules)
-not_plan dir (suc (suc (suc (suc (suc k))))) d below = absurd (omega arith)
+-- the file of a table that tells of the schedule
+abbrev IsTable : DeskFile → Type 0
+IsTable file.Stations = ⊤
+IsTable file.Fleets = ⊤
+IsTable file.Legs = ⊤
+IsTable file.Costs = ⊤
+IsTable file.Throughs = ⊤
+IsTable file.Windows = ⊤
+IsTable file.Optional = ⊤
+IsTable file.Tails = ⊥
+IsTable file.Plan = ⊥
+IsTable file.Proof = ⊥
+IsTable file.Rotation = ⊥
 
-not_proof : (dir : List ℕ) (k : ℕ) (d : DeskFile) → k < 5 → path_of dir (get_or table_files k d) ≢ path_of dir file.Proof
-not_proof dir zero d below = λ same. (let e : codes "stations.csv" ≡ codes "proof.txt" = append_cancel_left (dir ++ codes "/") _ _ same in search rules)
-not_proof dir (suc zero) d below = λ same. (let e : codes "fleets.csv" ≡ codes "proof.txt" = append_cancel_left (dir ++ codes "/") _ _ same in search rules)
-not_proof dir (suc (suc zero)) d below = λ same. (let e : codes "legs.csv" ≡ codes "proof.txt" = append_cancel_left (dir ++ codes "/") _ _ same in search rules)
-not_proof dir (suc (suc (suc zero))) d below = λ same. (let e : codes "costs.csv" ≡ codes "proof.txt" = append_cancel_left (dir ++ codes "/") _ _ same in search rules)
-not_proof dir (suc (suc (suc (suc zero)))) d below = λ same. (let e : codes "throughs.csv" ≡ codes "proof.txt" = append_cancel_left (dir ++ codes "/") _ _ same in search rules)
-not_proof dir (suc (suc (suc (suc (suc k))))) d below = absurd (omega arith)
+where_table : (asked : Bool) (f : DeskFile) → IsTable f → All IsTable (where_asked asked f)
+where_table true f is = All-from_recursion IsTable (f ∷ []) (is, tt)
+where_table false f is = All-from_recursion IsTable [] tt
 
-not_rotation : (dir : List ℕ) (k : ℕ) (d : DeskFile) → k < 5 → path_of dir (get_or table_files k d) ≢ path_of dir file.Rotation
-not_rotation dir zero d below = λ same. (let e : codes "stations.csv" ≡ codes "rotation.csv" = append_cancel_left (dir ++ codes "/") _ _ same in search rules)
-not_rotation dir (suc zero) d below = λ same. (let e : codes "fleets.csv" ≡ codes "rotation.csv" = append_cancel_left (dir ++ codes "/") _ _ same in search rules)
-not_rotation dir (suc (suc zero)) d below = λ same. (let e : codes "legs.csv" ≡ codes "rotation.csv" = append_cancel_left (dir ++ codes "/") _ _ same in search rules)
-not_rotation dir (suc (suc (suc zero))) d below = λ same. (let e : codes "costs.csv" ≡ codes "rotation.csv" = append_cancel_left (dir ++ codes "/") _ _ same in search rules)
-not_rotation dir (suc (suc (suc (suc zero)))) d below = λ same. (let e : codes "throughs.csv" ≡ codes "rotation.csv" = append_cancel_left (dir ++ codes "/") _ _ same in search rules)
-not_rotation dir (suc (suc (suc (suc (suc k))))) d below = absurd (omega arith)
+-- all that are read are such
+are_tables : (reading : TableOptions) → All IsTable (tables_of reading)
+are_tables reading =
+    All-append IsTable five_tables (where_asked reading.windows file.Windows ++ where_asked reading.optional file.Optional)
+    (All-from_recursion IsTable five_tables (tt, (tt, (tt, (tt, (tt, tt))))))
+    (All-append IsTable (where_asked reading.windows file.Windows) (where_asked reading.optional file.Optional) (where_table reading.windows file.Windows tt) (where_table reading.optional file.Optional tt))
 
-module _ (held : Files) (dir : List ℕ) (t : Tables) (s : Solved) (rotations : List FleetRotation) (visits : ℕ) where
+-- none has the name of the plan, of the proof or of the rotations
+not_plan : (dir : List ℕ) (f : DeskFile) → IsTable f → path_of dir f ≢ path_of dir file.Plan
+not_plan dir file.Stations is = λ same. (let e : codes "stations.csv" ≡ codes "plan.csv" = append_cancel_left (dir ++ codes "/") _ _ same in search rules)
+not_plan dir file.Fleets is = λ same. (let e : codes "fleets.csv" ≡ codes "plan.csv" = append_cancel_left (dir ++ codes "/") _ _ same in search rules)
+not_plan dir file.Legs is = λ same. (let e : codes "legs.csv" ≡ codes "plan.csv" = append_cancel_left (dir ++ codes "/") _ _ same in search rules)
+not_plan dir file.Costs is = λ same. (let e : codes "costs.csv" ≡ codes "plan.csv" = append_cancel_left (dir ++ codes "/") _ _ same in search rules)
+not_plan dir file.Throughs is = λ same. (let e : codes "throughs.csv" ≡ codes "plan.csv" = append_cancel_left (dir ++ codes "/") _ _ same in search rules)
+not_plan dir file.Windows is = λ same. (let e : codes "windows.csv" ≡ codes "plan.csv" = append_cancel_left (dir ++ codes "/") _ _ same in search rules)
+not_plan dir file.Optional is = λ same. (let e : codes "optional.csv" ≡ codes "plan.csv" = append_cancel_left (dir ++ codes "/") _ _ same in search rules)
+not_plan dir file.Tails is = absurd is
+not_plan dir file.Plan is = absurd is
+not_plan dir file.Proof is = absurd is
+not_plan dir file.Rotation is = absurd is
+
+not_proof : (dir : List ℕ) (f : DeskFile) → IsTable f → path_of dir f ≢ path_of dir file.Proof
+not_proof dir file.Stations is = λ same. (let e : codes "stations.csv" ≡ codes "proof.txt" = append_cancel_left (dir ++ codes "/") _ _ same in search rules)
+not_proof dir file.Fleets is = λ same. (let e : codes "fleets.csv" ≡ codes "proof.txt" = append_cancel_left (dir ++ codes "/") _ _ same in search rules)
+not_proof dir file.Legs is = λ same. (let e : codes "legs.csv" ≡ codes "proof.txt" = append_cancel_left (dir ++ codes "/") _ _ same in search rules)
+not_proof dir file.Costs is = λ same. (let e : codes "costs.csv" ≡ codes "proof.txt" = append_cancel_left (dir ++ codes "/") _ _ same in search rules)
+not_proof dir file.Throughs is = λ same. (let e : codes "throughs.csv" ≡ codes "proof.txt" = append_cancel_left (dir ++ codes "/") _ _ same in search rules)
+not_proof dir file.Windows is = λ same. (let e : codes "windows.csv" ≡ codes "proof.txt" = append_cancel_left (dir ++ codes "/") _ _ same in search rules)
+not_proof dir file.Optional is = λ same. (let e : codes "optional.csv" ≡ codes "proof.txt" = append_cancel_left (dir ++ codes "/") _ _ same in search rules)
+not_proof dir file.Tails is = absurd is
+not_proof dir file.Plan is = absurd is
+not_proof dir file.Proof is = absurd is
+not_proof dir file.Rotation is = absurd is
+
+not_rotation : (dir : List ℕ) (f : DeskFile) → IsTable f → path_of dir f ≢ path_of dir file.Rotation
+not_rotation dir file.Stations is = λ same. (let e : codes "stations.csv" ≡ codes "rotation.csv" = append_cancel_left (dir ++ codes "/") _ _ same in search rules)
+not_rotation dir file.Fleets is = λ same. (let e : codes "fleets.csv" ≡ codes "rotation.csv" = append_cancel_left (dir ++ codes "/") _ _ same in search rules)
+not_rotation dir file.Legs is = λ same. (let e : codes "legs.csv" ≡ codes "rotation.csv" = append_cancel_left (dir ++ codes "/") _ _ same in search rules)
+not_rotation dir file.Costs is = λ same. (let e : codes "costs.csv" ≡ codes "rotation.csv" = append_cancel_left (dir ++ codes "/") _ _ same in search rules)
+not_rotation dir file.Throughs is = λ same. (let e : codes "throughs.csv" ≡ codes "rotation.csv" = append_cancel_left (dir ++ codes "/") _ _ same in search rules)
+not_rotation dir file.Windows is = λ same. (let e : codes "windows.csv" ≡ codes "rotation.csv" = append_cancel_left (dir ++ codes "/") _ _ same in search rules)
+not_rotation dir file.Optional is = λ same. (let e : codes "optional.csv" ≡ codes "rotation.csv" = append_cancel_left (dir ++ codes "/") _ _ same in search rules)
+not_rotation dir file.Tails is = absurd is
+not_rotation dir file.Plan is = absurd is
+not_rotation dir file.Proof is = absurd is
+not_rotation dir file.Rotation is = absurd is
+
+module _ (held : Files) (dir : List ℕ) (t shown : Tables) (s : Solved) (rotations : List FleetRotation) (visits : ℕ) where
   abbrev stands : Files
-  stands = with_texts held dir (solved_files t s rotations visits)
+  stands = with_texts held dir (solved_files t shown s rotations visits)
+
+  abbrev Stands : DeskFile → Type 0
+  Stands f = IsHeld stands dir f (bytes_in stands dir f)
 
   -- under the name of a table stands what stood there
-  name_kept : (k : ℕ) (d : DeskFile) → k < 5 → stands (path_of dir (get_or table_files k d)) ≡ held (path_of dir (get_or table_files k d))
-  name_kept k d below =
-      texts_keep dir (path_of dir (get_or table_files k d)) held (solved_files t s rotations visits)
-      (solved_others t rotations visits dir (path_of dir (get_or table_files k d)) (not_plan dir k d below) (not_proof dir k d below) (not_rotation dir k d below) s)
+  name_kept : (f : DeskFile) → IsTable f → stands (path_of dir f) ≡ held (path_of dir f)
+  name_kept f is =
+      texts_keep dir (path_of dir f) held (solved_files t shown s rotations visits) (solved_others t shown rotations visits dir (path_of dir f) (not_plan dir f is) (not_proof dir f is) (not_rotation dir f is) s)
 
-  table_kept : (k : ℕ) → k < 5 → bytes_in stands dir (get_or table_files k file.Stations) ≡ bytes_in held dir (get_or table_files k file.Stations)
-  table_kept k below = ap (λ o. unwrap_or o []) (name_kept k file.Stations below)
+  table_kept : (f : DeskFile) → IsTable f → bytes_in stands dir f ≡ bytes_in held dir f
+  table_kept f is = ap (λ o. unwrap_or o []) (name_kept f is)
 
   same_tables : table_bytes (bytes_in stands dir) ≡ table_bytes (bytes_in held dir)
-  same_tables = rw (table_kept 0 (omega arith), table_kept 1 (omega arith), table_kept 2 (omega arith), table_kept 3 (omega arith), table_kept 4 (omega arith)) refl
+  same_tables = rw (
+    table_kept file.Stations tt,
+    table_kept file.Fleets tt,
+    table_kept file.Legs tt,
+    table_kept file.Costs tt,
+    table_kept file.Throughs tt,
+    table_kept file.Windows tt,
+    table_kept file.Optional tt,
+  ) refl
 
   same_proof : bytes_in stands dir file.Proof ≡ proof_text t (is_planned s) (tree_of s)
-  same_proof = sym (stands_in stands dir file.Proof _ (proof_stands held dir t rotations visits s))
+  same_proof = sym (stands_in stands dir file.Proof _ (proof_stands held dir t shown rotations visits s))
 
-  table_stands : AllStand held dir table_files → (k : ℕ) (d : DeskFile) → k < 5 → IsHeld stands dir (get_or table_files k d) (bytes_in stands dir (get_or table_files k d))
-  table_stands there k d below =
-      let is = there.each k d below in
-      held_in stands dir (get_or table_files k d) (bytes_in held dir (get_or table_files k d)) (record { stands = name_kept k d below ∙ is.stands; within = is.within })
+  still_held : (f : DeskFile) → IsTable f → IsHeld held dir f (bytes_in held dir f) → Stands f
+  still_held f is there = held_in stands dir f (bytes_in held dir f) (record { stands = name_kept f is ∙ there.stands; within = there.within })
 
-  proof_there : AllStand held dir table_files → length (proof_text t (is_planned s) (tree_of s)) ≤ limit_of file.Proof → AllStand stands dir proof_files
-  proof_there there short = record { each = at }
-    where
-      at : (k : ℕ) (d : DeskFile) → k < 6 → IsHeld stands dir (get_or proof_files k d) (bytes_in stands dir (get_or proof_files k d))
-      at zero d below = table_stands there 0 d (omega arith)
-      at (suc zero) d below = table_stands there 1 d (omega arith)
-      at (suc (suc zero)) d below = table_stands there 2 d (omega arith)
-      at (suc (suc (suc zero))) d below = table_stands there 3 d (omega arith)
-      at (suc (suc (suc (suc zero)))) d below = table_stands there 4 d (omega arith)
-      at (suc (suc (suc (suc (suc zero))))) d below = held_in stands dir file.Proof _ (record { stands = proof_stands held dir t rotations visits s; within = short })
-      at (suc (suc (suc (suc (suc (suc k)))))) d below = absurd (omega arith)
+  proof_there : (reading : TableOptions) → AllStand held dir (tables_of reading) → length (proof_text t (is_planned s) (tree_of s)) ≤ limit_of file.Proof → AllStand stands dir (proof_files reading)
+  proof_there reading there short = record {
+    each = All-append Stands (tables_of reading) (file.Proof ∷ [])
+        (λ k d below. still_held (get_or (tables_of reading) k d) (are_tables reading k d below) (there.each k d below))
+        (All-from_recursion Stands (file.Proof ∷ []) (held_in stands dir file.Proof _ (record { stands = proof_stands held dir t shown rotations visits s; within = short }), tt));
+  }
 
-module _ (t : Tables) (rotations : List FleetRotation) (visits : ℕ) where
+module _ (t shown : Tables) (rotations : List FleetRotation) (visits : ℕ) where
   -- the plan that is written stands there and is legal
-  plan_there : (held : Files) (dir : List ℕ) (s : Solved) → IsRight t s → IsCostThere (with_texts held dir (solved_files t s rotations visits)) dir t (is_planned s) (plan_cost s)
+  plan_there : (held : Files) (dir : List ℕ) (s : Solved) → IsRight t s → IsCostThere (with_texts held dir (solved_files t shown s rotations visits)) dir t (is_planned s) (plan_cost s)
   plan_there held dir (solved.Planned plan cost bound whole) right =
-      let there = plan_stands held dir t rotations visits (solved.Planned plan cost bound whole) in
-      let stands = with_texts held dir (solved_files t (solved.Planned plan cost bound whole) rotations visits) in (
+      let there = plan_stands held dir t shown rotations visits (solved.Planned plan cost bound whole) in
+      let stands = with_texts held dir (solved_files t shown (solved.Planned plan cost bound whole) rotations visits) in (
         refl,
         record {
           plan = plan;
@@ -122,22 +166,22 @@ module _ (t : Tables) (rotations : List FleetRotation) (visits : ℕ) where
   plan_there held dir (solved.Unsettled bound whole) right = refl
 
   -- the proof is no longer than a list of bytes can be, wherever it stands among the files
-  proof_short : (s : Solved) → HaveLengths (solved_files t s rotations visits) → length (proof_text t (is_planned s) (tree_of s)) ≤ limit_of file.Proof
+  proof_short : (s : Solved) → HaveLengths (solved_files t shown s rotations visits) → length (proof_text t (is_planned s) (tree_of s)) ≤ limit_of file.Proof
   unfolding solved_files limit_of
   proof_short (solved.Planned plan cost bound whole) lengths = lengths.each 1 no_text (omega arith)
   proof_short (solved.Infeasible whole) lengths = lengths.each 0 no_text (omega arith)
   proof_short (solved.Unsettled bound whole) lengths = lengths.each 0 no_text (omega arith)
 
-  proof_stays : (held : Files) (dir : List ℕ) (reading : TableOptions) (s : Solved) → AllStand held dir table_files → Reads (table_bytes (bytes_in held dir)) reading.settings t
-      → IsRight t s → ReadsAndHolds t s → HaveLengths (solved_files t s rotations visits) → ProofThere (with_texts held dir (solved_files t s rotations visits)) dir reading
+  proof_stays : (held : Files) (dir : List ℕ) (reading : TableOptions) (s : Solved) → AllStand held dir (tables_of reading) → FilesRead (table_bytes (bytes_in held dir)) reading t
+      → IsRight t s → ReadsAndHolds t s → HaveLengths (solved_files t shown s rotations visits) → ProofThere (with_texts held dir (solved_files t shown s rotations visits)) dir reading
   proof_stays held dir reading s there reads right proof lengths = record {
     tables = t;
     proof = proof.proof;
     cost = plan_cost s;
     bound = _;
-    there = proof_there held dir t s rotations visits there (proof_short s lengths);
-    reads = subst (λ b. Reads b reading.settings t) (sym (same_tables held dir t s rotations visits)) reads;
-    proof_reads = subst (λ b. ReadsAs t b proof.proof) (sym (same_proof held dir t s rotations visits)) proof.reads;
+    there = proof_there held dir t shown s rotations visits reading there (proof_short s lengths);
+    reads = subst (λ b. FilesRead b reading t) (sym (same_tables held dir t shown s rotations visits)) reads;
+    proof_reads = subst (λ b. ReadsAs t b proof.proof) (sym (same_proof held dir t shown s rotations visits)) proof.reads;
     plan = rw proof.says (plan_there held dir s right);
     holds = proof.holds;
   }
@@ -154,8 +198,8 @@ module _ (held : Files) (dir : List ℕ) (solving checking : TableOptions) (alik
       by_tables (inr solves) =
           let given = solves.finishes in
           let files = ap (λ (a : Answer). a.files) given.is in
-          let stands = with_texts held dir (solved_files solves.tables given.solution given.rotations options.rotations.visits) in
-          let there = proof_stays solves.tables given.rotations options.rotations.visits held dir solving given.solution read.within.first solves.reads given.solves.right
+          let stands = with_texts held dir (solved_files solves.tables given.shown given.solution given.rotations options.rotations.visits) in
+          let there = proof_stays solves.tables given.shown given.rotations options.rotations.visits held dir solving given.solution read.within.first solves.reads given.solves.right
           (solved_holds solves.tables options.search.nodes options.search.pivots given.solution given.solves) (rw files at lengths) in
           complete_there stands (Some (check dir checking)) checked_as (rw files at checks) (proof_by_day stands dir solving checking alike checked_as there (rw files at checks))
 

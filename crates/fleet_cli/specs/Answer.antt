@@ -29,17 +29,17 @@ use Rattle.plan_judge.specs.Verdicts.{IsVerdict}
 use Rattle.plan_judge.specs.declared.verdicts.Verdict.{Verdict}
 use Rattle.plan_rotations.specs.Rotations.{ArePlanRotations}
 use Rattle.rotation_report.specs.Tails.{tails_text}
-use Rattle.sched_read.specs.Reading.{TableBytes}
+use Rattle.table_files.specs.Files.{AllBytes}
 use Rattle.table_maker.specs.Laws.{bytes_of}
 use Rattle.table_maker.specs.Made.{CanBeMade, made_tables}
 use Rattle.tail_dates.specs.declared.placing.Placed.{Placed}
 use Rattle.tail_dates.specs.declared.tails.TailState.{TailState}
-use Rattle.fleet_cli.specs.Contents.{FileBytes, bytes_in, table_bytes}
+use Rattle.fleet_cli.specs.Contents.{FileBytes, bytes_in, five_alone, table_bytes}
 use Rattle.fleet_cli.specs.Gathered.{CalledTooLong}
 use Rattle.fleet_cli.specs.Making.{after_files, made_files}
 use Rattle.fleet_cli.specs.Reading.{AllWithin, IsRead, IsTooLong, folder_of}
 use Rattle.fleet_cli.specs.Refusals.{RefusesLength, says, verdict_status}
-use Rattle.fleet_cli.specs.Skeletons.{OnFleet, OnLegal, OnPlan, OnProof, OnTables, OnTails, TablesRead}
+use Rattle.fleet_cli.specs.Skeletons.{OnFleet, OnLegal, OnPlan, OnProof, OnShown, OnTables, OnTails, TablesRead}
 use Rattle.fleet_cli.specs.Solution.{AreRotationsOf, solved_answer}
 use Rattle.fleet_cli.specs.Texts.{broken_text, checked_text, usage_text, verdict_text, what_if_text}
 use Rattle.fleet_cli.specs.declared.answer.Answer.{Answer}
@@ -60,7 +60,7 @@ abbrev pub JudgesOn : List ℕ → Tables → Answer → Type 0
 JudgesOn plan t = OnPlan t plan (JudgesPlan t)
 
 -- judging by the bytes of the tables and of the plan
-abbrev pub Judges : TableOptions → TableBytes → List ℕ → Answer → Type 0
+abbrev pub Judges : TableOptions → AllBytes → List ℕ → Answer → Type 0
 Judges reading bytes plan = OnTables reading bytes (JudgesOn plan)
 
 -- ---- solving
@@ -69,13 +69,27 @@ Judges reading bytes plan = OnTables reading bytes (JudgesOn plan)
 -- allowed, no leaf of its tree is open for pivots
 pub record GivesSolution (options : SolveOptions) (t : Tables) (answer : Answer) : Type 0 where
   pub solution : Solved
+  pub shown : Tables
   pub rotations : List FleetRotation
   pub solves : IsSolved t options.search.nodes options.search.pivots solution
-  pub rotates : AreRotationsOf t options.rotations solution rotations
-  pub is : answer ≡ solved_answer t options solution rotations
+  pub rotates : AreRotationsOf t options.rotations solution shown rotations
+  pub is : answer ≡ solved_answer t shown options solution rotations
+
+-- that is this one
+pub record ShowsSolution (options : SolveOptions) (t : Tables) (solution : Solved) (answer : Answer) : Type 0 where
+  pub shown : Tables
+  pub rotations : List FleetRotation
+  pub rotates : AreRotationsOf t options.rotations solution shown rotations
+  pub is : answer ≡ solved_answer t shown options solution rotations
+
+-- .. with the rotations of a plan on the tables that are shown
+pub record ShowsRotations (options : SolveOptions) (t : Tables) (solution : Solved) (shown : Tables) (flown : List ℕ) (answer : Answer) : Type 0 where
+  pub rotations : List FleetRotation
+  pub rotates : ArePlanRotations shown flown options.rotations.days options.rotations.visits rotations
+  pub is : answer ≡ solved_answer t shown options solution rotations
 
 -- solving by the bytes of the tables
-abbrev pub Solves : TableOptions → SolveOptions → TableBytes → Answer → Type 0
+abbrev pub Solves : TableOptions → SolveOptions → AllBytes → Answer → Type 0
 Solves reading options bytes = OnTables reading bytes (GivesSolution options)
 
 -- ---- making
@@ -85,7 +99,7 @@ Solves reading options bytes = OnTables reading bytes (GivesSolution options)
 pub record Makes (number legs : ℕ) (answer : Answer) : Type 0 where
   pub solving : Answer
   pub can : CanBeMade number legs
-  pub solves : TablesRead DEFAULT_READING (bytes_of (made_tables number legs)) (GivesSolution DEFAULT_OPTIONS) solving
+  pub solves : TablesRead DEFAULT_READING (five_alone (bytes_of (made_tables number legs))) (GivesSolution DEFAULT_OPTIONS) solving
   pub is : answer ≡ after_files (made_files (made_tables number legs)) solving
 
 -- ---- checking
@@ -153,7 +167,7 @@ abbrev pub TellsOn : Question → List ℕ → List ℕ → Tables → Answer �
 TellsOn asks proof plan t = OnProof t proof (TellsRead t asks plan)
 
 -- checking by the bytes of the tables, of the proof and of the plan
-abbrev pub Checks : TableOptions → TableBytes → List ℕ → List ℕ → Answer → Type 0
+abbrev pub Checks : TableOptions → AllBytes → List ℕ → List ℕ → Answer → Type 0
 Checks reading bytes proof plan = OnTables reading bytes (TellsOn question.Holds proof plan)
 
 -- asking about so many aircraft of the fleet of this name, on tables
@@ -161,23 +175,26 @@ abbrev pub AsksOn : List ℕ → ℕ → List ℕ → List ℕ → Tables → An
 AsksOn name count proof plan t = OnFleet t name (λ fleet. TellsOn (question.OtherSize fleet count) proof plan t)
 
 -- .. by the bytes of the tables, of the proof and of the plan
-abbrev pub Asks : TableOptions → List ℕ → ℕ → TableBytes → List ℕ → List ℕ → Answer → Type 0
+abbrev pub Asks : TableOptions → List ℕ → ℕ → AllBytes → List ℕ → List ℕ → Answer → Type 0
 Asks reading name count bytes proof plan = OnTables reading bytes (AsksOn name count proof plan)
 
 -- ---- tails
 
--- the tails of the plan's rotations on the dates are told
-pub record TellsTails (t : Tables) (limits : RotationLimits) (dates : AskedDates) (plan : List ℕ) (answer : Answer) : Type 0 where
+-- the tails of a plan's rotations on the dates are told, on the tables that are shown
+pub record TellsLines (limits : RotationLimits) (dates : AskedDates) (shown : Tables) (flown : List ℕ) (answer : Answer) : Type 0 where
   pub rotations : List FleetRotation
-  pub rotates : ArePlanRotations t plan limits.days limits.visits rotations
-  pub is : answer ≡ says DONE (tails_text t plan rotations dates.first dates.count)
+  pub rotates : ArePlanRotations shown flown limits.days limits.visits rotations
+  pub is : answer ≡ says DONE (tails_text shown flown rotations dates.first dates.count)
+
+abbrev pub TellsTails : Tables → RotationLimits → AskedDates → List ℕ → Answer → Type 0
+TellsTails t limits dates = OnShown t (TellsLines limits dates)
 
 -- telling tails on tables, by the bytes of the plan
 abbrev pub TailsOn : RotationLimits → AskedDates → List ℕ → Tables → Answer → Type 0
 TailsOn limits dates plan t = OnPlan t plan (OnLegal t (TellsTails t limits dates))
 
 -- telling tails by the bytes of the tables and of the plan
-abbrev pub TailsOf : TableOptions → RotationLimits → AskedDates → TableBytes → List ℕ → Answer → Type 0
+abbrev pub TailsOf : TableOptions → RotationLimits → AskedDates → AllBytes → List ℕ → Answer → Type 0
 TailsOf reading limits dates bytes plan = OnTables reading bytes (TailsOn limits dates plan)
 
 -- ---- named tails
@@ -186,13 +203,17 @@ TailsOf reading limits dates bytes plan = OnTables reading bytes (TailsOn limits
 abbrev pub due_status : List (Option Placed) → ℕ
 due_status placings = if are_unplaced placings then UNPLACED else DONE
 
--- by the plan's rotations the tails of each fleet take starts, or can't, and what they fly on the dates is told
-pub record TellsDue (t : Tables) (limits : RotationLimits) (dates : AskedDates) (tails : List TailState) (plan : List ℕ) (answer : Answer) : Type 0 where
+-- By a plan's rotations the tails of each fleet take starts, or can't, and what they fly on the dates is told, on the tables that
+-- are shown.
+pub record TellsStarts (limits : RotationLimits) (dates : AskedDates) (tails : List TailState) (shown : Tables) (flown : List ℕ) (answer : Answer) : Type 0 where
   pub rotations : List FleetRotation
   pub placings : List (Option Placed)
-  pub rotates : ArePlanRotations t plan limits.days limits.visits rotations
-  pub places : ArePlacings t plan rotations tails placings
-  pub is : answer ≡ says (due_status placings) (due_text t plan rotations tails placings dates.first dates.count)
+  pub rotates : ArePlanRotations shown flown limits.days limits.visits rotations
+  pub places : ArePlacings shown flown rotations tails placings
+  pub is : answer ≡ says (due_status placings) (due_text shown flown rotations tails placings dates.first dates.count)
+
+abbrev pub TellsDue : Tables → RotationLimits → AskedDates → List TailState → List ℕ → Answer → Type 0
+TellsDue t limits dates named = OnShown t (TellsStarts limits dates named)
 
 -- telling named tails, by the bytes of the plan
 abbrev pub DueWith : RotationLimits → AskedDates → List ℕ → Tables → List TailState → Answer → Type 0
@@ -203,7 +224,7 @@ abbrev pub DueOn : RotationLimits → AskedDates → List ℕ → List ℕ → T
 DueOn limits dates named plan t = OnTails t named (DueWith limits dates plan t)
 
 -- telling them by the bytes of the tables, of the table of tails and of the plan
-abbrev pub DueOf : TableOptions → RotationLimits → AskedDates → TableBytes → List ℕ → List ℕ → Answer → Type 0
+abbrev pub DueOf : TableOptions → RotationLimits → AskedDates → AllBytes → List ℕ → List ℕ → Answer → Type 0
 DueOf reading limits dates bytes named plan = OnTables reading bytes (DueOn limits dates named plan)
 
 -- ---- what the program answers

@@ -5,6 +5,7 @@ use Rattle.plan_desk.specs.DeskFile.{path_of}
 use Rattle.plan_desk.specs.declared.file.DeskFile.{DeskFile}
 use Rattle.plan_desk.specs.declared.file.DeskFile.TheVariants as file
 use Rattle.sched_read.specs.Reading.{TableBytes}
+use Rattle.table_files.specs.Files.{AllBytes}
 use Rattle.fleet_cli.specs.declared.contents.Contents.{Contents}
 
 -- the bytes of each file
@@ -16,14 +17,22 @@ abbrev pub bytes_in : Files → List ℕ → FileBytes
 bytes_in held dir f = unwrap_or (held (path_of dir f)) []
 
 -- those of the five tables
-abbrev pub table_bytes : FileBytes → TableBytes
-table_bytes bytes = record {
+abbrev pub five_bytes : FileBytes → TableBytes
+five_bytes bytes = record {
   stations = bytes file.Stations;
   fleets = bytes file.Fleets;
   legs = bytes file.Legs;
   costs = bytes file.Costs;
   throughs = bytes file.Throughs;
 }
+
+-- those of all tables
+abbrev pub table_bytes : FileBytes → AllBytes
+table_bytes bytes = record { five = five_bytes bytes; windows = bytes file.Windows; optional = bytes file.Optional }
+
+-- five tables, with nothing in the others
+abbrev pub five_alone : TableBytes → AllBytes
+five_alone five = record { five = five; windows = []; optional = [] }
 
 -- each file has a number of its own, by which two are told apart
 abbrev pub number_of : DeskFile → ℕ

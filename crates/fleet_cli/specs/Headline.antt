@@ -19,13 +19,13 @@ use Rattle.plan_desk.specs.declared.file.DeskFile.TheVariants as desk_file
 use Rattle.rotation_report.specs.RotationRecords.{rotation_text}
 use Rattle.fleet_rotations.specs.declared.made.FleetRotation.{FleetRotation}
 use Rattle.plan_text.specs.Text.{plan_text}
-use Rattle.sched_read.specs.Reading.{Reads}
+use Rattle.table_files.specs.Files.{FilesRead}
 use Rattle.table_maker.specs.Laws.{bytes_of}
 use Rattle.table_maker.specs.Made.{made_tables}
-use Rattle.fleet_cli.specs.Contents.{bytes_in, table_bytes}
+use Rattle.fleet_cli.specs.Contents.{bytes_in, five_bytes, table_bytes}
 use Rattle.fleet_cli.specs.Gathered.{AllStand}
 use Rattle.fleet_cli.specs.Making.{made_files}
-use Rattle.fleet_cli.specs.Reading.{proof_files, table_files}
+use Rattle.fleet_cli.specs.Reading.{five_tables, proof_files, tables_of}
 use Rattle.fleet_cli.specs.Refusals.{fleet_named}
 use Rattle.fleet_cli.specs.Run.{IsSolution, PlanThere}
 use Rattle.branch_bound.specs.Solved.{IsSolved, tree_of}
@@ -48,23 +48,26 @@ plan_there t (solved.Planned plan cost bound tree) before = Some (plan_text t pl
 plan_there t (solved.Infeasible tree) before = before
 plan_there t (solved.Unsettled bound tree) before = before
 
--- The five files read as tables. Under the plan's name stands the text of one legal plan, under the proof's name
--- the text of one tree, and the summary with the plan's exact cost, the tree's bound and the status was put. No
--- legal assignment undercuts that bound; it is the cost where no leaf is open, each open leaf has its cause, which isn't
--- spent pivots where all are allowed, and where it says infeasible, none is legal. Under the rotations' name stands the text of what becomes of each fleet's rotation by
--- that plan, and the summary tells it: each tour is one of the fleet and is kept, each that is refused has its cause, and
--- the pairs of the first round are a through set that is worth most. Without a plan there are no rotations.
+-- The files read as tables, with the times of legs and the legs that may be left out where these are asked for. Under the
+-- plan's name stands the text of one legal plan, under the proof's name the text of one tree, and the summary with the plan's
+-- exact cost, the tree's bound and the status was put. No legal assignment, whatever fleets and departures it chooses and
+-- whichever legs it leaves out, undercuts that bound; it is the cost where no leaf is open, each open leaf has its cause, which
+-- isn't spent pivots where all are allowed, and where it says infeasible, none is legal. Under the rotations' name stands the
+-- text of what becomes of each fleet's rotation by that plan, on the tables in which each leg departs when the plan says, and
+-- the summary tells it: each tour is one of the fleet and is kept, each that is refused has its cause, and the pairs of the
+-- first round are a through set that is worth most. Without a plan there are no rotations.
 pub record LeavesSolution (held stands : Files) (dir : List ℕ) (reading : TableOptions) (options : SolveOptions) (code : ℕ) (before after : Option (List ℕ)) : Type 0 where
   pub tables : Tables
   pub solution : Solved
+  pub shown : Tables
   pub rotations : List FleetRotation
-  pub there : AllStand held dir table_files
-  pub reads : Reads (table_bytes (bytes_in held dir)) reading.settings tables
+  pub there : AllStand held dir (tables_of reading)
+  pub reads : FilesRead (table_bytes (bytes_in held dir)) reading tables
   pub solves : IsSolved tables options.search.nodes options.search.pivots solution
-  pub rotates : AreRotationsOf tables options.rotations solution rotations
+  pub rotates : AreRotationsOf tables options.rotations solution shown rotations
   pub plan : stands (path_of dir desk_file.Plan) ≡ plan_there tables solution (held (path_of dir desk_file.Plan))
   pub proof : stands (path_of dir desk_file.Proof) ≡ Some (proof_text tables (is_planned solution) (tree_of solution))
-  pub rotation : stands (path_of dir desk_file.Rotation) ≡ Some (rotation_text tables rotations options.rotations.visits)
+  pub rotation : stands (path_of dir desk_file.Rotation) ≡ Some (rotation_text shown rotations options.rotations.visits)
   pub put : after ≡ output_with before (printed_text tables options.json solution rotations)
   pub code_is : code ≡ solved_status solution
 
@@ -79,29 +82,29 @@ pub record TellsSolution (held : Files) (told : Option Files) (dir : List ℕ) (
 pub record TellsMade (held : Files) (told : Option Files) (dir : List ℕ) (number legs code : ℕ) (before after : Option (List ℕ)) : Type 0 where
   pub stands : Files
   pub tells : told ≡ Some stands
-  pub there : AllStand stands dir table_files
-  pub tables : table_bytes (bytes_in stands dir) ≡ bytes_of (made_tables number legs)
+  pub there : AllStand stands dir five_tables
+  pub tables : five_bytes (bytes_in stands dir) ≡ bytes_of (made_tables number legs)
   pub leaves : LeavesSolution (with_texts held dir (made_files (made_tables number legs))) stands dir DEFAULT_READING DEFAULT_OPTIONS code before after
 
 -- a bound is there, and it is no more than a cost
 abbrev pub IsUnder : Option ℤ → ℤ → Type 0
 IsUnder bound cost = IsSomeAnd bound (λ least. least ≤ℤ cost)
 
--- The five files read as tables. What was put is the line of a tree that holds: its bound, with the cost of the legal plan
+-- The files read as tables. What was put is the line of a tree that holds: its bound, with the cost of the legal plan
 -- that stands there where one comes with it. No legal assignment undercuts the bound, and with no bound none is legal; so
 -- where there is a cost, there is a bound, and it is no more.
 pub record TellsBound (held : Files) (dir : List ℕ) (reading : TableOptions) (before after : Option (List ℕ)) : Type 0 where
   pub tables : Tables
   pub cost : Option ℤ
   pub bound : Option ℤ
-  pub there : AllStand held dir proof_files
-  pub reads : Reads (table_bytes (bytes_in held dir)) reading.settings tables
+  pub there : AllStand held dir (proof_files reading)
+  pub reads : FilesRead (table_bytes (bytes_in held dir)) reading tables
   pub plan : IfSome cost (PlanThere held dir tables)
   pub proven : BoundsAll tables bound
   pub under : IfSome cost (IsUnder bound)
   pub put : after ≡ output_with before (checked_text cost (checked.Holds bound))
 
--- The five files read as tables, and a fleet of theirs has the name. What was put is a bound for the tables in which that
+-- The files read as tables, and a fleet of theirs has the name. What was put is a bound for the tables in which that
 -- fleet has so many aircraft, and is else like them: each assignment that is legal there costs at least the bound, and with no bound
 -- none is legal there.
 pub record TellsOther (held : Files) (dir : List ℕ) (reading : TableOptions) (name : List ℕ) (count : ℕ) (before after : Option (List ℕ)) : Type 0 where
@@ -109,8 +112,8 @@ pub record TellsOther (held : Files) (dir : List ℕ) (reading : TableOptions) (
   pub fleet : ℕ
   pub other : Tables
   pub bound : Option ℤ
-  pub there : AllStand held dir proof_files
-  pub reads : Reads (table_bytes (bytes_in held dir)) reading.settings tables
+  pub there : AllStand held dir (proof_files reading)
+  pub reads : FilesRead (table_bytes (bytes_in held dir)) reading tables
   pub known : fleet_named tables name ≡ Some fleet
   pub sized : IsOtherSize tables fleet count other
   pub proven : BoundsAll other bound

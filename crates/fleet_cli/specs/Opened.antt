@@ -4,14 +4,14 @@ use Rattle.dual_bound.specs.OfTables.{IsOfTables}
 use Rattle.bound_cert.specs.ReadProof.{ReadsAs}
 use Rattle.bound_cert.specs.declared.reading.Proof.{Proof}
 use Rattle.command_words.specs.Words.{Asked}
-use Rattle.fleet_model.specs.Plain.{IsPlain}
+use Rattle.retime_windows.specs.Settled.{CanSettle}
 use Rattle.fleet_model.specs.Schedule.{fleets_in}
 use Rattle.fleet_model.specs.declared.limits.TheConstants.{MAX_AIRCRAFT}
 use Rattle.fleet_model.specs.declared.options.TableOptions.{TableOptions}
 use Rattle.fleet_model.specs.declared.tables.Tables.{Tables}
 use Rattle.plan_desk.specs.declared.file.DeskFile.{DeskFile}
 use Rattle.plan_desk.specs.declared.file.DeskFile.TheVariants as file
-use Rattle.sched_read.specs.Reading.{Reads, TableBytes}
+use Rattle.table_files.specs.Files.{AllBytes, FilesRead}
 use Rattle.fleet_cli.specs.Answer.{AnswersOf, TellsProof, TellsTree}
 use Rattle.fleet_cli.specs.Contents.{FileBytes, with_plan}
 use Rattle.fleet_cli.specs.Reading.{Follows}
@@ -26,14 +26,14 @@ use Rattle.fleet_cli.specs.declared.opened.Question.TheVariants as question
 use Rattle.fleet_cli.specs.declared.opened.Opened.TheVariants as opened
 
 -- what the bytes of tables come to
-abbrev pub IsLoaded : TableOptions → TableBytes → Loaded → Type 0
+abbrev pub IsLoaded : TableOptions → AllBytes → Loaded → Type 0
 IsLoaded reading bytes (loaded.Refused answer) = RefusesTables bytes reading answer
-IsLoaded reading bytes (loaded.Read tables) = Reads bytes reading.settings tables
+IsLoaded reading bytes (loaded.Read tables) = FilesRead bytes reading tables
 
--- where they read, each leg has one time
-abbrev pub LoadsPlain : Loaded → Type 0
-LoadsPlain (loaded.Refused answer) = ⊤
-LoadsPlain (loaded.Read tables) = IsPlain tables
+-- where they read, plans can be settled on them
+abbrev pub LoadsSettling : Loaded → Type 0
+LoadsSettling (loaded.Refused answer) = ⊤
+LoadsSettling (loaded.Read tables) = CanSettle tables
 
 -- no further file is asked for, and this is the answer
 pub record Settles (asked : Option Asked) (bytes : FileBytes) (answer : Answer) : Type 0 where

@@ -1,5 +1,5 @@
 -- What a command reads, in what order, and what it writes. One case for each command.
-use Rattle.std.specs.Prelude.{◌≡◌, ◌⊎◌, ℕ, ◌+◌, true, List, [], ◌∷◌, ◌++◌, length, Option, Some, None, IsSome}
+use Rattle.std.specs.Prelude.{◌≡◌, ◌⊎◌, ℕ, ◌+◌, Bool, true, false, List, [], ◌∷◌, ◌++◌, length, Option, Some, None, IsSome}
 use Rattle.bound_cert.specs.ReadProof.{ReadsAs}
 use Rattle.bound_cert.specs.declared.reading.Proof.{Proof}
 use Rattle.command_words.specs.Words.{Asked, check, due, judge, make, solve, tails, whatif}
@@ -9,29 +9,38 @@ use Rattle.plan_desk.specs.Desk.{Files}
 use Rattle.plan_desk.specs.DeskFile.{path_of}
 use Rattle.plan_desk.specs.declared.file.DeskFile.{DeskFile}
 use Rattle.plan_desk.specs.declared.file.DeskFile.TheVariants as file
-use Rattle.sched_read.specs.Reading.{Reads, TableBytes}
+use Rattle.table_files.specs.Files.{AllBytes, FilesRead}
 use Rattle.fleet_cli.specs.Contents.{FileBytes, bytes_in, table_bytes}
 use Rattle.fleet_cli.specs.Gathered.{AllStand, ComesTo, IsAmong, IsFirstMissing, IsFirstTooLong, IsHeld}
 use Rattle.fleet_cli.specs.Refusals.{fleet_named}
 
 -- the five tables, in the order in which they are read
-abbrev pub table_files : List DeskFile
-table_files = file.Stations ∷ file.Fleets ∷ file.Legs ∷ file.Costs ∷ file.Throughs ∷ []
+abbrev pub five_tables : List DeskFile
+five_tables = file.Stations ∷ file.Fleets ∷ file.Legs ∷ file.Costs ∷ file.Throughs ∷ []
+
+-- a table that is read where it is asked for
+abbrev pub where_asked : Bool → DeskFile → List DeskFile
+where_asked true f = f ∷ []
+where_asked false f = []
+
+-- the tables that are read by these options, in their order
+abbrev pub tables_of : TableOptions → List DeskFile
+tables_of reading = five_tables ++ where_asked reading.windows file.Windows ++ where_asked reading.optional file.Optional
 
 -- and files that are read after them
-abbrev pub tables_and : List DeskFile → List DeskFile
-tables_and more = table_files ++ more
+abbrev pub tables_and : TableOptions → List DeskFile → List DeskFile
+tables_and reading more = tables_of reading ++ more
 
 -- the files that judging (and telling tails), telling named tails, and checking (and asking about another size) read first,
 -- in their order
-abbrev pub judge_files : List DeskFile
-judge_files = tables_and (file.Plan ∷ [])
+abbrev pub judge_files : TableOptions → List DeskFile
+judge_files reading = tables_and reading (file.Plan ∷ [])
 
-abbrev pub due_files : List DeskFile
-due_files = tables_and (file.Tails ∷ file.Plan ∷ [])
+abbrev pub due_files : TableOptions → List DeskFile
+due_files reading = tables_and reading (file.Tails ∷ file.Plan ∷ [])
 
-abbrev pub proof_files : List DeskFile
-proof_files = tables_and (file.Proof ∷ [])
+abbrev pub proof_files : TableOptions → List DeskFile
+proof_files reading = tables_and reading (file.Proof ∷ [])
 
 -- the folder that words ask about
 abbrev pub folder_of : Option Asked → List ℕ
@@ -47,24 +56,24 @@ folder_of (Some (whatif dir reading name count)) = dir
 -- the files that are read first, in their order
 abbrev pub first_files : Option Asked → List DeskFile
 first_files None = []
-first_files (Some (judge dir reading)) = judge_files
-first_files (Some (solve dir reading options)) = table_files
-first_files (Some (check dir reading)) = proof_files
-first_files (Some (tails dir reading limits dates)) = judge_files
-first_files (Some (due dir reading limits dates)) = due_files
+first_files (Some (judge dir reading)) = judge_files reading
+first_files (Some (solve dir reading options)) = tables_of reading
+first_files (Some (check dir reading)) = proof_files reading
+first_files (Some (tails dir reading limits dates)) = judge_files reading
+first_files (Some (due dir reading limits dates)) = due_files reading
 first_files (Some (make dir number legs)) = []
-first_files (Some (whatif dir reading name count)) = proof_files
+first_files (Some (whatif dir reading name count)) = proof_files reading
 
 -- the tables and the proof read, and the proof says that a plan comes with it
-pub record WantsPlan (reading : TableOptions) (bytes : TableBytes) (text : List ℕ) : Type 0 where
+pub record WantsPlan (reading : TableOptions) (bytes : AllBytes) (text : List ℕ) : Type 0 where
   pub tables : Tables
   pub proof : Proof
-  pub reads : Reads bytes reading.settings tables
+  pub reads : FilesRead bytes reading tables
   pub proof_reads : ReadsAs tables text proof
   pub planned : proof.planned ≡ true
 
 -- .. and the tables have a fleet of this name
-pub record WantsPlanOf (name : List ℕ) (reading : TableOptions) (bytes : TableBytes) (text : List ℕ) : Type 0 where
+pub record WantsPlanOf (name : List ℕ) (reading : TableOptions) (bytes : AllBytes) (text : List ℕ) : Type 0 where
   pub wants : WantsPlan reading bytes text
   pub known : IsSome (fleet_named wants.tables name)
 
@@ -91,7 +100,7 @@ written_files (Some (solve dir reading options)) = solution_files
 written_files (Some (check dir reading)) = []
 written_files (Some (tails dir reading limits dates)) = []
 written_files (Some (due dir reading limits dates)) = []
-written_files (Some (make dir number legs)) = tables_and solution_files
+written_files (Some (make dir number legs)) = five_tables ++ solution_files
 written_files (Some (whatif dir reading name count)) = []
 
 -- how many files the first ones may ask for

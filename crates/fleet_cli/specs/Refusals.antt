@@ -15,7 +15,7 @@ use Rattle.plan_judge.specs.Verdicts.{IsVerdict}
 use Rattle.plan_judge.specs.declared.verdicts.Verdict.{Verdict}
 use Rattle.plan_judge.specs.declared.verdicts.Verdict.TheVariants as verdict
 use Rattle.plan_text.specs.Reading.{PlanBad, fleet_names}
-use Rattle.sched_read.specs.Reading.{BadAt, TableBytes}
+use Rattle.table_files.specs.Files.{AllBytes, FilesBad}
 use Rattle.table_rows.specs.Names.{number_of}
 use Rattle.fleet_cli.specs.Texts.{bad_input_text, desk_file_of, plan_refused_text, proof_refused_text, unknown_fleet_text, verdict_text}
 use Rattle.tail_dates.specs.TailTable.{TailsBad}
@@ -33,11 +33,11 @@ pub record RefusesLength (too_long : DeskFile → Type 0) (answer : Answer) : Ty
   pub is : answer ≡ says BAD_INPUT (bad_input_text file 0 TOO_LONG)
 
 -- the tables have a first fault
-pub record RefusesTables (bytes : TableBytes) (reading : TableOptions) (answer : Answer) : Type 0 where
+pub record RefusesTables (bytes : AllBytes) (reading : TableOptions) (answer : Answer) : Type 0 where
   pub file : TableFile
   pub row : ℕ
   pub kind : ℕ
-  pub bad : BadAt bytes reading.settings file row kind
+  pub bad : FilesBad bytes reading file row kind
   pub is : answer ≡ says BAD_INPUT (bad_input_text (desk_file_of file) row kind)
 
 -- the table of tails has a first fault

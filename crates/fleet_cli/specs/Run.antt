@@ -15,14 +15,14 @@ use Rattle.plan_desk.specs.DeskFile.{path_of}
 use Rattle.plan_desk.specs.declared.file.DeskFile.{DeskFile}
 use Rattle.plan_desk.specs.declared.file.DeskFile.TheVariants as desk_file
 use Rattle.plan_text.specs.Reading.{PlanReads}
-use Rattle.sched_read.specs.Reading.{Reads}
+use Rattle.table_files.specs.Files.{FilesRead}
 use Rattle.tail_dates.specs.TailTable.{TailsRead}
 use Rattle.tail_dates.specs.declared.tails.TailState.{TailState}
 use Rattle.fleet_cli.specs.Answer.{Answers, AnswersSome}
 use Rattle.fleet_cli.specs.Contents.{bytes_in, table_bytes}
 use Rattle.fleet_cli.specs.Gathered.{AllStand, IsHeld, ReadFails}
 use Rattle.fleet_cli.specs.Laws.{IsFixed}
-use Rattle.fleet_cli.specs.Reading.{IsMissing, IsRead, due_files, folder_of, judge_files, proof_files, table_files, written_files}
+use Rattle.fleet_cli.specs.Reading.{IsMissing, IsRead, due_files, folder_of, judge_files, proof_files, tables_of, written_files}
 use Rattle.fleet_cli.specs.Refusals.{fleet_named}
 use Rattle.fleet_cli.specs.Texts.{fault_text}
 use Rattle.command_words.specs.Words.{Asked, check, due, judge, make, solve, tails, whatif}
@@ -60,8 +60,8 @@ AnswersExactly held asked code before after = (answer : Answer) → Answers held
 pub record LegalThere (held : Files) (dir : List ℕ) (reading : TableOptions) : Type 0 where
   pub tables : Tables
   pub plan : List ℕ
-  pub there : AllStand held dir judge_files
-  pub reads : Reads (table_bytes (bytes_in held dir)) reading.settings tables
+  pub there : AllStand held dir (judge_files reading)
+  pub reads : FilesRead (table_bytes (bytes_in held dir)) reading tables
   pub plan_reads : PlanReads tables (records_of (bytes_in held dir desk_file.Plan)) plan
   pub legal : IsLegal tables plan
 
@@ -70,8 +70,8 @@ pub record DueThere (held : Files) (dir : List ℕ) (reading : TableOptions) : T
   pub tables : Tables
   pub tails : List TailState
   pub plan : List ℕ
-  pub there : AllStand held dir due_files
-  pub reads : Reads (table_bytes (bytes_in held dir)) reading.settings tables
+  pub there : AllStand held dir (due_files reading)
+  pub reads : FilesRead (table_bytes (bytes_in held dir)) reading tables
   pub tails_read : TailsRead (map fleet_name_of tables.fleets) (records_of (bytes_in held dir desk_file.Tails)) tails
   pub plan_reads : PlanReads tables (records_of (bytes_in held dir desk_file.Plan)) plan
   pub legal : IsLegal tables plan
@@ -79,8 +79,8 @@ pub record DueThere (held : Files) (dir : List ℕ) (reading : TableOptions) : T
 -- the files of a folder are tables that read
 pub record TablesThere (held : Files) (dir : List ℕ) (reading : TableOptions) : Type 0 where
   pub tables : Tables
-  pub there : AllStand held dir table_files
-  pub reads : Reads (table_bytes (bytes_in held dir)) reading.settings tables
+  pub there : AllStand held dir (tables_of reading)
+  pub reads : FilesRead (table_bytes (bytes_in held dir)) reading tables
 
 -- a plan stands in the folder that reads on the tables and is legal
 pub record PlanThere (held : Files) (dir : List ℕ) (t : Tables) (cost : ℤ) : Type 0 where
@@ -102,8 +102,8 @@ pub record ProofThere (held : Files) (dir : List ℕ) (reading : TableOptions) :
   pub proof : Proof
   pub cost : Option ℤ
   pub bound : Option ℤ
-  pub there : AllStand held dir proof_files
-  pub reads : Reads (table_bytes (bytes_in held dir)) reading.settings tables
+  pub there : AllStand held dir (proof_files reading)
+  pub reads : FilesRead (table_bytes (bytes_in held dir)) reading tables
   pub proof_reads : ReadsAs tables (bytes_in held dir desk_file.Proof) proof
   pub plan : IsCostThere held dir tables proof.planned cost
   pub holds : HoldsWith tables cost proof.tree bound

@@ -9,19 +9,20 @@ use Rattle.fleet_model.specs.declared.options.TableOptions.{TableOptions}
 use Rattle.fleet_model.specs.declared.tables.Tables.{Tables}
 use Rattle.fleet_tables.specs.Fleets.{fleet_name_of}
 use Rattle.plan_text.specs.Reading.{PlanReads}
-use Rattle.sched_read.specs.Reading.{Reads, TableBytes}
+use Rattle.retime_windows.specs.Settled.{IsSettled}
+use Rattle.table_files.specs.Files.{AllBytes, FilesRead}
 use Rattle.fleet_cli.specs.Refusals.{RefusesFleet, RefusesPlan, RefusesProof, RefusesTables, RefusesTails, RefusesVerdict, fleet_named}
 use Rattle.tail_dates.specs.TailTable.{TailsRead}
 use Rattle.tail_dates.specs.declared.tails.TailState.{TailState}
 use Rattle.fleet_cli.specs.declared.answer.Answer.{Answer}
 
 -- the tables read, and the rest is answered on them
-pub record TablesRead (reading : TableOptions) (bytes : TableBytes) (finish : Tables → Answer → Type 0) (answer : Answer) : Type 0 where
+pub record TablesRead (reading : TableOptions) (bytes : AllBytes) (finish : Tables → Answer → Type 0) (answer : Answer) : Type 0 where
   pub tables : Tables
-  pub reads : Reads bytes reading.settings tables
+  pub reads : FilesRead bytes reading tables
   pub finishes : finish tables answer
 
-abbrev pub OnTables : TableOptions → TableBytes → (Tables → Answer → Type 0) → Answer → Type 0
+abbrev pub OnTables : TableOptions → AllBytes → (Tables → Answer → Type 0) → Answer → Type 0
 OnTables reading bytes finish answer = RefusesTables bytes reading answer ⊎ TablesRead reading bytes finish answer
 
 -- the table of tails reads, and the rest is answered on the tails
@@ -67,3 +68,10 @@ pub record ProofRead (t : Tables) (bytes : List ℕ) (finish : Proof → Answer 
 
 abbrev pub OnProof : Tables → List ℕ → (Proof → Answer → Type 0) → Answer → Type 0
 OnProof t bytes finish answer = RefusesProof t bytes answer ⊎ ProofRead t bytes finish answer
+
+-- the plan is settled, and the rest is answered on the tables in which each leg departs when it says, and on the plan there
+pub record OnShown (t : Tables) (finish : Tables → List ℕ → Answer → Type 0) (plan : List ℕ) (answer : Answer) : Type 0 where
+  pub shown : Tables
+  pub flown : List ℕ
+  pub settled : IsSettled t plan shown flown
+  pub finishes : finish shown flown answer

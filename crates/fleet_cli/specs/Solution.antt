@@ -15,6 +15,7 @@ use Rattle.plan_report.specs.Summary.{summary_text}
 use Rattle.fleet_rotations.specs.declared.made.FleetRotation.{FleetRotation}
 use Rattle.plan_rotations.specs.Rotations.{ArePlanRotations}
 use Rattle.plan_text.specs.Text.{plan_text}
+use Rattle.retime_windows.specs.Settled.{IsSettled}
 use Rattle.fleet_cli.specs.declared.answer.Answer.{Answer}
 use Rattle.fleet_cli.specs.declared.answer.FileText.{FileText}
 use Rattle.fleet_cli.specs.declared.status.TheConstants.{DONE, GAP, INFEASIBLE, UNSETTLED}
@@ -25,11 +26,17 @@ solved_status (solved.Planned plan cost bound tree) = if has_open tree then GAP 
 solved_status (solved.Infeasible tree) = INFEASIBLE
 solved_status (solved.Unsettled bound tree) = UNSETTLED
 
--- the rotations of a solution: those of its plan, and none where it has none
-abbrev pub AreRotationsOf : Tables → RotationLimits → Solved → List FleetRotation → Type 0
-AreRotationsOf t limits (solved.Planned plan cost bound tree) rotations = ArePlanRotations t plan limits.days limits.visits rotations
-AreRotationsOf t limits (solved.Infeasible tree) rotations = rotations ≡ []
-AreRotationsOf t limits (solved.Unsettled bound tree) rotations = rotations ≡ []
+-- The rotations of a plan, made on the tables that are shown: there each leg departs when the plan says, and the same fleets
+-- fly.
+pub record RotatesPlan (t : Tables) (limits : RotationLimits) (plan : List ℕ) (shown : Tables) (flown : List ℕ) (rotations : List FleetRotation) : Type 0 where
+  pub settled : IsSettled t plan shown flown
+  pub rotates : ArePlanRotations shown flown limits.days limits.visits rotations
+
+-- the rotations of a solution, and the tables that they are of: those of its plan, and none where it has none
+abbrev pub AreRotationsOf : Tables → RotationLimits → Solved → Tables → List FleetRotation → Type 0
+AreRotationsOf t limits (solved.Planned plan cost bound tree) shown rotations = (flown : List ℕ) × RotatesPlan t limits plan shown flown rotations
+AreRotationsOf t limits (solved.Infeasible tree) shown rotations = (shown ≡ t) × (rotations ≡ [])
+AreRotationsOf t limits (solved.Unsettled bound tree) shown rotations = (shown ≡ t) × (rotations ≡ [])
 
 -- what is printed: the summary in lines, or as JSON
 abbrev pub printed_text : Tables → Bool → Solved → List FleetRotation → List ℕ
@@ -50,16 +57,16 @@ proof_file t planned tree = record { file = desk_file.Proof; bytes = proof_text 
 abbrev pub rotation_file : Tables → List FleetRotation → ℕ → FileText
 rotation_file t rotations visits = record { file = desk_file.Rotation; bytes = rotation_text t rotations visits }
 
--- the files that are written of a solution, in their order
-unfoldable pub solved_files : Tables → Solved → List FleetRotation → ℕ → List FileText
-solved_files t (solved.Planned plan cost bound tree) rotations visits = plan_file t plan ∷ proof_file t true tree ∷ rotation_file t rotations visits ∷ []
-solved_files t (solved.Infeasible tree) rotations visits = proof_file t false tree ∷ rotation_file t rotations visits ∷ []
-solved_files t (solved.Unsettled bound tree) rotations visits = proof_file t false tree ∷ rotation_file t rotations visits ∷ []
+-- the files that are written of a solution, in their order; its rotations are of the tables that are shown
+unfoldable pub solved_files : Tables → Tables → Solved → List FleetRotation → ℕ → List FileText
+solved_files t shown (solved.Planned plan cost bound tree) rotations visits = plan_file t plan ∷ proof_file t true tree ∷ rotation_file shown rotations visits ∷ []
+solved_files t shown (solved.Infeasible tree) rotations visits = proof_file t false tree ∷ rotation_file shown rotations visits ∷ []
+solved_files t shown (solved.Unsettled bound tree) rotations visits = proof_file t false tree ∷ rotation_file shown rotations visits ∷ []
 
 -- what a run answers of a solution and its rotations
-abbrev pub solved_answer : Tables → SolveOptions → Solved → List FleetRotation → Answer
-solved_answer t options s rotations = record {
+abbrev pub solved_answer : Tables → Tables → SolveOptions → Solved → List FleetRotation → Answer
+solved_answer t shown options s rotations = record {
   status = record { code = solved_status s };
   text = printed_text t options.json s rotations;
-  files = solved_files t s rotations options.rotations.visits;
+  files = solved_files t shown s rotations options.rotations.visits;
 }

@@ -26,13 +26,15 @@ pub record ReadsAndHolds (t : Tables) (s : Solved) : Type 0 where
   pub says : proof.planned ≡ is_planned s
   pub holds : HoldsWith t (plan_cost s) proof.tree (printed_bound s)
 
--- minutes are counted from the same day start, in periods of as many days
+-- minutes are counted from the same day start, in periods of as many days, and the same tables are asked for
 pub record CountAlike (a b : TableOptions) : Type 0 where
   pub day_start : a.settings.day_start ≡ b.settings.day_start
   pub days : a.settings.period ≡ b.settings.period
+  pub windows : a.windows ≡ b.windows
+  pub optional : a.optional ≡ b.optional
 
--- Where a run gave a solution, and checking by the same day start and days of the period, whatever the longest wait of a
--- through pair, reads what then stands, it answers that the proof holds.
+-- Where a run gave a solution, and checking by the same day start and days of the period and on the same tables, whatever the
+-- longest wait of a through pair, reads what then stands, it answers that the proof holds.
 abbrev pub SolvedIsChecked : Type 0
 SolvedIsChecked = (held stands : Files) (dir : List ℕ) (solving checking : TableOptions) (options : SolveOptions) (code : ℕ) (before after : Option (List ℕ)) (answer : Answer)
     → CountAlike solving checking → AnswersInFull held (Some (solve dir solving options)) code (Some stands) before after → IsSolution code

@@ -40,10 +40,14 @@ pub fn first_files(command: &Command<'_>) -> FileList
     ensures { result ≡ first_files (Some (asked_by command.now)) }
 {
     match command {
-        Command::Judge { .. } | Command::Tails { .. } => FileList::tables_and(DeskFile::Plan),
-        Command::Due { .. } => FileList::tables_and_tails(),
-        Command::Solve { .. } => FileList::tables(),
-        Command::Check { .. } | Command::Whatif { .. } => FileList::tables_and(DeskFile::Proof),
+        Command::Judge { reading, .. } | Command::Tails { reading, .. } => {
+            FileList::tables_and(*reading, DeskFile::Plan)
+        }
+        Command::Due { reading, .. } => FileList::tables_and_tails(*reading),
+        Command::Solve { reading, .. } => FileList::tables(*reading),
+        Command::Check { reading, .. } | Command::Whatif { reading, .. } => {
+            FileList::tables_and(*reading, DeskFile::Proof)
+        }
         Command::Make { .. } => FileList::empty(),
     }
 }

@@ -2,8 +2,9 @@
 ghost use Rattle.std.specs.Prelude.{◌≡◌, ◌<◌, ◌≤◌, ◌++◌, [], ◌∷◌, List, length, take};
 ghost use Rattle.plan_desk.specs.declared.file.DeskFile.{DeskFile};
 ghost use Rattle.fleet_cli.specs.declared.files.TheConstants.{MOST_FILES};
-ghost use Rattle.fleet_cli.specs.Reading.{due_files, table_files, tables_and};
+ghost use Rattle.fleet_cli.specs.Reading.{due_files, five_tables, tables_and, tables_of};
 
+use fleet_model::TableOptions;
 use plan_desk::DeskFile;
 use std::marker::Model;
 
@@ -38,9 +39,23 @@ impl FileList {
         }
     }
 
+    /// The tables that are read by these options.
+    pub fn tables(reading: TableOptions) -> Self
+        ensures { result ≡ tables_of reading }
+    {
+        let mut files = FileList::five_tables();
+        if reading.windows {
+            files.push(DeskFile::Windows);
+        }
+        if reading.optional {
+            files.push(DeskFile::Optional);
+        }
+        files
+    }
+
     /// The five tables.
-    pub fn tables() -> Self
-        ensures { result ≡ table_files }
+    fn five_tables() -> Self
+        ensures { result ≡ five_tables }
     {
         let mut files = FileList::empty();
         files.push(DeskFile::Stations);
@@ -51,20 +66,20 @@ impl FileList {
         files
     }
 
-    /// The five tables, and a file after them.
-    pub fn tables_and(last: DeskFile) -> Self
-        ensures { result ≡ tables_and (last ∷ []) }
+    /// The tables, and a file after them.
+    pub fn tables_and(reading: TableOptions, last: DeskFile) -> Self
+        ensures { result ≡ tables_and reading (last ∷ []) }
     {
-        let mut files = FileList::tables();
+        let mut files = FileList::tables(reading);
         files.push(last);
         files
     }
 
-    /// The five tables, the table of tails, and the plan.
-    pub fn tables_and_tails() -> Self
-        ensures { result ≡ due_files }
+    /// The tables, the table of tails, and the plan.
+    pub fn tables_and_tails(reading: TableOptions) -> Self
+        ensures { result ≡ due_files reading }
     {
-        let mut files = FileList::tables_and(DeskFile::Tails);
+        let mut files = FileList::tables_and(reading, DeskFile::Tails);
         files.push(DeskFile::Plan);
         files
     }

@@ -17,6 +17,7 @@ mod opened;
 mod placing;
 mod refusing;
 mod running;
+mod showing;
 mod solution;
 mod solving;
 mod status;

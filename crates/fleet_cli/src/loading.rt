@@ -1,7 +1,7 @@
 //! The tables of a folder.
 ghost use Rattle.std.specs.Prelude.{IfOk};
 ghost use Rattle.fleet_cli.specs.Contents.{content_of, table_bytes};
-ghost use Rattle.fleet_cli.specs.Opened.{IsLoaded, LoadsPlain};
+ghost use Rattle.fleet_cli.specs.Opened.{IsLoaded, LoadsSettling};
 ghost use Rattle.fleet_model.specs.Limits.{AreSettings};
 
 use crate::answer::Answer;
@@ -9,8 +9,8 @@ use crate::contents::Contents;
 use crate::refusing::tables_refused;
 use entries::NoMemory;
 use fleet_model::{LoadError, TableOptions, Tables};
-use sched_read::load;
 use std::alloc::Global;
+use table_files::{FileTexts, load_files};
 
 /// What the bytes of tables come to.
 #[derive(Drop)]
@@ -29,18 +29,18 @@ pub fn load_tables(
 ) -> Result<Loaded, NoMemory>
     requires { AreSettings reading.settings }
     ensures read { IfOk result (IsLoaded reading (table_bytes (content_of contents.now))) }
-    ensures plain { IfOk result LoadsPlain }
+    ensures settles { IfOk result LoadsSettling }
 {
-    let loaded = load(
-        alloc,
-        contents.stations.as_slice(),
-        contents.fleets.as_slice(),
-        contents.legs.as_slice(),
-        contents.costs.as_slice(),
-        contents.throughs.as_slice(),
-        reading.settings,
-    );
-    match loaded {
+    let texts = FileTexts {
+        stations: contents.stations.as_slice(),
+        fleets: contents.fleets.as_slice(),
+        legs: contents.legs.as_slice(),
+        costs: contents.costs.as_slice(),
+        throughs: contents.throughs.as_slice(),
+        windows: contents.windows.as_slice(),
+        optional: contents.optional.as_slice(),
+    };
+    match load_files(alloc, &texts, reading) {
         Ok(tables) => Ok(Loaded::Read(tables)),
         Err(LoadError::Bad(bad)) => Ok(Loaded::Refused(tables_refused(alloc, bad)?)),
         Err(LoadError::NoMemory) => Err(NoMemory),

@@ -2,18 +2,20 @@
 ghost use Rattle.std.specs.Prelude.{◌≡◌, IfOk};
 ghost use Rattle.command_words.specs.Arguments.{AreDates, AreRotationLimits};
 ghost use Rattle.command_words.specs.Words.{dates_by};
-ghost use Rattle.fleet_cli.specs.Answer.{DueOf, DueOn, DueWith, TellsDue, due_status};
+ghost use Rattle.fleet_cli.specs.Answer.{DueOf, DueOn, DueWith, TellsDue, TellsStarts, due_status};
 ghost use Rattle.fleet_cli.specs.Skeletons.{OnLegal};
 ghost use Rattle.fleet_cli.specs.Contents.{content_of, table_bytes};
 ghost use Rattle.fleet_model.specs.Legal.{IsAssignment, IsLegal};
 ghost use Rattle.fleet_model.specs.Limits.{AreSettings};
 ghost use Rattle.fleet_model.specs.Plain.{IsPlain};
+ghost use Rattle.retime_windows.specs.Settled.{CanSettle};
 
 use crate::answer::Answer;
 use crate::contents::Contents;
 use crate::judging::tell_verdict;
 use crate::loading::{Loaded, load_tables};
 use crate::refusing::{plan_fault, tables_refused};
+use crate::showing::shown_by;
 use crate::status::{DONE, UNPLACED};
 use command_words::{Dates, RotationLimits};
 use due_report::{are_unplaced, due_lines, placings};
@@ -63,7 +65,7 @@ fn due_of_tables(
     tails: &[u8],
     plan: &[u8],
 ) -> Result<Answer, NoMemory>
-    requires plain { IsPlain tables.now }
+    requires settles { CanSettle tables.now }
     requires limits { AreRotationLimits limits }
     requires dates { AreDates dates.now }
     ensures { IfOk result (DueOn limits (dates_by dates.now) tails.now plan.now tables.now) }
@@ -84,7 +86,7 @@ fn due_of_tails(
     tails: &[TailState],
     bytes: &[u8],
 ) -> Result<Answer, NoMemory>
-    requires plain { IsPlain tables.now }
+    requires settles { CanSettle tables.now }
     requires limits { AreRotationLimits limits }
     requires dates { AreDates dates.now }
     ensures { IfOk result (DueWith limits (dates_by dates.now) bytes.now tables.now tails.now) }
@@ -105,7 +107,7 @@ fn due_of_judged(
     tails: &[TailState],
     plan: &Assignment,
 ) -> Result<Answer, NoMemory>
-    requires plain { IsPlain tables.now }
+    requires settles { CanSettle tables.now }
     requires limits { AreRotationLimits limits }
     requires dates { AreDates dates.now }
     requires plan { IsAssignment tables.now plan.now }
@@ -126,11 +128,30 @@ fn due_of_legal(
     tails: &[TailState],
     plan: &Assignment,
 ) -> Result<Answer, NoMemory>
-    requires plain { IsPlain tables.now }
+    requires settles { CanSettle tables.now }
     requires limits { AreRotationLimits limits }
     requires dates { AreDates dates.now }
     requires plan { IsLegal tables.now plan.now }
     ensures { IfOk result (TellsDue tables.now limits (dates_by dates.now) tails.now plan.now) }
+{
+    let shown = shown_by(alloc, tables, plan)?;
+    due_of_shown(alloc, &shown.tables, limits, dates, tails, &shown.plan)
+}
+
+/// Tells what tails fly by a legal plan, on tables in which each leg departs when it says.
+fn due_of_shown(
+    alloc: Global,
+    tables: &Tables,
+    limits: RotationLimits,
+    dates: &Dates,
+    tails: &[TailState],
+    plan: &Assignment,
+) -> Result<Answer, NoMemory>
+    requires plain { IsPlain tables.now }
+    requires limits { AreRotationLimits limits }
+    requires dates { AreDates dates.now }
+    requires plan { IsLegal tables.now plan.now }
+    ensures { IfOk result (TellsStarts limits (dates_by dates.now) tails.now tables.now plan.now) }
 {
     let made = rotations(alloc, tables, plan, limits.days, limits.visits)?;
     let placed = placings(alloc, tables, plan, made.as_slice(), tails)?;

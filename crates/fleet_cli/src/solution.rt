@@ -51,22 +51,23 @@ pub fn printed_text(
     }
 }
 
-/// The files that are written of a solution, in their order.
+/// The files that are written of a solution, in their order. Its rotations are of the tables that are shown.
 #[tactic(auto, unfolding(crate::specs::Solution::solved_files))]
 pub fn solved_files(
     alloc: Global,
     tables: &Tables,
+    shown: &Tables,
     solved: &Solved,
     rotations: &[FleetRotation],
     visits: u32,
 ) -> Result<Vec<FileText>, NoMemory>
     requires plan { PlanFits tables.now solved.now }
     requires tree { IsOfTables tables.now (tree_of solved.now) }
-    requires rotations { AreRotations tables.now rotations.now }
-    ensures { IfOk result (λ files. files.items ≡ solved_files tables.now solved.now rotations.now visits) }
+    requires rotations { AreRotations shown.now rotations.now }
+    ensures { IfOk result (λ files. files.items ≡ solved_files tables.now shown.now solved.now rotations.now visits) }
 {
     let mut files = Vec::new(alloc);
-    add_files(alloc, &mut files, tables, solved, rotations, visits)?;
+    add_files(alloc, &mut files, tables, shown, solved, rotations, visits)?;
     Ok(files)
 }
 
@@ -76,14 +77,15 @@ fn add_files(
     alloc: Global,
     files: &mut Vec<FileText>,
     tables: &Tables,
+    shown: &Tables,
     solved: &Solved,
     rotations: &[FleetRotation],
     visits: u32,
 ) -> Result<(), NoMemory>
     requires plan { PlanFits tables.now solved.now }
     requires tree { IsOfTables tables.now (tree_of solved.now) }
-    requires rotations { AreRotations tables.now rotations.now }
-    ensures { OnOk result (files.new.items ≡ files.old.items ++ solved_files tables.now solved.now rotations.now visits) }
+    requires rotations { AreRotations shown.now rotations.now }
+    ensures { OnOk result (files.new.items ≡ files.old.items ++ solved_files tables.now shown.now solved.now rotations.now visits) }
 {
     match solved {
         Solved::Planned {
@@ -92,10 +94,10 @@ fn add_files(
             ..
         } => {
             files.push(plan_file(alloc, tables, assignment)?)?;
-            add_proof(alloc, files, tables, true, tree, rotations, visits)
+            add_proof(alloc, files, tables, shown, true, tree, rotations, visits)
         }
         Solved::Infeasible { tree } | Solved::Unsettled { tree, .. } => {
-            add_proof(alloc, files, tables, false, tree, rotations, visits)
+            add_proof(alloc, files, tables, shown, false, tree, rotations, visits)
         }
     }
 }
@@ -105,17 +107,18 @@ fn add_proof(
     alloc: Global,
     files: &mut Vec<FileText>,
     tables: &Tables,
+    shown: &Tables,
     planned: bool,
     tree: &Tree,
     rotations: &[FleetRotation],
     visits: u32,
 ) -> Result<(), NoMemory>
     requires tree { IsOfTables tables.now tree.now }
-    requires rotations { AreRotations tables.now rotations.now }
-    ensures { OnOk result (files.new.items ≡ files.old.items ++ proof_file tables.now planned tree.now ∷ rotation_file tables.now rotations.now visits ∷ []) }
+    requires rotations { AreRotations shown.now rotations.now }
+    ensures { OnOk result (files.new.items ≡ files.old.items ++ proof_file tables.now planned tree.now ∷ rotation_file shown.now rotations.now visits ∷ []) }
 {
     files.push(proof_file(alloc, tables, planned, tree)?)?;
-    files.push(rotation_file(alloc, tables, rotations, visits)?)?;
+    files.push(rotation_file(alloc, shown, rotations, visits)?)?;
     Ok(())
 }
 

@@ -3,22 +3,27 @@ ghost use Rattle.std.specs.Prelude.{◌≡◌, IfOk};
 ghost use Rattle.dual_bound.specs.OfTables.{IsOfTables};
 ghost use Rattle.branch_bound.specs.Solved.{IsRight, PlanFits, tree_of};
 ghost use Rattle.command_words.specs.Arguments.{AreOptions, AreRotationLimits};
-ghost use Rattle.fleet_cli.specs.Answer.{GivesSolution, Solves};
+ghost use Rattle.fleet_cli.specs.Answer.{GivesSolution, ShowsRotations, ShowsSolution, Solves};
 ghost use Rattle.fleet_cli.specs.Contents.{content_of, table_bytes};
-ghost use Rattle.fleet_cli.specs.Solution.{AreRotationsOf, solved_answer};
+ghost use Rattle.fleet_cli.specs.Skeletons.{OnShown};
+ghost use Rattle.fleet_cli.specs.Solution.{solved_answer};
+ghost use Rattle.fleet_model.specs.Legal.{IsLegal};
 ghost use Rattle.fleet_model.specs.Limits.{AreSettings};
 ghost use Rattle.fleet_model.specs.Plain.{IsPlain};
+ghost use Rattle.fleet_model.specs.Schedule.{fleets_in, legs_in};
 ghost use Rattle.fleet_rotations.specs.Rotations.{AreRotations};
+ghost use Rattle.retime_windows.specs.Settled.{CanSettle};
 
 use crate::answer::Answer;
 use crate::contents::Contents;
 use crate::loading::{Loaded, load_tables};
+use crate::showing::shown_by;
 use crate::solution::{printed_text, solved_files, status_of};
 use crate::status::Status;
 use branch_bound::{Solved, solve};
-use command_words::{RotationLimits, SolveOptions};
+use command_words::SolveOptions;
 use entries::{Entries, NoMemory};
-use fleet_model::{TableOptions, Tables};
+use fleet_model::{Assignment, TableOptions, Tables};
 use fleet_rotations::FleetRotation;
 use plan_rotations::rotations;
 use std::alloc::Global;
@@ -46,42 +51,83 @@ pub fn solve_tables(
     tables: &Tables,
     options: SolveOptions,
 ) -> Result<Answer, NoMemory>
-    requires plain { IsPlain tables.now }
+    requires settles { CanSettle tables.now }
     requires options { AreOptions options }
     ensures { IfOk result (GivesSolution options tables.now) }
 {
     let solved = solve(alloc, tables, options.search.nodes, options.search.pivots)?;
-    let made = rotations_of(alloc, tables, &solved, options.rotations)?;
-    answer_of(alloc, tables, options, &solved, made.as_slice())
+    show_solved(alloc, tables, options, &solved)
 }
 
-/// The rotations of a solution: those of its plan, and none where it has none.
-fn rotations_of(
+/// The answer of a solution, with the rotations of its plan, and none where it has none.
+fn show_solved(
     alloc: Global,
     tables: &Tables,
+    options: SolveOptions,
     solved: &Solved,
-    limits: RotationLimits,
-) -> Result<Entries<FleetRotation>, NoMemory>
-    requires plain { IsPlain tables.now }
+) -> Result<Answer, NoMemory>
+    requires settles { CanSettle tables.now }
+    requires options { AreOptions options }
     requires right { IsRight tables.now solved.now }
-    requires limits { AreRotationLimits limits }
-    ensures right { IfOk result (AreRotationsOf tables.now limits solved.now) }
-    ensures known { IfOk result (AreRotations tables.now) }
+    requires tree { IsOfTables tables.now (tree_of solved.now) }
+    ensures { IfOk result (ShowsSolution options tables.now solved.now) }
 {
     match solved {
         Solved::Planned { assignment, .. } => {
-            rotations(alloc, tables, assignment, limits.days, limits.visits)
+            show_planned(alloc, tables, options, solved, assignment)
         }
-        Solved::Infeasible { .. } | Solved::Unsettled { .. } => {
-            Ok(Entries::from_vec(Vec::new(alloc)))
-        }
+        Solved::Infeasible { .. } => answer_of(alloc, tables, tables, options, solved, &[]),
+        Solved::Unsettled { .. } => answer_of(alloc, tables, tables, options, solved, &[]),
     }
 }
 
-/// The answer of a solution and its rotations.
+/// The answer of a solution with this plan, and the plan's rotations.
+fn show_planned(
+    alloc: Global,
+    tables: &Tables,
+    options: SolveOptions,
+    solved: &Solved,
+    plan: &Assignment,
+) -> Result<Answer, NoMemory>
+    requires settles { CanSettle tables.now }
+    requires options { AreOptions options }
+    requires legal { IsLegal tables.now plan.now }
+    requires plan { PlanFits tables.now solved.now }
+    requires tree { IsOfTables tables.now (tree_of solved.now) }
+    ensures { IfOk result (OnShown tables.now (ShowsRotations options tables.now solved.now) plan.now) }
+{
+    let shown = shown_by(alloc, tables, plan)?;
+    show_rotated(alloc, tables, options, solved, &shown.tables, &shown.plan)
+}
+
+/// The answer of a solution, and the rotations of its plan on tables in which each leg departs when the plan says.
+fn show_rotated(
+    alloc: Global,
+    tables: &Tables,
+    options: SolveOptions,
+    solved: &Solved,
+    shown: &Tables,
+    flown: &Assignment,
+) -> Result<Answer, NoMemory>
+    requires options { AreOptions options }
+    requires plan { PlanFits tables.now solved.now }
+    requires tree { IsOfTables tables.now (tree_of solved.now) }
+    requires legs { legs_in shown.now ≡ legs_in tables.now }
+    requires fleets { fleets_in shown.now ≡ fleets_in tables.now }
+    requires plain { IsPlain shown.now }
+    requires legal { IsLegal shown.now flown.now }
+    ensures { IfOk result (ShowsRotations options tables.now solved.now shown.now flown.now) }
+{
+    let limits = options.rotations;
+    let made = rotations(alloc, shown, flown, limits.days, limits.visits)?;
+    answer_of(alloc, tables, shown, options, solved, made.as_slice())
+}
+
+/// The answer of a solution and its rotations, which are of the tables that are shown.
 fn answer_of(
     alloc: Global,
     tables: &Tables,
+    shown: &Tables,
     options: SolveOptions,
     solved: &Solved,
     rotations: &[FleetRotation],
@@ -89,10 +135,18 @@ fn answer_of(
     requires plan { PlanFits tables.now solved.now }
     requires tree { IsOfTables tables.now (tree_of solved.now) }
     requires rotations { AreRotations tables.now rotations.now }
-    ensures { IfOk result (λ answer. answer ≡ solved_answer tables.now options solved.now rotations.now) }
+    requires shown { AreRotations shown.now rotations.now }
+    ensures { IfOk result (λ answer. answer ≡ solved_answer tables.now shown.now options solved.now rotations.now) }
 {
     let text = printed_text(alloc, tables, options.json, solved, rotations)?;
-    let files = solved_files(alloc, tables, solved, rotations, options.rotations.visits)?;
+    let files = solved_files(
+        alloc,
+        tables,
+        shown,
+        solved,
+        rotations,
+        options.rotations.visits,
+    )?;
     Ok(Answer {
         status: Status {
             code: status_of(solved),

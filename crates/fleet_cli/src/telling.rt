@@ -2,18 +2,20 @@
 ghost use Rattle.std.specs.Prelude.{◌≡◌, IfOk};
 ghost use Rattle.command_words.specs.Arguments.{AreDates, AreRotationLimits};
 ghost use Rattle.command_words.specs.Words.{dates_by};
-ghost use Rattle.fleet_cli.specs.Answer.{TailsOf, TailsOn, TellsTails};
+ghost use Rattle.fleet_cli.specs.Answer.{TailsOf, TailsOn, TellsLines, TellsTails};
 ghost use Rattle.fleet_cli.specs.Skeletons.{OnLegal};
 ghost use Rattle.fleet_cli.specs.Contents.{content_of, table_bytes};
 ghost use Rattle.fleet_model.specs.Legal.{IsAssignment, IsLegal};
 ghost use Rattle.fleet_model.specs.Limits.{AreSettings};
 ghost use Rattle.fleet_model.specs.Plain.{IsPlain};
+ghost use Rattle.retime_windows.specs.Settled.{CanSettle};
 
 use crate::answer::Answer;
 use crate::contents::Contents;
 use crate::judging::tell_verdict;
 use crate::loading::{Loaded, load_tables};
 use crate::refusing::plan_fault;
+use crate::showing::shown_by;
 use crate::status::DONE;
 use command_words::{Dates, RotationLimits};
 use entries::NoMemory;
@@ -53,7 +55,7 @@ fn tails_of_plan(
     dates: &Dates,
     bytes: &[u8],
 ) -> Result<Answer, NoMemory>
-    requires plain { IsPlain tables.now }
+    requires settles { CanSettle tables.now }
     requires limits { AreRotationLimits limits }
     requires dates { AreDates dates.now }
     ensures { IfOk result (TailsOn limits (dates_by dates.now) bytes.now tables.now) }
@@ -73,7 +75,7 @@ fn tails_of_judged(
     dates: &Dates,
     plan: &Assignment,
 ) -> Result<Answer, NoMemory>
-    requires plain { IsPlain tables.now }
+    requires settles { CanSettle tables.now }
     requires limits { AreRotationLimits limits }
     requires dates { AreDates dates.now }
     requires plan { IsAssignment tables.now plan.now }
@@ -93,11 +95,29 @@ fn tails_of_legal(
     dates: &Dates,
     plan: &Assignment,
 ) -> Result<Answer, NoMemory>
-    requires plain { IsPlain tables.now }
+    requires settles { CanSettle tables.now }
     requires limits { AreRotationLimits limits }
     requires dates { AreDates dates.now }
     requires plan { IsLegal tables.now plan.now }
     ensures { IfOk result (TellsTails tables.now limits (dates_by dates.now) plan.now) }
+{
+    let shown = shown_by(alloc, tables, plan)?;
+    tails_of_shown(alloc, &shown.tables, limits, dates, &shown.plan)
+}
+
+/// Tells the tails of a legal plan, on tables in which each leg departs when it says.
+fn tails_of_shown(
+    alloc: Global,
+    tables: &Tables,
+    limits: RotationLimits,
+    dates: &Dates,
+    plan: &Assignment,
+) -> Result<Answer, NoMemory>
+    requires plain { IsPlain tables.now }
+    requires limits { AreRotationLimits limits }
+    requires dates { AreDates dates.now }
+    requires plan { IsLegal tables.now plan.now }
+    ensures { IfOk result (TellsLines limits (dates_by dates.now) tables.now plan.now) }
 {
     let made = rotations(alloc, tables, plan, limits.days, limits.visits)?;
     let text = tail_lines(

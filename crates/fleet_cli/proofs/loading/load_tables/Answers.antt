@@ -1,5 +1,5 @@
-use Rattle.fleet_model.proofs.NotAsked.{plain_where_not_asked}
+use Rattle.table_files.proofs.Settling.{plans_settle}
 use Rattle.fleet_cli.proofs.loading.load_tables.Goals as goal
 
-pub returns-in-Ok-clause-plain : goal.returns-in-Ok-clause-plain
-returns-in-Ok-clause-plain c = plain_where_not_asked _ c.in-Ok.ensures.no_windows
+pub returns-in-Ok-clause-settles : goal.returns-in-Ok-clause-settles
+returns-in-Ok-clause-settles c = plans_settle _ _ _ c.in-Ok.ensures

@@ -1,5 +1,4 @@
 use Rattle.std.proofs.Common.{rules, ◌≡◌}
-use Rattle.fleet_model.proofs.NotAsked.{plain_where_not_asked}
 use Rattle.fleet_model.specs.declared.refusals.LoadError.TheVariants as load
 use Rattle.fleet_cli.proofs.MadeFolder.{never_bad}
 use Rattle.fleet_cli.proofs.making.load_made.Goals as goal
@@ -9,6 +8,3 @@ unreachable-requires c =
     let same : c.in-Err-Bad.field-0 ≡ load.Bad c.in-Err-Bad.field-0-0 = search rules in
     never_bad c.args.number c.args.legs c.args.made.now c.load-loaded.result c.in-Err-Bad.field-0 c.in-Err-Bad.field-0-0 c.requires.can c.requires.made
     (rw (c.as_slice.ensures, c.as_slice-2.ensures, c.as_slice-3.ensures, c.as_slice-4.ensures, c.as_slice-5.ensures) at c.load-loaded.ensures) c.in-Err-Bad.is same
-
-pub returns-in-Ok-clause-plain : goal.returns-in-Ok-clause-plain
-returns-in-Ok-clause-plain c = plain_where_not_asked _ c.in-Ok.ensures.no_windows
