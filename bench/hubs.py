@@ -84,7 +84,10 @@ def cost(leg, kind):
 
 
 def kinds_of(fleets):
-    """The kinds of so many fleets."""
+    """The kinds of so many fleets: those above, and for more than eight some with a few seats more."""
+    if fleets > len(KINDS):
+        more = [(seats + step, turn + step, reach + 2 * step, minute + step // 2) for step in (10, 5) for seats, turn, reach, minute in KINDS]
+        return (*KINDS, *more)[:fleets]
     if fleets > 6:
         return KINDS[len(KINDS) - fleets :]
     return KINDS[:2] + KINDS[-(fleets - 2) :] if fleets > 4 else KINDS[1 : fleets + 1]
