@@ -1,5 +1,5 @@
--- The tables and the plan that rotations are made of, and rotations on tables of as many legs and fleets.
-use Rattle.std.proofs.Common.{◌≡◌, ℕ, List, [], Option, Some, None, IfSome, arith}
+-- Rotations on other tables of as many legs and fleets.
+use Rattle.std.proofs.Common.{◌≡◌, ℕ, List, Option, Some, None, IfSome}
 use Rattle.euler_rotation.specs.declared.rotation.Rotation.{Rotation}
 use Rattle.euler_rotation.specs.declared.rotation.Rotation.TheVariants as rotation
 use Rattle.fleet_model.specs.Schedule.{fleets_in, legs_in}
@@ -33,6 +33,3 @@ module _ (t u : Tables) (legs : legs_in u ≡ legs_in t) where
     few = rw (← fleets) x.few;
     each = λ f below. let made = x.each f below in record { pairs = connected (rotation_of all f).pairs made.pairs; first = of_legs (rotation_of all f).first made.first; second = of_legs_if (rotation_of all f).second made.second };
   }
-
-pub no_rotations : (t : Tables) → AreRotations t []
-no_rotations t = record { few = omega arith; each = λ f below. absurd (omega (arith, below)) }
