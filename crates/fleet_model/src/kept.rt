@@ -108,12 +108,9 @@ impl Kept {
         ensures way_back { put_back self.new result ≡ self.old }
     {
         let leg = step.leg;
-        let row = self.rows[leg as usize];
-        self.rows[leg as usize] = row_after(row, step);
-        Undo {
-            leg,
-            row: SavedRow::of(&row),
-        }
+        let row = SavedRow::of(&self.rows[leg as usize]);
+        take(&mut self.rows[leg as usize], step);
+        Undo { leg, row }
     }
 
     /// Takes a step back: the pairs of its leg are again as `narrow` found them. Takes no memory.
@@ -160,19 +157,17 @@ fn with_fleet(row: [bool; MAX_CHOICES], fleet: u32) -> [bool; MAX_CHOICES]
     more
 }
 
-// The row of a step's leg after the step.
-fn row_after(row: [bool; MAX_CHOICES], step: Step) -> [bool; MAX_CHOICES]
+// Takes a step on the row of its leg. It works in place: a copy of a row would count at each level of a deep walk.
+fn take(row: &mut [bool; MAX_CHOICES], step: Step)
     requires { step.choice < MAX_CHOICES }
-    ensures { (f : ℕ) → slice_index_or result f false ≡ (slice_index_or row f false && leaves step (leg_on step.leg f)) }
+    ensures { (f : ℕ) → slice_index_or row.new f false ≡ (slice_index_or row.old f false && leaves step (leg_on step.leg f)) }
 {
-    let fleet = step.choice as usize;
+    let choice = step.choice as usize;
     if step.yes {
-        let mut only = no_fleets();
-        only[fleet] = row[fleet];
-        only
+        let is_kept = row[choice];
+        *row = no_fleets();
+        row[choice] = is_kept;
     } else {
-        let mut others = row;
-        others[fleet] = false;
-        others
+        row[choice] = false;
     }
 }

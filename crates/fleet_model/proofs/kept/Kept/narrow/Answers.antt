@@ -5,9 +5,9 @@ use Rattle.fleet_model.proofs.kept.Kept.narrow.Goals as goal
 
 pub returns-clause-way_back : goal.returns-clause-way_back
 unfolding put_back
-returns-clause-way_back c = rw c.of.ensures (row_put_back c.self.inside.rows c.args.step.leg c.row_after.result ∙ c.self.view_is)
+returns-clause-way_back c = rw c.of-row.ensures (row_put_back c.self.inside.rows c.args.step.leg c.take.new.row ∙ c.self.view_is)
 
 pub returns-clause-kept : goal.returns-clause-kept
 returns-clause-kept c =
-    row_narrowed c.self.inside.rows c.args.step c.row_after.result (omega (arith, c.self.told, c.requires.leg)) c.row_after.ensures
+    row_narrowed c.self.inside.rows c.args.step c.take.new.row (omega (arith, c.self.told, c.requires.leg)) c.take.ensures
     ∙ ap (λ rows. narrowed (kept_by rows) c.args.step) c.self.view_is
