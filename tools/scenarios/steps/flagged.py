@@ -1,8 +1,8 @@
-"""The tables that a call reads only where a flag of it says so."""
+"""The tables that a call reads only where a flag of it says so, and what a plan makes of them."""
 
 import os
 
-from hints.records import ASKED, TABLES
+from hints.records import ASKED, HEADERS, NO_FLEET, SHIFTED, TABLES, table_of
 
 # Of each flag its table.
 FLAGGED = {f"--{option}": name for option, name in ASKED.items()}
@@ -16,3 +16,14 @@ def flags_of(folder):
 def tables_in(folder):
     """Returns the names of the tables that stand in a folder of a scenario."""
     return [*TABLES, *(FLAGGED[it] for it in flags_of(folder))]
+
+
+def moved_and_left_out(folder, words):
+    """Returns how many legs of a folder's plan depart at another time than their own, and how many it leaves out; None of each where
+    the words of the call don't let it."""
+    if not FLAGGED.keys() & set(words):
+        return None, None
+    _, rows = table_of(folder, "plan.csv", (HEADERS["plan.csv"], SHIFTED))
+    moved = sum(it[2] != "0" for it in rows) if "--windows" in words else None
+    left_out = sum(it[1] == NO_FLEET for it in rows) if "--optional" in words else None
+    return moved, left_out

@@ -12,10 +12,13 @@ from steps.running import run
 
 # Stands beside tables that can't be solved, and says why.
 REFUSED = "refused.txt"
+# The statuses by which words and tables are refused.
+REFUSALS = (2, 6)
 
 
 def lay(program, files, texts, period, place, limits):
-    """Makes the folder of the tables, from these files and with these changes. Before they are changed their period has so many days."""
+    """Makes the folder of the tables, from these files and with these changes. Before they are changed they repeat after `period` days,
+    a word of the call."""
     with whole.folder(place) as beside:
         for it in files:
             shutil.copyfile(it, os.path.join(beside, os.path.basename(it)))
@@ -25,13 +28,13 @@ def lay(program, files, texts, period, place, limits):
 
 
 def refused(program, folder, period, limits):
-    """Returns why the program refuses the tables of a folder, or None where they read. It judges an empty plan, of which it tells
-    a fault only where all tables read."""
+    """Returns why the program refuses the tables of a folder or the period, or None where they read. It judges an empty plan, of which
+    it tells a fault only where all tables read."""
     plan = os.path.join(folder, "plan.csv")
     whole.write(plan, "")
-    ran = run(program, ["judge", folder, *(["--period", str(period)] if period > 1 else []), *flags_of(folder)], limits)
+    ran = run(program, ["judge", folder, f"--period={period}", *flags_of(folder)], limits)
     os.remove(plan)
-    return ran.told if ran.status == 6 else None
+    return ran.told if ran.status in REFUSALS else None
 
 
 def changed(folder, texts):

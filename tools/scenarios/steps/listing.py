@@ -11,7 +11,7 @@ from steps.flagged import FLAGGED
 
 HEADER = ("scenario", "words", "folder", "changes")
 NAME = re.compile(r"[A-Za-z0-9][A-Za-z0-9_.+-]{0,63}")
-MOST_DAYS = 7
+MOST_DAYS = "7"
 
 
 class Scenario:
@@ -32,10 +32,11 @@ class Scenario:
 
     @property
     def period(self):
-        """After how many days the schedule repeats before it is changed: as the words say, or 7 at most where a day alone is wanted."""
+        """After how many days the schedule repeats before it is changed: as the words say, whatever stands there, or 7 at most where
+        a day alone is wanted."""
         if any(it.startswith("only-day ") for it in self.changes):
             return MOST_DAYS
-        return Call(["solve", ".", *self.words]).value("period") or 1
+        return Call(["solve", ".", *self.words]).given.get("period", ("1", 0))[0]
 
     def own(self, table):
         """Returns the path of a table in its own folder, or None where none stands there."""

@@ -1,9 +1,10 @@
-"""The page of the summary: a chart of the costs, and a table with links to the pictures."""
+"""The page of the summary: a chart of the costs, a table with links to the pictures, and what the proofs say of other numbers of aircraft."""
 
 import os
 from html import escape
 
 from drawing.svg import RULE, box, line, picture, words
+from steps.rows import asked_of, columns_of
 
 STYLE = """
 body{margin:0 auto;padding:24px 28px;max-width:1460px;color:#1c2330;font:15px/1.45 "DejaVu Sans",Verdana,Arial,sans-serif}
@@ -11,10 +12,14 @@ h1{font-size:24px;margin:0 0 4px}h2{font-size:19px;margin:32px 0 6px}
 .wrong{background:#b00020;color:#fff;padding:10px 16px;font-size:19px;font-weight:bold}
 tr.wrong{font-size:15px}tr.wrong a{color:#fff}
 table{border-collapse:collapse}th,td{padding:3px 14px 3px 0;text-align:left;border-bottom:1px solid #dfe3e8;vertical-align:top}
-td.n{text-align:right;white-space:nowrap}svg{display:block;width:100%;height:auto}
+td.n,th.n{text-align:right}td.n,td.name{white-space:nowrap}svg{display:block;width:100%;height:auto}
 """
 # Pixels: what stands left of the bars, and right of them, the bars at most, and a row.
 LEFT, RIGHT, LONGEST, HEIGHT = 240, 140, 900, 20
+ASKED = (
+    "One aircraft less of a fleet costs at least so much more than the plan of the scenario, and one more saves at most so much, "
+    "as its proof tells with no further solve."
+)
 
 
 def page(rows, folder):
@@ -24,18 +29,20 @@ def page(rows, folder):
     if unsound:
         names = ", ".join(escape(it.name) for it in unsound)
         parts.append(f'<p class="wrong">Don\'t rely on {len(unsound)} of the {len(rows)} scenarios: {names}</p>')
-    parts += [chart([it for it in rows if it.cost is not None]), "<h2>All scenarios</h2>", table(rows, folder)]
+    planned = [it for it in rows if it.cost is not None]
+    parts += [chart(planned), "<h2>All scenarios</h2>", table(rows, folder)]
+    if asked_of(planned):
+        parts += ["<h2>Other numbers of aircraft</h2>", f"<p>{ASKED}</p>", other_sizes([it for it in planned if it.asked])]
     head = f'<head><meta charset="utf-8"><title>Scenarios</title><style>{STYLE}</style></head>'
     return f'<!doctype html>\n<html lang="en">{head}\n<body>\n' + "\n".join(parts) + "\n</body></html>\n"
 
 
 def chart(rows):
-    """Returns a bar of each cost. The bars begin below the least cost and not at 0, so that they differ."""
+    """Returns a bar of each cost. The bars begin not far below the least cost, so that they differ."""
     if not rows:
         return "<p>No scenario has a plan.</p>"
     costs = [it.cost for it in rows]
-    least, most = min(costs), max(costs)
-    start = least - max(1, most - least) // 5 - 1
+    most, start = max(costs), start_of(costs)
     bottom = HEIGHT * (len(rows) + 1)
     parts = [line(LEFT, HEIGHT / 2, LEFT, bottom, RULE)]
     for at, it in enumerate(rows, 1):
@@ -48,17 +55,50 @@ def chart(rows):
     return "<h2>Cost by scenario</h2>" + note + picture(bottom + HEIGHT, "cost by scenario", parts, LEFT + LONGEST + RIGHT)
 
 
+def start_of(costs):
+    """Returns where the bars begin: below the least cost, and below 0 only where that is."""
+    least = min(costs)
+    start = least - max(1, max(costs) - least) // 5 - 1
+    return 0 if start < 0 < least else start
+
+
 def table(rows, folder):
-    fleets = list(dict.fromkeys(fleet for it in rows for fleet in it.used))
-    names = ["scenario", "outcome", "cost", "bound", "gap", "splits", *fleets, "what the check said, and more"]
-    parts = ["<table><tr>" + "".join(f"<th>{escape(it)}</th>" for it in names) + "</tr>"]
+    columns = columns_of(rows)
+    parts = ["<table>" + head(["scenario", "outcome"], columns, ["what the check said, and more"])]
     for it in rows:
-        numbers = [it.cost, it.bound, it.gap, it.solved["splits"] if it.solved else None, *(it.used.get(fleet) for fleet in fleets)]
-        cells = "".join(f'<td class="n">{"" if at is None else f"{at:,}"}</td>' for at in numbers)
+        cells = "".join(number(it.numbers.get(name)) for name in columns)
         told = "; ".join(escape(at) for at in (it.check, it.told, it.rotations) if at)
         kind = "" if it.is_sound else ' class="wrong"'
-        parts.append(f"<tr{kind}><td>{link(it, folder)}</td><td>{escape(it.outcome)}</td>{cells}<td>{told}</td></tr>")
+        parts.append(f'<tr{kind}><td class="name">{link(it, folder)}</td><td>{escape(it.outcome)}</td>{cells}<td>{told}</td></tr>')
     return "\n".join([*parts, "</table>"])
+
+
+def other_sizes(rows):
+    """Returns a table of what one aircraft less of each fleet costs at least, and one more saves at most."""
+    fleets = asked_of(rows)
+    names = [name for fleet in fleets for name in (f"{fleet} less", f"{fleet} more")]
+    parts = ["<table>" + head(["scenario"], names)]
+    for it in rows:
+        cells = "".join(number(difference(it, change, fleet, sign)) for fleet in fleets for change, sign in (("less", 1), ("more", -1)))
+        parts.append(f'<tr><td class="name">{escape(it.name)}</td>{cells}</tr>')
+    return "\n".join([*parts, "</table>"])
+
+
+def difference(row, change, fleet, sign):
+    """Returns by how much a bound with another number of aircraft is above the cost, or below it; `infeasible` as it is."""
+    bound = row.bound_with(change, fleet)
+    return sign * (int(bound) - row.cost) if bound.lstrip("-").isdigit() else bound or None
+
+
+def head(names, numbers, more=()):
+    """Returns the head of a table, with columns of numbers between others."""
+    cells = [*(f"<th>{escape(it)}</th>" for it in names), *(f'<th class="n">{escape(it)}</th>' for it in numbers)]
+    return "<tr>" + "".join([*cells, *(f"<th>{escape(it)}</th>" for it in more)]) + "</tr>"
+
+
+def number(value):
+    """Returns a cell of a table: a number, a word, or nothing."""
+    return f'<td class="n">{"" if value is None else f"{value:,}" if isinstance(value, int) else escape(value)}</td>'
 
 
 def link(row, folder):

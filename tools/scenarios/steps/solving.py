@@ -41,7 +41,7 @@ def refusal_of(tables):
     if not os.path.exists(path):
         return None
     with open(path, encoding="utf-8") as it:
-        return {"status": 6, "told": it.read(), "seconds": 0, "memory": 0}
+        return {"told": it.read(), "seconds": 0, "memory": 0}
 
 
 def answer_of(program, folder, words, limits):

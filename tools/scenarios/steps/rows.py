@@ -1,0 +1,69 @@
+"""The rows of the summary, and its columns."""
+
+from steps.sizes import bound_in
+
+UNSOLVED, UNPROVED = "NOT SOLVED", "NOT PROVED"
+# The numbers that have a column in each summary. Others have one where a scenario has such a number.
+ALWAYS = ("cost", "bound", "gap", "splits")
+
+
+class Row:
+    """A scenario in the summary: `outcome`; `solved`, what `solve` answered, where its proof holds; `told`, what else is said of it;
+    `check`, what the check said; `asked`, what the proof says of other numbers of aircraft, fleet by fleet, and `is_asked`, whether
+    it could be asked; `moved` and `left_out`, how many legs depart at another time and aren't flown, None where none may; seconds of
+    the processor and the most memory in kB, None where it wasn't solved."""
+
+    def __init__(self, name, outcome, told="", check="", solved=None):
+        self.name, self.outcome, self.told, self.check, self.solved = name, outcome, told, check, solved
+        self.seconds = self.memory = self.moved = self.left_out = None
+        self.asked, self.is_asked = {}, True
+
+    @property
+    def is_sound(self):
+        return self.outcome not in (UNSOLVED, UNPROVED)
+
+    @property
+    def cost(self):
+        """What the plan costs, or None."""
+        return int(self.solved["cost"]) if self.solved and self.solved["cost"] is not None else None
+
+    @property
+    def bound(self):
+        return int(self.solved["bound"]) if self.solved and self.solved["bound"] is not None else None
+
+    @property
+    def gap(self):
+        return None if self.cost is None or self.bound is None else self.cost - self.bound
+
+    @property
+    def used(self):
+        """How many aircraft of each fleet the plan uses."""
+        return {it["name"]: it["used"] for it in self.solved["fleets"]} if self.solved else {}
+
+    @property
+    def numbers(self):
+        """Its numbers by the names of their columns, None where there is none."""
+        splits = self.solved["splits"] if self.solved else None
+        flagged = {"moved": self.moved, "left out": self.left_out}
+        used = {f"used {fleet}": number for fleet, number in self.used.items()}
+        return {"cost": self.cost, "bound": self.bound, "gap": self.gap, "splits": splits, **flagged, **used}
+
+    def bound_with(self, change, fleet):
+        """What the proof says of one aircraft less or more of a fleet, or an empty text."""
+        return bound_in(self.asked.get(fleet, {}).get(change, ""))
+
+    @property
+    def rotations(self):
+        fleets = [it["name"] for it in self.solved["fleets"]] if self.solved else []
+        return "; ".join(f"{fleet} {told}" for fleet, told in zip(fleets, self.solved["rotations"] if self.solved else []))
+
+
+def columns_of(rows):
+    """Returns the names of the columns of numbers."""
+    names = dict.fromkeys(name for it in rows for name in it.numbers)
+    return [name for name in names if name in ALWAYS or any(it.numbers.get(name) is not None for it in rows)]
+
+
+def asked_of(rows):
+    """Returns the fleets of which the proofs were asked about another number of aircraft."""
+    return list(dict.fromkeys(fleet for it in rows for fleet in it.asked))
