@@ -25,7 +25,8 @@ def records(path):
 
 
 def drawn(base, count, seed=1):
-    """Returns so many scenarios of a schedule, drawn from a number: other costs, other numbers of aircraft, a leg or two not flown."""
+    """Returns so many scenarios of a schedule, drawn from a number: other costs, other numbers of aircraft, other times, legs that may
+    be left out, less room at night, a leg or two not flown."""
     draw = random.Random(seed)
     fleets = [it["fleet"] for it in records(base / "fleets.csv")]
     legs = records(base / "legs.csv")
@@ -33,12 +34,26 @@ def drawn(base, count, seed=1):
     for at in range(count):
         changes = [f"cost {draw.choice(fleets)} *{draw.randrange(80, 130) / 100:.2f}"]
         changes += [f"aircraft {draw.choice(fleets)} {draw.choice(('-1', '+1', '+2'))}"] * (draw.random() < 0.7)
+        changes += drawn_more(draw, base, legs)
         if draw.random() < 0.3:
             out = draw.choice(legs)
             back = next((it for it in legs if (it["from"], it["to"]) == (out["to"], out["from"])), None)
             changes += [f"drop-leg {it['flight']}" for it in (out, back) if it]
         rows.append((f"s{at}", draw.choice(("", "--days 4", "--day-start 04:00")), "", "; ".join(changes)))
     return rows
+
+
+def drawn_more(draw, base, legs):
+    """Returns changes for other times, for legs that may be left out, and for less room at night, or none of these."""
+    changes = []
+    if draw.random() < 0.3:
+        shifts = (-15, -5, 10)
+        changes += [f"window {it['flight']} {draw.choice(shifts)} {draw.randrange(-200, 300)}" for it in draw.sample(legs, 8)]
+    if draw.random() < 0.3:
+        changes += [f"optional {it['flight']} {draw.randrange(1000, 9000)}" for it in draw.sample(legs, 4)]
+    if draw.random() < 0.2:
+        changes.append(f"parking {draw.choice(records(base / 'stations.csv'))['code']} {draw.randrange(1, 8)}")
+    return changes
 
 
 class Run:
@@ -99,7 +114,7 @@ class Run:
     def half_written(self):
         """Returns the folders that are neither absent nor complete."""
         solved = [it for it in self.folder.glob("scenarios/*/solved") if not (it / "answer.json").exists()]
-        tables = [it for it in self.folder.glob("scenarios/*/tables") if len(list(it.glob("*.csv"))) != 5]
+        tables = [it for it in self.folder.glob("scenarios/*/tables") if len(list(it.glob("*.csv"))) < 5]
         return solved + tables
 
 

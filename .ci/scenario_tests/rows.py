@@ -53,6 +53,15 @@ FLAGS = [
     ("a,--optional,,optional X2 30", {}, ["--optional"], FIVE),
 ]
 
+# Records, and the period by which their tables are judged before they are changed.
+PERIODS = {
+    "a,--days 4,,": "1",
+    "a,--period 7 --days 4,,": "7",
+    "a,--period=8,,": "8",
+    "a,--period week,,aircraft F1 -1": "week",
+    "a,,,aircraft F1 -1; only-day 3": "7",
+}
+
 # Records that don't read, and why.
 UNREAD = {
     "a,,": "it has 3 fields, it should have 4",
@@ -115,3 +124,17 @@ OUTCOMES = {
         '"changed after the check: costs.csv, fleets.csv, legs.csv, stations.csv, throughs.csv of scenarios/changed/solved",1.75,2.0',
     ),
 }
+
+# Scenarios that are solved and checked: the words by which their tables are read, their plan, and what was asked of their proof.
+TIMED, LEFT = "flight,fleet,shift\nX1,F1,0\nX2,F1,-5\n", "flight,fleet\nX1,F1\nX2,-\n"
+ASKED = {
+    "timed": (["--windows"], TIMED, {"asked": [["F1", {"less": "whatif F1 1: bound 90", "more": "whatif F1 3: infeasible"}]]}),
+    "left": (["--day-start", "04:00", "--optional"], LEFT, {"fault": "whatif ended with 8: memory ran out"}),
+    "plain": ([], "flight,fleet\nX1,F1\nX2,F1\n", {"asked": [["F1", {"less": "fallen: node 0", "more": "whatif F1 3: bound -5"}]]}),
+}
+ASKED_TEXT = """\
+scenario,outcome,cost,bound,gap,splits,moved,left out,used F1,one less F1,one more F1,rotations,check,told,seconds,memory MB
+timed,optimal,70,70,0,0,1,,1,90,infeasible,F1 unused,holds: cost 70 bound 70,,1.75,2.0
+left,optimal,70,70,0,0,,1,1,,,F1 unused,holds: cost 70 bound 70,other numbers of aircraft weren't asked: whatif ended with 8: memory ran out,1.75,2.0
+plain,optimal,70,70,0,0,,,1,,-5,F1 unused,holds: cost 70 bound 70,,1.75,2.0
+"""
