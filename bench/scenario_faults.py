@@ -2,6 +2,7 @@
 
 import contextlib
 import os
+import re
 import shutil
 import subprocess
 
@@ -53,15 +54,18 @@ def slips(tries, scratch):
 
 
 def too_little_memory(tries, scratch):
-    """Each further try has twice the memory. Of 400 legs a solve takes more than 6 MB, and less than 12."""
+    """Each further try has twice the memory. Of 400 legs a solve takes more than 7 MB, and less than 14. Where its stack can't grow it
+    is killed."""
     base, rows = scratch / "hub400", [AS_IS, ("dearer", "", "", "cost F220 *1.1")]
     hubs.write(base, 400, 5)
     ample = Run(scratch / "ample", base, rows, pictures="false")
     tries("two scenarios of 400 legs", ample.on(2) == 0)
-    run = Run(scratch / "memory", base, rows, memory_mb=6, memory_kb_a_pair=0, pictures="false")
+    run = Run(scratch / "memory", base, rows, memory_mb=7, memory_kb_a_pair=0, pictures="false")
     status, told = run.on(2), (run.folder / "engine").read_text(encoding="utf-8")
-    is_told = told.count("solve ended with 8: memory ran out (it might take 6 MB") == len(rows) and "12 MB" not in told
-    tries("too little memory at first, and twice as much is enough", status == 0 and is_told and run.summary() == ample.summary())
+    ends = re.findall(r"solve ended with (8: memory ran out|139: it was killed) \(it might take 7 MB", told)
+    is_told = len(ends) == len(rows) and "14 MB" not in told
+    is_same = status == 0 and run.summary() == ample.summary()
+    tries("too little memory at first, and twice as much is enough", is_told and is_same, ", ".join(ends))
 
 
 def never_enough(tries, scratch):
@@ -70,6 +74,12 @@ def never_enough(tries, scratch):
     status = run.on(2)
     outcomes = [it["outcome"] for it in run.summary()]
     tries("memory that never suffices", status != 0 and outcomes == ["NOT SOLVED", "optimal", "optimal"], ", ".join(outcomes))
+    starved = wrapped(scratch / "unasked-one", 'case "$*" in whatif*/less/*) exit 8 ;; esac')
+    run = Run(scratch / "unasked", HUB_DAY, THREE, pictures="false", program=starved)
+    status, row = run.on(2), run.row("less")
+    is_told = row["told"].startswith("other numbers of aircraft weren't asked: whatif ended with 8: memory ran out")
+    is_alone = row["outcome"] == "optimal" and not row["one less A320"] and run.row("dearer")["one less A320"]
+    tries("memory that never suffices to ask", status != 0 and is_alone and is_told, row["told"])
 
 
 def changed_proofs(tries, scratch, sound):

@@ -1,6 +1,7 @@
-"""The page of the summary: a chart of the costs, a table with links to the pictures, and what the proofs say of other numbers of aircraft."""
+"""The page of the summary: charts of the costs, a table with links to the pictures, and what the proofs say of other numbers of aircraft."""
 
 import os
+from bisect import bisect
 from html import escape
 
 from drawing.svg import RULE, box, line, picture, words
@@ -30,17 +31,28 @@ def page(rows, folder):
         names = ", ".join(escape(it.name) for it in unsound)
         parts.append(f'<p class="wrong">Don\'t rely on {len(unsound)} of the {len(rows)} scenarios: {names}</p>')
     planned = [it for it in rows if it.cost is not None]
-    parts += [chart(planned), "<h2>All scenarios</h2>", table(rows, folder)]
+    parts += ["<h2>Cost by scenario</h2>", "<p>Blue is a least cost, and orange one that may be less.</p>"]
+    parts += [chart(it) for it in alike(planned)] or ["<p>No scenario has a plan.</p>"]
+    parts += ["<h2>All scenarios</h2>", table(rows, folder)]
     if asked_of(planned):
         parts += ["<h2>Other numbers of aircraft</h2>", f"<p>{ASKED}</p>", other_sizes([it for it in planned if it.asked])]
     head = f'<head><meta charset="utf-8"><title>Scenarios</title><style>{STYLE}</style></head>'
     return f'<!doctype html>\n<html lang="en">{head}\n<body>\n' + "\n".join(parts) + "\n</body></html>\n"
 
 
+def alike(rows):
+    """Returns the scenarios in parts that have a chart each: a cost more than twice the next smaller one begins a part. So the costs of
+    a week don't hide how those of a day differ."""
+    costs = sorted(it.cost for it in rows)
+    begins = [more for less, more in zip(costs, costs[1:]) if more > 2 * less > 0]
+    parts = {}
+    for it in rows:
+        parts.setdefault(bisect(begins, it.cost), []).append(it)
+    return list(parts.values())
+
+
 def chart(rows):
     """Returns a bar of each cost. The bars begin not far below the least cost, so that they differ."""
-    if not rows:
-        return "<p>No scenario has a plan.</p>"
     costs = [it.cost for it in rows]
     most, start = max(costs), start_of(costs)
     bottom = HEIGHT * (len(rows) + 1)
@@ -51,8 +63,7 @@ def chart(rows):
         parts.append(words(LEFT - 8, y + 4, it.name[:28], 12, "end"))
         parts.append(box(LEFT, y - 7, length, 14, "#0072b2" if it.gap == 0 else "#e69f00"))
         parts.append(words(LEFT + length + 6, y + 4, f"{it.cost:,}", 12))
-    note = f"<p>Bars begin at {start:,}. Blue is a least cost, and orange one that may be less.</p>"
-    return "<h2>Cost by scenario</h2>" + note + picture(bottom + HEIGHT, "cost by scenario", parts, LEFT + LONGEST + RIGHT)
+    return f"<p>Bars begin at {start:,}.</p>" + picture(bottom + HEIGHT, "cost by scenario", parts, LEFT + LONGEST + RIGHT)
 
 
 def start_of(costs):
