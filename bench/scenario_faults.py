@@ -7,7 +7,8 @@ import shutil
 import subprocess
 
 import hubs
-from scenario_runs import HUB_DAY, Run, is_root, wrapped
+import slurm_here
+from scenario_runs import BUILT, HUB_DAY, Run, is_root, wrapped
 
 NOBODY = 65534
 AS_IS = ("as-is", "", "", "")
@@ -20,6 +21,7 @@ def faults(tries, scratch, _):
     slips(tries, scratch)
     too_little_memory(tries, scratch)
     never_enough(tries, scratch)
+    failing_steps(tries, scratch)
     changed_proofs(tries, scratch, sound)
     if is_root():
         full_disk(tries, scratch, sound)
@@ -80,6 +82,22 @@ def never_enough(tries, scratch):
     is_told = row["told"].startswith("other numbers of aircraft weren't asked: whatif ended with 8: memory ran out")
     is_alone = row["outcome"] == "optimal" and not row["one less A320"] and run.row("dearer")["one less A320"]
     tries("memory that never suffices to ask", status != 0 and is_alone and is_told, row["told"])
+
+
+def failing_steps(tries, scratch):
+    """Tables that can't be judged and a plan that can't be drawn are told, and the others of a job of the cluster aren't lost."""
+    spoil = f'{BUILT} "$@"; status=$?; for it; do [ ! -e "$it/rotation.csv" ] || echo x > "$it/rotation.csv"; done; exit $status'
+    failing = wrapped(scratch / "failing", f'case "$*" in judge*/dearer/*) exit 8 ;; solve*/less/*) {spoil} ;; esac')
+    for name in ("cores", "slurm"):
+        if name == "slurm" and slurm_here.lacks():
+            tries.without("steps that fail, by Slurm", slurm_here.lacks())
+            continue
+        run = Run(scratch / f"failing-{name}", HUB_DAY, THREE, program=failing)
+        with slurm_here.Slurm() if name == "slurm" else contextlib.nullcontext() as slurm:
+            status = run.go(name, environment=slurm.environment) if slurm else run.on(2)
+        came = {it["scenario"]: (it["outcome"], it["told"].split(":")[0]) for it in run.summary()}
+        wanted = {"dearer": ("NOT SOLVED", "judge ended with 8"), "as-is": ("optimal", ""), "less": ("optimal", "it wasn't drawn")}
+        tries(f"steps that fail at each try, by {name}", status != 0 and came == wanted, "; ".join(it for _, it in came.values() if it))
 
 
 def changed_proofs(tries, scratch, sound):

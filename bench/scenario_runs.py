@@ -142,11 +142,11 @@ def without_engine(run):
         place.mkdir(parents=True)
         base = next(line.split(": ", 1)[1] for line in (run.folder / "config.yaml").read_text().splitlines() if line.startswith("base"))
         for words in (
-            ["tables", BUILT, place / "tables", *limits, str(it.period), *it.files(base), "--", *it.changes],
+            ["tables", BUILT, place / "tables", *limits, "0", it.period, *it.files(base), "--", *it.changes],
             ["solve", BUILT, place / "solved", *limits, "0", place / "tables", *it.words],
             ["check", BUILT, place / "check.json", *limits, "0", place / "solved"],
             ["sizes", BUILT, place / "sizes.json", *limits, "0", place / "solved"],
-            ["draw", place / "drawn", place / "solved", name],
+            ["draw", place / "drawn", "0", place / "solved", name],
         ):
             subprocess.run([*step, *words], stdin=subprocess.DEVNULL, check=True)
 

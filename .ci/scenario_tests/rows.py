@@ -136,5 +136,5 @@ ASKED_TEXT = """\
 scenario,outcome,cost,bound,gap,splits,moved,left out,used F1,one less F1,one more F1,rotations,check,told,seconds,memory MB
 timed,optimal,70,70,0,0,1,,1,90,infeasible,F1 unused,holds: cost 70 bound 70,,1.75,2.0
 left,optimal,70,70,0,0,,1,1,,,F1 unused,holds: cost 70 bound 70,other numbers of aircraft weren't asked: whatif ended with 8: memory ran out,1.75,2.0
-plain,optimal,70,70,0,0,,,1,,-5,F1 unused,holds: cost 70 bound 70,,1.75,2.0
+plain,optimal,70,70,0,0,,,1,,-5,F1 unused,holds: cost 70 bound 70,it wasn't drawn: tools/draw: no room,1.75,2.0
 """

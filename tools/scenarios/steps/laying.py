@@ -8,21 +8,27 @@ from schedule_files.files import table
 from steps import whole
 from steps.changes import read_change
 from steps.flagged import flags_of, tables_in
-from steps.running import run
+from steps.running import Fault, run
 
-# Stands beside tables that can't be solved, and says why.
-REFUSED = "refused.txt"
+# Either stands beside tables that can't be solved, and says why: since they are refused, or by a fault at the last try.
+REFUSED, FAULT = "refused.txt", "fault.txt"
 # The statuses by which words and tables are refused.
 REFUSALS = (2, 6)
 
 
-def lay(program, files, texts, period, place, limits):
+def lay(program, files, texts, period, place, limits, is_last):
     """Makes the folder of the tables, from these files and with these changes. Before they are changed they repeat after `period` days,
     a word of the call."""
     with whole.folder(place) as beside:
         for it in files:
             shutil.copyfile(it, os.path.join(beside, os.path.basename(it)))
-        refusal = refused(program, beside, period, limits) or changed(beside, texts)
+        try:
+            refusal = refused(program, beside, period, limits) or changed(beside, texts)
+        except Fault as error:
+            if not is_last:
+                raise
+            whole.write(os.path.join(beside, FAULT), str(error))
+            return
         if refusal:
             whole.write(os.path.join(beside, REFUSED), refusal)
 
@@ -41,7 +47,10 @@ def changed(folder, texts):
     """Changes the tables of a folder, and returns why that can't be done, or None."""
     if not texts:
         return None
-    read = {it: table_of(folder, it, headers_of(it)) for it in tables_in(folder)}
+    try:
+        read = {it: table_of(folder, it, headers_of(it)) for it in tables_in(folder)}
+    except Unread as error:
+        return f"{texts[0]}: {error}"
     tables = {it: rows for it, (_, rows) in read.items()}
     for text in texts:
         try:

@@ -9,14 +9,14 @@ ALWAYS = ("cost", "bound", "gap", "splits")
 
 class Row:
     """A scenario in the summary: `outcome`; `solved`, what `solve` answered, where its proof holds; `told`, what else is said of it;
-    `check`, what the check said; `asked`, what the proof says of other numbers of aircraft, fleet by fleet, and `is_asked`, whether
-    it could be asked; `moved` and `left_out`, how many legs depart at another time and aren't flown, None where none may; seconds of
-    the processor and the most memory in kB, None where it wasn't solved."""
+    `check`, what the check said; `asked`, what the proof says of other numbers of aircraft, fleet by fleet; `is_whole`, whether no
+    step behind the check failed; `moved` and `left_out`, how many legs depart at another time and aren't flown, None where none may;
+    seconds of the processor and the most memory in kB, None where it wasn't solved."""
 
     def __init__(self, name, outcome, told="", check="", solved=None):
         self.name, self.outcome, self.told, self.check, self.solved = name, outcome, told, check, solved
         self.seconds = self.memory = self.moved = self.left_out = None
-        self.asked, self.is_asked = {}, True
+        self.asked, self.is_whole = {}, True
 
     @property
     def is_sound(self):
@@ -47,6 +47,10 @@ class Row:
         flagged = {"moved": self.moved, "left out": self.left_out}
         used = {f"used {fleet}": number for fleet, number in self.used.items()}
         return {"cost": self.cost, "bound": self.bound, "gap": self.gap, "splits": splits, **flagged, **used}
+
+    def add_fault(self, text):
+        """Notes a step that failed behind the check."""
+        self.told, self.is_whole = f"{self.told}; {text}" if self.told else text, False
 
     def bound_with(self, change, fleet):
         """What the proof says of one aircraft less or more of a fleet, or an empty text."""

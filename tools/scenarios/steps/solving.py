@@ -11,7 +11,7 @@ from hints.records import TABLES
 from hints.words import Call
 from steps import whole
 from steps.flagged import FLAGGED, tables_in
-from steps.laying import REFUSED
+from steps.laying import FAULT, REFUSED
 from steps.running import Fault, run
 
 TOP = os.path.dirname(os.path.dirname(os.path.dirname(os.path.dirname(os.path.realpath(__file__)))))
@@ -37,11 +37,18 @@ def solve(program, tables, words, place, limits, is_last):
 
 def refusal_of(tables):
     """Returns the answer where tables can't be solved, or None."""
-    path = os.path.join(tables, REFUSED)
+    fault, refusal = (text_in(os.path.join(tables, it)) for it in (FAULT, REFUSED))
+    if fault:
+        return {"fault": fault}
+    return {"told": refusal, "seconds": 0, "memory": 0} if refusal else None
+
+
+def text_in(path):
+    """Returns the text of a file, or None where none stands there."""
     if not os.path.exists(path):
         return None
     with open(path, encoding="utf-8") as it:
-        return {"told": it.read(), "seconds": 0, "memory": 0}
+        return it.read()
 
 
 def answer_of(program, folder, words, limits):
@@ -92,7 +99,7 @@ def sums_of(folder):
     return found
 
 
-def draw(solved, name, place):
+def draw(solved, name, place, is_last):
     """Makes the folder of the picture, which stays empty where there is no plan."""
     answer = read_json(os.path.join(solved, ANSWER))
     with whole.folder(place) as beside:
@@ -104,9 +111,13 @@ def draw(solved, name, place):
         for it in (*tables_in(solved), "plan.csv", "proof.txt", "rotation.csv"):
             shutil.copyfile(os.path.join(solved, it), os.path.join(own, it))
         words = [os.path.join(TOP, "tools", "draw"), own, *answer["reading"]]
-        if subprocess.run([sys.executable, *words], stdin=subprocess.DEVNULL, check=False).returncode:
-            raise Fault("tools/draw couldn't draw it")
-        os.rename(os.path.join(own, "plan.html"), os.path.join(beside, "plan.html"))
+        ran = subprocess.run([sys.executable, *words], stdin=subprocess.DEVNULL, stderr=subprocess.PIPE, text=True, check=False)
+        if not ran.returncode:
+            os.rename(os.path.join(own, "plan.html"), os.path.join(beside, "plan.html"))
+        elif is_last:
+            whole.write(os.path.join(beside, FAULT), ran.stderr.strip())
+        else:
+            raise Fault(ran.stderr.strip())
         shutil.rmtree(own)
 
 

@@ -8,10 +8,11 @@ from collections import Counter
 
 from steps import whole
 from steps.flagged import moved_and_left_out
+from steps.laying import FAULT
 from steps.page import page
 from steps.rows import UNPROVED, UNSOLVED, Row, asked_of, columns_of
 from steps.sizes import CHANGES
-from steps.solving import ANSWER, CHECK, SIZES, read_json, sums_of
+from steps.solving import ANSWER, CHECK, DRAWN, SIZES, read_json, sums_of, text_in
 
 REFUSED = "refused"
 RULE = "*" * 78
@@ -33,6 +34,9 @@ def row_of(name, folder):
         row = Row(name, UNPROVED, wrong, said) if wrong else Row(name, answer["solved"]["outcome"], "", said, answer["solved"])
     if row.solved:
         add_asked(row, os.path.join(folder, SIZES))
+        undrawn = text_in(os.path.join(folder, DRAWN, FAULT))
+        if undrawn:
+            row.add_fault(f"it wasn't drawn: {undrawn}")
     if row.cost is not None:
         row.moved, row.left_out = moved_and_left_out(solved, answer["reading"])
     row.seconds = answer["seconds"] + check.get("seconds", 0)
@@ -45,7 +49,7 @@ def add_asked(row, path):
     answer = read_json(path) if os.path.exists(path) else {}
     row.asked = dict(answer.get("asked", []))
     if "fault" in answer:
-        row.is_asked, row.told = False, f"other numbers of aircraft weren't asked: {answer['fault']}"
+        row.add_fault(f"other numbers of aircraft weren't asked: {answer['fault']}")
 
 
 def answer_in(path):
@@ -91,19 +95,19 @@ def text_of(rows):
 
 
 def summarize(names, folder):
-    """Writes the summary of the scenarios, and returns whether each was solved, each proof holds, and each could be asked."""
+    """Writes the summary of the scenarios, and returns whether each was solved, each proof holds, and no step failed."""
     rows = [row_of(it, os.path.join(folder, it)) for it in names]
     rows.sort(key=lambda it: it.is_sound)
     whole.write("summary.csv", text_of(rows))
     whole.write("summary.html", page(rows, folder))
     for it in names:
         forget_faults(os.path.join(folder, it))
-    unsound, unasked = [it for it in rows if not it.is_sound], [it for it in rows if not it.is_asked]
+    unsound, parts = [it for it in rows if not it.is_sound], [it for it in rows if not it.is_whole]
     counts = ", ".join(f"{number} {outcome}" for outcome, number in Counter(it.outcome for it in rows).items())
     print(warning(unsound) if unsound else f"{len(rows)} scenarios: {counts}. Each proof holds.", file=sys.stderr)
-    if unasked:
-        print("\n".join(["Call it again, since not all could be asked:", *listed(unasked)]), file=sys.stderr)
-    return not unsound and not unasked
+    if parts:
+        print("\n".join(["Call it again, since not each step ended:", *listed(parts)]), file=sys.stderr)
+    return not unsound and not parts
 
 
 def forget_faults(folder):
@@ -111,6 +115,9 @@ def forget_faults(folder):
     solved = os.path.join(folder, "solved")
     if "fault" in answer_in(os.path.join(solved, ANSWER)):
         whole.remove(solved)
+    for name in ("tables", DRAWN):
+        if os.path.exists(os.path.join(folder, name, FAULT)):
+            whole.remove(os.path.join(folder, name))
     for path in (os.path.join(folder, CHECK), os.path.join(folder, SIZES)):
         if os.path.exists(path) and "fault" in answer_in(path):
             os.remove(path)
