@@ -70,6 +70,7 @@ UNREAD = {
     "a,,,window X2 10": '"window X2 10" doesn\'t read, it should be as window FLIGHT 10 5',
     "a,,,window X2 +10 5": '"window X2 +10 5" doesn\'t read, it should be as window FLIGHT 10 5',
     "a,,,optional X2 1.5": '"optional X2 1.5" doesn\'t read, it should be as optional FLIGHT 30',
+    "a,--period 7,,only-day 3": "only-day leaves a schedule of one day, so the words may not have --period",
     "a,,,cost F1 1.1": '"cost F1 1.1" doesn\'t read, it should be as cost FLEET *1.1',
 }
 

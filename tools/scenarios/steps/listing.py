@@ -34,9 +34,7 @@ class Scenario:
     def period(self):
         """After how many days the schedule repeats before it is changed: as the words say, whatever stands there, or 7 at most where
         a day alone is wanted."""
-        if any(it.startswith("only-day ") for it in self.changes):
-            return MOST_DAYS
-        return Call(["solve", ".", *self.words]).given.get("period", ("1", 0))[0]
+        return MOST_DAYS if is_one_day(self.changes) else period_in(self.words) or "1"
 
     def own(self, table):
         """Returns the path of a table in its own folder, or None where none stands there."""
@@ -78,7 +76,19 @@ def scenario_of(fields, beside):
     texts = [it.strip() for it in changes.split(";") if it.strip()]
     for it in texts:
         read_change(it)
+    if is_one_day(texts) and period_in(words_of(words)):
+        raise Unread("only-day leaves a schedule of one day, so the words may not have --period")
     return Scenario(name, with_flags(words_of(words), texts), place, texts)
+
+
+def is_one_day(texts):
+    """Returns whether changes leave the flights of one day alone."""
+    return any(it.startswith("only-day ") for it in texts)
+
+
+def period_in(words):
+    """Returns the text of the period that the words of a call give, or None."""
+    return Call(["solve", ".", *words]).given.get("period", (None, 0))[0]
 
 
 def with_flags(words, texts):
