@@ -79,7 +79,12 @@ class Run:
 
     def go(self, profile, *more, environment=None):
         """Runs the engine to its end, and returns its status."""
-        return self.start(profile, *more, environment=environment).wait()
+        engine = self.start(profile, *more, environment=environment)
+        try:
+            return engine.wait()
+        except BaseException:
+            stop(engine)
+            raise
 
     def on(self, cores):
         return self.go("cores", "--cores", str(cores))
@@ -168,6 +173,16 @@ def kill(process):
     """Ends a process by its id, by a signal that it can't hear."""
     os.kill(process.pid, signal.SIGKILL)
     process.wait()
+
+
+def stop(engine):
+    """Ends the engine as Ctrl-C does, so that it cancels its jobs, and after a while with all that it has started."""
+    engine.send_signal(signal.SIGINT)
+    try:
+        engine.wait(20)
+    except subprocess.TimeoutExpired:
+        os.killpg(engine.pid, signal.SIGKILL)
+        engine.wait()
 
 
 def is_root():

@@ -10,6 +10,7 @@ status is that of the command. Wants root, and Debian's slurm-wlm and munge."""
 import os
 import secrets
 import shutil
+import signal
 import socket
 import subprocess
 import sys
@@ -154,7 +155,14 @@ class Slurm:
         shutil.rmtree(self.folder, ignore_errors=True)
 
 
+def end_by_signals():
+    """Has signals end this process by an exception, so that no daemon stays."""
+    for it in (signal.SIGHUP, signal.SIGTERM):
+        signal.signal(it, lambda number, _: sys.exit(128 + number))
+
+
 def main(words):
+    end_by_signals()
     if not words:
         sys.exit(__doc__)
     if lacks():
