@@ -1,5 +1,6 @@
 """Runs of tools/scenarios in scratch folders, and what stands there afterwards."""
 
+import contextlib
 import csv
 import os
 import random
@@ -116,11 +117,33 @@ class Run:
             time.sleep(0.05)
         return engine.poll() is None
 
+    def kill_solve(self, engine):
+        """Waits until the program solves a scenario, kills that process by its id, and returns whether there was one."""
+        while engine.poll() is None:
+            for it in solves_in(self.folder):
+                time.sleep(0.5)
+                with contextlib.suppress(ProcessLookupError):
+                    os.kill(it, signal.SIGKILL)
+                    return True
+            time.sleep(0.05)
+        return False
+
     def half_written(self):
         """Returns the folders that are neither absent nor complete."""
         solved = [it for it in self.folder.glob("scenarios/*/solved") if not (it / "answer.json").exists()]
         tables = [it for it in self.folder.glob("scenarios/*/tables") if len(list(it.glob("*.csv"))) < 5]
         return solved + tables
+
+
+def solves_in(folder):
+    """Returns the ids of the program's processes that solve at work in a folder."""
+    found = []
+    for it in Path("/proc").glob("[0-9]*"):
+        with contextlib.suppress(OSError):
+            words = (it / "cmdline").read_bytes().split(b"\0")
+            if words[:2] == [str(BUILT).encode(), b"solve"] and (it / "cwd").resolve() == folder.resolve():
+                found.append(int(it.name))
+    return found
 
 
 def finished(outputs):
