@@ -102,12 +102,12 @@ def summarize(names, folder):
     whole.write("summary.html", page(rows, folder))
     for it in names:
         forget_faults(os.path.join(folder, it))
-    unsound, parts = [it for it in rows if not it.is_sound], [it for it in rows if not it.is_whole]
+    unsound, partial = [it for it in rows if not it.is_sound], [it for it in rows if not it.is_whole]
     counts = ", ".join(f"{number} {outcome}" for outcome, number in Counter(it.outcome for it in rows).items())
     print(warning(unsound) if unsound else f"{len(rows)} scenarios: {counts}. Each proof holds.", file=sys.stderr)
-    if parts:
-        print("\n".join(["Call it again, since not each step ended:", *listed(parts)]), file=sys.stderr)
-    return not unsound and not parts
+    if partial:
+        print("\n".join(["Call it again, since not each step ended:", *listed(partial)]), file=sys.stderr)
+    return not unsound and not partial
 
 
 def forget_faults(folder):
