@@ -56,16 +56,16 @@ def slips(tries, scratch):
 
 
 def too_little_memory(tries, scratch):
-    """Each further try has twice the memory. Of 400 legs a solve takes more than 7 MB, and less than 14. Where its stack can't grow it
+    """Each further try has twice the memory. Of 400 legs a solve takes more than 6 MB, and less than 12. Where its stack can't grow it
     is killed."""
     base, rows = scratch / "hub400", [AS_IS, ("dearer", "", "", "cost F220 *1.1")]
     hubs.write(base, 400, 5)
     ample = Run(scratch / "ample", base, rows, pictures="false")
     tries("two scenarios of 400 legs", ample.on(2) == 0)
-    run = Run(scratch / "memory", base, rows, memory_mb=7, memory_kb_a_pair=0, pictures="false")
+    run = Run(scratch / "memory", base, rows, memory_mb=6, memory_kb_a_pair=0, pictures="false")
     status, told = run.on(2), (run.folder / "engine").read_text(encoding="utf-8")
-    ends = re.findall(r"solve ended with (8: memory ran out|139: it was killed) \(it might take 7 MB", told)
-    is_told = len(ends) == len(rows) and "14 MB" not in told
+    ends = re.findall(r"solve ended with (8: memory ran out|139: it was killed) \(it might take 6 MB", told)
+    is_told = len(ends) == len(rows) and "12 MB" not in told
     is_same = status == 0 and run.summary() == ample.summary()
     tries("too little memory at first, and twice as much is enough", is_told and is_same, ", ".join(ends))
 
