@@ -51,11 +51,7 @@ def lay(place, base, more=()):
 
 
 def known(tries, scratch):
-    rows = []
-    for name, (example, words, more, changes, _) in KNOWN.items():
-        lay(scratch / "known" / name, TOP / "examples" / example, more)
-        rows.append((name, words, name, changes))
-    run = Run(scratch / "known", HUB_DAY, rows)
+    run = Run(scratch / "known", HUB_DAY, laid(scratch / "known"))
     tries("scenarios of examples with days, room at night, windows and optional legs", run.on(2) == 0)
     found = {it["scenario"]: it for it in run.summary()}
     for name, (_, words, _, changes, wanted) in KNOWN.items():
@@ -64,6 +60,15 @@ def known(tries, scratch):
     counts = {it: (found[it]["moved"], found[it]["left out"]) for it in COUNTS}
     tries("how many legs are moved, and left out", counts == COUNTS)
     tries("each plan is judged by the reference", not wrong_plans(run))
+
+
+def laid(folder):
+    """Lays the tables of the known scenarios into folders, and returns their records."""
+    rows = []
+    for name, (example, words, more, changes, _) in KNOWN.items():
+        lay(folder / name, TOP / "examples" / example, more)
+        rows.append((name, words, name, changes))
+    return rows
 
 
 def schedules(scratch):

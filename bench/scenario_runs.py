@@ -120,12 +120,11 @@ class Run:
     def kill_solve(self, engine):
         """Waits until the program solves a scenario, kills that process by its id, and returns whether there was one."""
         while engine.poll() is None:
-            for it in solves_in(self.folder):
-                time.sleep(0.5)
-                with contextlib.suppress(ProcessLookupError):
-                    os.kill(it, signal.SIGKILL)
-                    return True
-            time.sleep(0.05)
+            found = solves_in(self.folder)
+            time.sleep(0.5 if found else 0.05)
+            with contextlib.suppress(ProcessLookupError, IndexError):
+                os.kill(found[0], signal.SIGKILL)
+                return True
         return False
 
     def half_written(self):

@@ -1,4 +1,4 @@
-"""The page of the summary: charts of the costs, a table with links to the pictures, and what the proofs say of other numbers of aircraft."""
+"""The page of the summary: charts of the costs, a table with links to the pictures, and what the proofs say of other sizes of fleets."""
 
 import os
 from bisect import bisect

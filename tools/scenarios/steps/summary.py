@@ -112,15 +112,22 @@ def summarize(names, folder):
 
 def forget_faults(folder):
     """Takes away what a fault has left, so that the next run does it again."""
-    solved = os.path.join(folder, "solved")
-    if "fault" in answer_in(os.path.join(solved, ANSWER)):
-        whole.remove(solved)
-    for name in ("tables", DRAWN):
-        if os.path.exists(os.path.join(folder, name, FAULT)):
-            whole.remove(os.path.join(folder, name))
-    for path in (os.path.join(folder, CHECK), os.path.join(folder, SIZES)):
-        if os.path.exists(path) and "fault" in answer_in(path):
-            os.remove(path)
+    for name, has_fault in {"tables": has_text, "solved": has_no_answer, CHECK: is_fault, SIZES: is_fault, DRAWN: has_text}.items():
+        path = os.path.join(folder, name)
+        if os.path.exists(path) and has_fault(path):
+            whole.remove(path)
+
+
+def has_text(folder):
+    return os.path.exists(os.path.join(folder, FAULT))
+
+
+def has_no_answer(folder):
+    return is_fault(os.path.join(folder, ANSWER))
+
+
+def is_fault(path):
+    return "fault" in answer_in(path)
 
 
 def warning(unsound):
