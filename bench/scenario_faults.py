@@ -71,17 +71,23 @@ def too_little_memory(tries, scratch):
 
 
 def never_enough(tries, scratch):
-    starved = wrapped(scratch / "starved", 'case "$*" in solve*/less/*) exit 8 ;; esac')
+    """A solve, and a question, that have too little memory at each try are told. With enough of it the next call does them alone."""
+    short = scratch / "short"
+    starved = wrapped(scratch / "starved", f'[ ! -e {short} ] || case "$*" in solve*/less/* | whatif*/dearer/*) exit 8 ;; esac')
+    short.touch()
     run = Run(scratch / "never", HUB_DAY, THREE, pictures="false", program=starved)
-    status = run.on(2)
-    outcomes = [it["outcome"] for it in run.summary()]
-    tries("memory that never suffices", status != 0 and outcomes == ["NOT SOLVED", "optimal", "optimal"], ", ".join(outcomes))
-    starved = wrapped(scratch / "unasked-one", 'case "$*" in whatif*/less/*) exit 8 ;; esac')
-    run = Run(scratch / "unasked", HUB_DAY, THREE, pictures="false", program=starved)
-    status, row = run.on(2), run.row("less")
-    is_told = row["told"].startswith("other numbers of aircraft weren't asked: whatif ended with 8: memory ran out")
-    is_alone = row["outcome"] == "optimal" and not row["one less A320"] and run.row("dearer")["one less A320"]
-    tries("memory that never suffices to ask", status != 0 and is_alone and is_told, row["told"])
+    status, came = run.on(2), {it["scenario"]: (it["outcome"], it["told"].split(":")[0]) for it in run.summary()}
+    unasked = "other numbers of aircraft weren't asked"
+    wanted = {"less": ("NOT SOLVED", "solve ended with 8"), "as-is": ("optimal", ""), "dearer": ("optimal", unasked)}
+    is_blank = not run.row("dearer")["one less A320"] and run.row("as-is")["one less A320"]
+    tries("memory that never suffices to solve, or to ask", status != 0 and came == wanted and is_blank, "; ".join(it for _, it in came.values() if it))
+    short.unlink()
+    standing = run.done()
+    status, after = run.on(2), run.done()
+    ample = Run(scratch / "enough", HUB_DAY, THREE, pictures="false")
+    is_same = ample.on(2) == 0 and run.summary() == ample.summary()
+    again = [it for it, mark in standing.items() if after.get(it) != mark]
+    tries("with enough of it the same summary, and what stood isn't done again", status == 0 and is_same and len(again) <= 1, f"{len(again)} of {len(standing)} were")
 
 
 def failing_steps(tries, scratch):

@@ -111,11 +111,13 @@ def summarize(names, folder):
 
 
 def forget_faults(folder):
-    """Takes away what a fault has left, so that the next run does it again."""
-    for name, has_fault in {"tables": has_text, "solved": has_no_answer, CHECK: is_fault, SIZES: is_fault, DRAWN: has_text}.items():
-        path = os.path.join(folder, name)
-        if os.path.exists(path) and has_fault(path):
-            whole.remove(path)
+    """Takes away what a fault has left, so that the next run does it again. Where there is no solution nothing of it may stay: the
+    engine looks for the last outputs alone."""
+    has_fault = {"tables": has_text, "solved": has_no_answer, CHECK: is_fault, SIZES: is_fault, DRAWN: has_text}
+    places = {name: os.path.join(folder, name) for name in has_fault}
+    faulty = {name for name, path in places.items() if os.path.exists(path) and has_fault[name](path)}
+    for name in faulty | ({CHECK, SIZES, DRAWN} if "solved" in faulty else set()):
+        whole.remove(places[name])
 
 
 def has_text(folder):
