@@ -5,9 +5,10 @@ ghost use Rattle.dual_bound.specs.OfTables.{IsOfTables};
 ghost use Rattle.cert_check.specs.Verdicts.{AreSound};
 ghost use Rattle.node_bounding.specs.Subproblems.{IsPlan};
 ghost use Rattle.branch_bound.specs.Settled.{IsProvedBy, plan_of};
-ghost use Rattle.branch_bound.specs.Solved.{IsRight, tree_of};
+ghost use Rattle.branch_bound.specs.Solved.{IsRight};
+ghost use Rattle.solutions.specs.Solved.{tree_of};
 
-use crate::solved::Solved;
+use solutions::Solved;
 use cert_check::{Checked, check};
 use dual_bound::Tree;
 use fleet_model::Tables;

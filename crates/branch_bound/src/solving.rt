@@ -12,7 +12,7 @@ use crate::branching::branch;
 use crate::growing::grown;
 use crate::search::Search;
 use crate::settling::settle;
-use crate::solved::Solved;
+use solutions::Solved;
 use dual_bound::Tree;
 use entries::NoMemory;
 use fleet_model::{Kept, Tables};
