@@ -27,7 +27,6 @@ class Forecast:
         self.seconds = {it: found.get(it, UNKNOWN) for it in (*below, program)}
         self.program = program
         self.below, self.processors, self.began = below, processors, time.monotonic()
-        self.whole = self.planned(set())
 
     def planned(self, done):
         """Returns the seconds in which all other crates and then the program would be proved, each by one processor, at the
@@ -43,10 +42,11 @@ class Forecast:
             done.add(name)
         return now + self.seconds[self.program]
 
-    def words(self, done):
-        """Returns what to say of the time that is left where these crates are done, with a comma before it, or nothing at first."""
+    def words(self, done, kept):
+        """Returns what to say of the time that is left where these crates are done, of which some were kept from earlier builds,
+        with a comma before it; or nothing at first."""
         left = self.planned(done)
-        over = self.whole - left
+        over = self.planned(kept) - left
         if over < FIRST:
             return ""
         minutes = round(left * (time.monotonic() - self.began) / over / 60)
