@@ -9,7 +9,6 @@ ghost use Rattle.fleet_rotations.specs.Rotations.{AreRotations};
 use crate::answer::FileText;
 use crate::status::{DONE, GAP, INFEASIBLE, UNSETTLED};
 use bound_cert::write_proof;
-use solutions::Solved;
 use dual_bound::Tree;
 use entries::{Entries, NoMemory};
 use fleet_model::{Assignment, Tables};
@@ -18,6 +17,7 @@ use plan_desk::DeskFile;
 use plan_report::{summary, summary_json};
 use plan_text::write_plan;
 use rotation_report::rotation_csv;
+use solutions::Solved;
 use std::alloc::Global;
 
 /// The exit status of a solution.

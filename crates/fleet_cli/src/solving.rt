@@ -27,6 +27,7 @@ use entries::{Entries, NoMemory};
 use fleet_model::{Assignment, TableOptions, Tables};
 use fleet_rotations::FleetRotation;
 use plan_rotations::rotations;
+use solutions::Solved;
 use std::alloc::Global;
 
 /// Solves by what the tables hold.
