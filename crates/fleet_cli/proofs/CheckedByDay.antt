@@ -113,7 +113,7 @@ module _ (held : Files) (dir : List ℕ) where
 
     -- so a proof that stands there by some settings is one by those of an answer to checking that counts minutes alike
     pub proof_by_day : (answer : Answer) → ProofThere held dir solving → Answers held (Some (check dir checking)) answer → ProofThere held dir checking
-    proof_by_day answer x answers = by_wait (cases_lt checking.settings.through_max minutes_of 1)
+    proof_by_day answer x answers = by_wait (cases_lt checking.settings.through_max (minutes_of 1))
       where
         days : x.tables.settings.period ≡ checking.settings.period
         days = days_are (table_bytes (bytes_in held dir)) solving x.tables x.reads ∙ alike.days
