@@ -11,7 +11,6 @@ ghost use Rattle.serde_json.specs.View.{items_of, members_view, view};
 ghost use Rattle.sums.specs.Places.{list_below};
 
 use crate::summary_lines::outcome;
-use solutions::Solved;
 use dual_bound::TreeCounts;
 use entries::NoMemory;
 use fleet_model::{Assignment, Tables};
@@ -19,6 +18,7 @@ use fleet_rotations::FleetRotation;
 use plan_judge::used;
 use rotation_report::rotation_words;
 use serde_json::{Map, Value, put};
+use solutions::Solved;
 use std::alloc::Global;
 
 /// The summary of a solution and its rotations as JSON: one object in one line. Cost and bound are texts, since they may be

@@ -7,13 +7,13 @@ ghost use Rattle.fleet_rotations.specs.Rotations.{AreRotations};
 ghost use Rattle.plan_report.specs.Summary.{count_lines, outcome_word, printed_bound, result_lines, rotation_line, rotation_lines, summary_text};
 ghost use Rattle.rotation_report.specs.TextLines.{line_of, number_word};
 
-use solutions::Solved;
 use dual_bound::TreeCounts;
 use entries::NoMemory;
 use fleet_model::{Assignment, Tables};
 use fleet_rotations::FleetRotation;
 use rotation_report::rotation_words;
 use rotation_report::text_lines::{push_fleets, push_line};
+use solutions::Solved;
 use std::alloc::Global;
 
 /// The summary of a solution and its rotations: how the search ended, cost, bound, splits and open leaves, and where there
