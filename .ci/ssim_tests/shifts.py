@@ -184,7 +184,7 @@ def try_refusals(tally):
     with scratch() as folder:
         lines = planned(folder, file_of(leg("ZZ", 1, WAY, "320", "1", MONDAY)), {}, shifts={"ZZ1": 10})
         status, told = call("plan", folder / "new", folder / "day", folder / "newer")
-        line = "ZZ1 departs at 07:10 by line 3 of new, it should be 07:00 as in legs.csv, in the file that the tables are of"
+        line = "ZZ1 is ZRH 07:10 LHR 10:00 by line 3 of new, it should be ZRH 07:00 LHR 09:50 as in legs.csv, in the file that the tables are of"
         came = status, told.replace(f"{folder}/", ""), (folder / "newer").exists(), short(lines[2])
         tally.equal("plan: shifts twice", (6, f"ssim: day/names.csv record 2: {line}\n", False, "00010101 30NOV2630NOV261 08100810 10001000 00 320"), came)
     first = leg("ZZ", 1, "AKL 0005 +1300 HNL 0835 -1000", "320", period=("27OCT26", "00XXX00"), shifts="0A")

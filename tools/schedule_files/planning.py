@@ -7,11 +7,12 @@ from collections import Counter
 
 from hints.forms import MOST_SHIFT
 from hints.records import HEADERS, NO_FLEET, SHIFTED, Unread, headers_of
-from schedule_files.days import DAY, clock, text_of
+from schedule_files.days import DAY, clock, iso, text_of
 from schedule_files.files import rows
 from schedule_files.layout import BadLine, ZEROS, printed
-from schedule_files.reading import MOST_RECORDS
-from schedule_files.retiming import move_of, moved, retimed
+from schedule_files.reading import MOST_RECORDS, read_schedule
+from schedule_files.retiming import common_dates, move_of, moved, retimed
+from schedule_files.selecting import some
 from schedule_files.splitting import LEFT_OUT, Planned, parts_by_date, parts_by_weekday
 from schedule_files.tables import NAMES
 
@@ -22,32 +23,34 @@ SHIFT = re.compile("0|-?[1-9][0-9]{0,2}")
 
 
 def changes_of(schedule, folder):
-    """Returns of each itinerary that a plan changes its dates, each with what is planned of legs, and counts of what is changed; or raises
-    Unread."""
+    """Returns of each itinerary that a plan changes its dates, each with what is planned of legs; counts of what is changed; and the
+    records of the plan whose legs the file doesn't have; or raises Unread."""
     path = os.path.join(folder, "names.csv")
-    named = rows(path, NAMES)
-    plan = plan_of(folder, [it[0] for it in named])
-    times = times_of(folder, plan)
+    named, ways = rows(path, NAMES), ways_of(folder)
+    plan, added = plan_of(folder, [it[0] for it in named], ways)
     legs = {it.number: it for it in schedule.legs}
     changes, counts = {}, Counter()
     for number, row in enumerate(named, 2):
         leg, operates = leg_named(schedule, legs, path, number, row)
+        check_way(f"{path} record {number}: {row[0]}", leg, schedule, ways.get(row[0]))
         planned = plan[row[0]]
-        filed = clock(leg.departure % DAY)
-        if planned and planned.shift and times.get(row[0]) != filed:
-            what = f"{path} record {number}: {row[0]} departs at {filed} by line {row[6]} of {schedule.path}"
-            raise Unread(f"{what}, it should be {times.get(row[0])} as in legs.csv, in the file that the tables are of")
         if planned != Planned(leg.type, 0):
             changes.setdefault(itinerary_of(leg), {}).setdefault(operates, {})[leg.number] = planned
             counts.update(counted(leg, planned))
-    return changes, counts
+    return changes, counts, added
 
 
-def times_of(folder, plan):
-    """Returns when each leg departs by legs.csv, where a plan has shifts: they count from there."""
-    if not any(it and it.shift for it in plan.values()):
-        return {}
-    return {it[0]: printed(it[-3]) for it in rows(os.path.join(folder, "legs.csv"), *headers_of("legs.csv"))}
+def ways_of(folder):
+    """Returns where and when each leg departs and arrives by legs.csv, the days aside: shifts count from there."""
+    return {it[0]: it[-4:] for it in rows(os.path.join(folder, "legs.csv"), *headers_of("legs.csv"))}
+
+
+def check_way(where, leg, schedule, way):
+    """Refuses a leg that legs.csv has otherwise than the schedule file: what is changed there isn't written back."""
+    filed = [leg.origin, clock(leg.departure % DAY), leg.destination, clock(leg.arrival % DAY)]
+    if way != filed:
+        should = f"{printed(' '.join(way))} as in legs.csv, in the file that the tables are of" if way else "in legs.csv"
+        raise Unread(f"{where} is {' '.join(filed)} by line {leg.number} of {schedule.path}, it should be {should}")
 
 
 def counted(leg, planned):
@@ -63,18 +66,20 @@ def counted(leg, planned):
         yield "day"
 
 
-def plan_of(folder, names):
-    """Returns what plan.csv has for each leg."""
-    path = os.path.join(folder, "plan.csv")
-    found = rows(path, HEADERS["plan.csv"], SHIFTED)
+def plan_of(folder, names, ways):
+    """Returns what plan.csv has for each leg of names.csv, and those of its records whose legs legs.csv alone has."""
+    path, known = os.path.join(folder, "plan.csv"), set(names)
+    found = list(enumerate(rows(path, HEADERS["plan.csv"], SHIFTED), 2))
+    added = [row for _, row in found if row[0] not in known and row[0] in ways]
+    own = [(number, row) for number, row in found if row[0] in known or row[0] not in ways]
     plan = {}
-    for number, (row, name) in enumerate(zip(found, names), 2):
+    for (number, row), name in zip(own, names):
         if row[0] != name:
             raise Unread(f"{path} record {number}: the flight is {printed(row[0])}, it should be {printed(name)} as in names.csv")
         plan[name] = planned_by(f"{path} record {number}", *row)
-    if len(found) != len(names):
-        raise Unread(f"{path} has {len(found)} flights, it should have the {len(names)} of names.csv")
-    return plan
+    if len(own) != len(names):
+        raise Unread(f"{path} has {len(own)} flights, it should have the {len(names)} of names.csv")
+    return plan, added
 
 
 def planned_by(where, flight, fleet, shift="0"):
@@ -244,7 +249,7 @@ def varied(line, number, at):
 
 def write_plan(schedule, folder, is_whole_season):
     """Returns the bytes of the file with what a plan says of its legs, and what is told of it."""
-    changes, counts = changes_of(schedule, folder)
+    changes, counts, added = changes_of(schedule, folder)
     pieces = pieces_of(schedule, changes, parts_by_weekday if is_whole_season else parts_by_date)
     variations = variations_of(pieces, changes)
     if max(variations.values(), default=0) >= 100 * len(LETTERS):
@@ -254,7 +259,24 @@ def write_plan(schedule, folder, is_whole_season):
     if writer.serial > MOST_RECORDS:
         line = len(schedule.lines)
         raise BadLine(schedule.path, line, f"there would be {writer.serial} records", "bytes 195 to 200", f"{MOST_RECORDS} at most")
-    return data, list(told(counts, len(schedule.legs), pieces))
+    return data, [*told(counts, len(schedule.legs), pieces), *unwritten(added), *doubled(schedule.path, data, pieces)]
+
+
+def unwritten(added):
+    """Yields what is told of the legs that the file doesn't have: those that are flown, as ferries."""
+    flown = [f"{printed(flight)} by {printed(fleet)}" for flight, fleet, *_ in added if fleet != NO_FLEET]
+    if flown:
+        yield f"{len(flown)} legs of legs.csv aren't in the file, and aren't written into it: {some(flown)}"
+
+
+def doubled(path, data, pieces):
+    """Yields what is told of the flights that have a date of operation twice, where the plan moves dates."""
+    names = {it.leg.name for it in pieces if it.part is not None and it.part.move}
+    if names:
+        found = common_dates([it for it in read_schedule(path, data).legs if it.name in names])
+        dates = [f"{airline.strip()} {flight}{suffix.strip()} on {iso(date)}" for (airline, flight, suffix), date in found.items()]
+        if dates:
+            yield f"{len(dates)} flights have a date of operation twice, which date variations can't say otherwise: {some(dates)}"
 
 
 def told(counts, filed, pieces):

@@ -4,6 +4,7 @@ import datetime
 import re
 
 from hints.forms import TRILLION
+from hints.records import ASKED
 from schedule_files.days import Dates
 from schedule_files.selecting import Choice
 from schedule_files.tables import Sources
@@ -14,6 +15,8 @@ TABLES = {
     "stations": "FILE",
     "fleets": "FILE",
     "costs": "FILE",
+    "windows": "FILE",
+    "optional": "FILE",
     "types": "T,..",
     "stations-only": "S,..",
     "service": "LETTERS",
@@ -109,7 +112,8 @@ class TablesCall:
         value = found.get("through-value", "0")
         if not re.fullmatch("[0-9]{1,20}", value) or int(value) > TRILLION:
             raise Usage(f"--through-value {value}: a whole number from 0 to {TRILLION} is wanted")
-        self.sources = Sources(found.get("stations"), found.get("fleets"), found.get("costs"), int(value))
+        asked = {it: found[it] for it in ASKED if it in found}
+        self.sources = Sources(found.get("stations"), found.get("fleets"), found.get("costs"), int(value), asked)
 
 
 class PlanCall:
