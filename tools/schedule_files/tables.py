@@ -77,6 +77,8 @@ class Made:
         """Returns what standard error is told, in lines."""
         stations, types = len(self.stations), len({it.leg.type for it in self.flown})
         yield f"{len(self.flown)} legs depart {self.dates} in UTC: {stations} stations, {types} aircraft types"
+        if not self.flown:
+            yield f"the file is valid {', '.join(map(str, self.schedule.carriers))}"
         if self.left_out:
             yield "left out: " + ", ".join(f"{count} {why}" for why, count in self.left_out.items())
         if self.unjudged:
@@ -85,16 +87,21 @@ class Made:
             if self.unjudged.startswith("too many"):
                 yield "no fleet may have more: ask for fewer legs, with --types, --stations-only or --service"
             yield from self.unbalanced()
+            if self.unjudged.startswith("unbalanced") and self.dates.count == 1:
+                yield "a week may be balanced where a date isn't: --week"
         elif self.sources.fleets is None and self.fleets:
             yield "aircraft that the plan as filed uses: " + ", ".join(f"{fleet} {count}" for fleet, count, _ in self.fleets)
-        for it in self.asked:
-            yield f"{it.table} has {len(it.records)} records, for calls with --{it.option}"
-            if it.unknown:
-                yield f"{len(it.unknown)} flights of {it.path} aren't among these legs: {selecting.some(it.unknown)}"
         allowed = {(flight, fleet) for flight, fleet, _ in self.costs}
         lacking = [it.name for it in self.flown if (it.name, it.leg.type) not in allowed]
         if lacking:
             yield f"{len(lacking)} legs may not be flown by their filed type by {self.sources.costs}, the first is {lacking[0]}"
+
+    def told_of_asked(self):
+        """Tells of the tables that options of the program have read."""
+        for it in self.asked:
+            yield f"{it.table} has {len(it.records)} records, for calls with --{it.option}"
+            if it.unknown:
+                yield f"{len(it.unknown)} flights of {it.path} aren't among these legs: {selecting.some(it.unknown)}"
 
     def unbalanced(self):
         """Tells the aircraft types that don't leave a station as often as they come to it."""
@@ -120,4 +127,4 @@ def make_tables(schedule, folder, dates, choice, sources):
     made = Made(schedule, dates, choice, sources)
     older = [it for option, it in ASKED.items() if option not in sources.asked and os.path.lexists(os.path.join(folder, it))]
     write_all(folder, made.texts())
-    return [*made.told(), *(f"{it} stays in {folder} as it was" for it in older)]
+    return [*made.told(), *made.told_of_asked(), *(f"{it} stays in {folder} as it was" for it in older)]

@@ -28,12 +28,20 @@ PLAN = {"whole-season": None}
 DAYS = {"date": 1, "week": 7}
 
 
+# How many options of `tables` stand in one line of the usage.
+IN_LINE = 4
+
+
 def shown(options):
-    return " ".join(f"[--{name}{f' {form}' if form else ''}]" for name, form in options.items() if name not in DAYS)
+    """Returns options in lines."""
+    texts = [f"[--{name}{f' {form}' if form else ''}]" for name, form in options.items() if name not in DAYS]
+    return ("\n" + " " * 18).join(" ".join(texts[at : at + IN_LINE]) for at in range(0, len(texts), IN_LINE))
 
 
-USAGE = f"""usage: tools/ssim tables FILE DIR {" | ".join(f"--{it} {TABLES[it]}" for it in DAYS)} {shown(TABLES)}
-       tools/ssim plan FILE DIR NEW {shown(PLAN)}"""
+USAGE = f"""usage: tools/ssim tables FILE DIR {" | ".join(f"--{it} {TABLES[it]}" for it in DAYS)}
+                  {shown(TABLES)}
+       tools/ssim plan FILE DIR NEW {shown(PLAN)}
+docs/formats.md#schedule-files says what they do"""
 
 
 class Usage(Exception):
