@@ -1,6 +1,7 @@
 """A plan written back into the schedule file: the aircraft types and the departures of the legs of its dates."""
 
 import datetime
+import itertools
 import os
 import re
 from collections import Counter
@@ -129,30 +130,35 @@ class Piece:
 def pieces_of(schedule, changes, cut):
     """Returns the records of legs of the new file, in their order. Legs of one itinerary that stand together are written together for
     each of its parts."""
-    legs, parts = {}, {}
-    itineraries = [itinerary_of(it) for it in schedule.legs]
-    for leg, itinerary in zip(schedule.legs, itineraries):
+    parts, pieces = parts_of(schedule, changes, cut), []
+    for itinerary, legs in itertools.groupby(schedule.legs, itinerary_of):
+        pieces.extend(pieces_in(schedule, itinerary, list(legs), parts.get(itinerary)))
+    return pieces
+
+
+def parts_of(schedule, changes, cut):
+    """Returns the parts of each itinerary that a plan changes."""
+    legs = {}
+    for leg in schedule.legs:
+        itinerary = itinerary_of(leg)
         if itinerary in changes:
             legs.setdefault(itinerary, []).append(leg)
-    for itinerary, own in legs.items():
-        parts[itinerary] = cut(own, changes[itinerary])
-        for it in parts[itinerary]:
-            it.move = move_of(schedule, [(leg, it.planned_of(leg).shift) for leg in own if is_flown(leg, it)])
-    pieces, at = [], 0
-    while at < len(itineraries):
-        itinerary, end = itineraries[at], at + 1
-        if itinerary not in parts:
-            leg = schedule.legs[at]
-            pieces.append(Piece(leg, itinerary, None, schedule.lines[leg.number - 1]))
-            at = end
-            continue
-        while end < len(itineraries) and itineraries[end] == itinerary:
-            end += 1
-        for part in parts[itinerary]:
-            found = ((leg, line_in(schedule, leg, part, parts[itinerary])) for leg in schedule.legs[at:end])
-            pieces.extend(Piece(leg, itinerary, part, line) for leg, line in found if line)
-        at = end
-    return pieces
+    return {itinerary: with_moves(schedule, own, cut(own, changes[itinerary])) for itinerary, own in legs.items()}
+
+
+def with_moves(schedule, legs, parts):
+    """Returns parts of an itinerary, each with the days by which its dates of operation have to move."""
+    for part in parts:
+        part.move = move_of(schedule, [(leg, part.planned_of(leg).shift) for leg in legs if is_flown(leg, part)])
+    return parts
+
+
+def pieces_in(schedule, itinerary, legs, parts):
+    """Returns the records of legs that stand together: those of each part, or, where there are none, as they are."""
+    if parts is None:
+        return [Piece(leg, itinerary, None, schedule.lines[leg.number - 1]) for leg in legs]
+    found = ((leg, part, line_in(schedule, leg, part, parts)) for part in parts for leg in legs)
+    return [Piece(leg, itinerary, part, line) for leg, part, line in found if line]
 
 
 def is_flown(leg, part):
