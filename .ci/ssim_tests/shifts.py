@@ -19,6 +19,9 @@ EVENING = [
     leg("ZZ", 7, "ZRH 2200 +0100 GVA 2245 +0100", "320", "1", MONDAY),
     leg("ZZ", 7, "GVA 2330 +0100 LIS 0110 +0000", "320", "1", MONDAY, sequence=2, shifts="01"),
 ]
+LONG = [leg("ZZ", 7, "ZRH 0700 +0100 GVA 0745 +0100", "320", "1", MONDAY)]
+LONG += [segment(LONG[0], "010", "XY 1"), leg("ZZ", 7, "GVA 0830 +0100 LIS 1010 +0000", "320", "1", MONDAY, sequence=2)]
+LONG += [segment(LONG[2], "010", "XY 1"), leg("ZZ", 7, "LIS 1110 +0000 FNC 1250 +0000", "320", "1", MONDAY, sequence=3)]
 OTHER = leg("ZZ", 99, WAY, "E90", "7")
 ODD = leg("ZZ", 1, WAY, "320", "1", MONDAY, b40="0755", b62="    ")
 
@@ -77,6 +80,9 @@ CASES = {
         "00070102 25OCT2627MAR271 01300130 03100310 11 320",
         "00070201 25OCT2627MAR27 23456 22302230 23152315 00 320", "00070202 25OCT2627MAR27 23456 01300130 03100310 11 320",
         "00070301 25OCT2627MAR27      7 22302230 23152315 00 320", "00070302 25OCT2627MAR27      7 01000100 02400240 11 320",
+    ]),
+    "the middle one of three legs left out": (LONG, {"ZZ7B": ("-", 0)}, (), [
+        "00070101 30NOV2630NOV261 07000700 07450745 00 320", "00070101 010", "00070103 30NOV2630NOV261 11101110 12501250 00 320",
     ]),
     "all legs left out": ([leg("ZZ", 1, WAY, "320", "1", MONDAY), TWO], {"ZZ1": ("-", 0), "ZZ2": ("-", 0)}, ("--whole-season",), [
         "00020101 25OCT2627MAR27 2345 11001100 12501250 00 320",
@@ -177,7 +183,7 @@ TOLD = """\
 ssim: 1 legs have another aircraft type, and 3 records are new
 ssim: 1 legs depart at another time, 1 of them on another day in UTC
 ssim: 1 legs are left out, and 0 records are taken away
-ssim: configurations (bytes 173 to 192) and classes (bytes 76 to 100) stay as filed: mend them where types changed
+ssim: configurations (bytes 173 to 192), classes (76 to 100) and onward flights (138 to 146) stay as filed: mend them where types changed
 ssim: onward flights (bytes 138 to 146), leg sequences and data of segments stay as filed: mend them where times or legs changed
 """
 

@@ -295,6 +295,6 @@ def told(counts, filed, pieces):
     if counts["left out"]:
         yield f"{counts['left out']} legs are left out, and {filed - kept} records are taken away"
     if counts["type"]:
-        yield "configurations (bytes 173 to 192) and classes (bytes 76 to 100) stay as filed: mend them where types changed"
+        yield "configurations (bytes 173 to 192), classes (76 to 100) and onward flights (138 to 146) stay as filed: mend them where types changed"
     if counts["shift"] or counts["left out"]:
         yield "onward flights (bytes 138 to 146), leg sequences and data of segments stay as filed: mend them where times or legs changed"
