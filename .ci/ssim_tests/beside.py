@@ -57,6 +57,11 @@ CHANGED = {
         "day/names.csv record 3: ZZ2 is LHR 11:00 ZRH 11:50 by line 4 of season, it should be LHR 11:10 ZRH 11:50 as in legs.csv, in the file that "
         "the tables are of",
     ),
+    "a day that is changed in legs.csv": (
+        (("ZZ1D2,2,", "ZZ1D2,3,"), ("", "")), 6,
+        "day/names.csv record 4: ZZ1D2 is 2 ZRH 07:00 LHR 09:50 by line 3 of season, it should be 3 ZRH 07:00 LHR 09:50 as in legs.csv, in the file "
+        "that the tables are of",
+    ),
     "a leg that is taken out of legs.csv": (
         (("ZZ2,LHR,11:00,ZRH,11:50\n", ""), ("", "")), 6, "day/names.csv record 3: ZZ2 is LHR 11:00 ZRH 11:50 by line 4 of season, it should be in legs.csv",
     ),
@@ -120,7 +125,7 @@ def try_changed(tally):
     for name, (changes, status, line) in CHANGED.items():
         with scratch() as folder:
             lines = file_of(out(), back())
-            planned(folder, lines, {})
+            planned(folder, lines, {}, option="--week" if "a day" in name else "--date")
             for table, (old, new) in zip(("legs.csv", "plan.csv"), changes):
                 path = folder / "day" / table
                 path.write_text(path.read_text(encoding="ascii").replace(old, new, 1), encoding="ascii")

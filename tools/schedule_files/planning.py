@@ -7,7 +7,7 @@ import re
 from collections import Counter
 
 from hints.forms import MOST_SHIFT
-from hints.records import HEADERS, NO_FLEET, SHIFTED, Unread, headers_of
+from hints.records import DATED, HEADERS, NO_FLEET, SHIFTED, Unread, headers_of
 from schedule_files.days import DAY, clock, iso, text_of
 from schedule_files.files import rows
 from schedule_files.layout import BadLine, ZEROS, printed
@@ -30,10 +30,11 @@ def changes_of(schedule, folder):
     named, ways = rows(path, NAMES), ways_of(folder)
     plan, added = plan_of(folder, [it[0] for it in named], ways)
     legs = {it.number: it for it in schedule.legs}
+    flown = [leg_named(schedule, legs, path, number, row) for number, row in enumerate(named, 2)]
+    first = first_day(flown[0], ways.get(named[0][0])) if flown else None
     changes, counts = {}, Counter()
-    for number, row in enumerate(named, 2):
-        leg, operates = leg_named(schedule, legs, path, number, row)
-        check_way(f"{path} record {number}: {row[0]}", leg, schedule, ways.get(row[0]))
+    for number, row, (leg, operates) in zip(itertools.count(2), named, flown):
+        check_way(f"{path} record {number}: {row[0]}", schedule, leg, way_of(leg, operates, first), ways.get(row[0]))
         planned = plan[row[0]]
         if planned != Planned(leg.type, 0):
             changes.setdefault(itinerary_of(leg), {}).setdefault(operates, {})[leg.number] = planned
@@ -42,13 +43,25 @@ def changes_of(schedule, folder):
 
 
 def ways_of(folder):
-    """Returns where and when each leg departs and arrives by legs.csv, the days aside: shifts count from there."""
-    return {it[0]: it[-4:] for it in rows(os.path.join(folder, "legs.csv"), *headers_of("legs.csv"))}
+    """Returns where and when each leg departs and arrives by legs.csv: shifts count from there."""
+    return {it[0]: it[1:] for it in rows(os.path.join(folder, "legs.csv"), *headers_of("legs.csv"))}
 
 
-def check_way(where, leg, schedule, way):
+def first_day(flown, way):
+    """Returns the first day of tables whose legs have days, by that of a leg and its date of operation; or None."""
+    leg, operates = flown
+    has_day = way and len(way) == len(DATED) - 1 and re.fullmatch("[1-7]", way[0])
+    return operates + leg.departure // DAY + 1 - int(way[0]) if has_day else None
+
+
+def way_of(leg, operates, first):
+    """Returns where and when a leg departs and arrives as legs.csv has it, where the first day of the tables is known with its day."""
+    day = [] if first is None else [str(operates + leg.departure // DAY + 1 - first)]
+    return [*day, leg.origin, clock(leg.departure % DAY), leg.destination, clock(leg.arrival % DAY)]
+
+
+def check_way(where, schedule, leg, filed, way):
     """Refuses a leg that legs.csv has otherwise than the schedule file: what is changed there isn't written back."""
-    filed = [leg.origin, clock(leg.departure % DAY), leg.destination, clock(leg.arrival % DAY)]
     if way != filed:
         should = f"{printed(' '.join(way))} as in legs.csv, in the file that the tables are of" if way else "in legs.csv"
         raise Unread(f"{where} is {' '.join(filed)} by line {leg.number} of {schedule.path}, it should be {should}")
