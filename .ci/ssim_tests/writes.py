@@ -27,6 +27,10 @@ def full():
     raise OSError(28, "No space left on device")
 
 
+def interrupt():
+    raise KeyboardInterrupt
+
+
 def kill():
     os.kill(os.getpid(), signal.SIGKILL)
 
@@ -65,6 +69,16 @@ def try_failing(tally):
                     wanted = {it: whole[it] if after[it] == whole[it] else before[it] for it in before}
                 what = f"os.{name} {number} fails{' in a new folder' if is_new else ''}"
                 tally.equal(what, (7, line, wanted, []), (status, told, after, beside))
+
+
+def try_interrupted(tally):
+    """After Ctrl-C in the midst of writing a new folder nothing is left of it."""
+    for name, number in (("chmod", 1), ("chmod", COUNT), ("replace", COUNT), ("rename", 1)):
+        with scratch() as folder:
+            lay(folder)
+            with failing(name, number, interrupt):
+                came = tables(folder)
+            tally.equal(f"Ctrl-C at os.{name} {number}", (130, "", ["fleets"]), (*came, os.listdir(folder)))
 
 
 def killed(name, number, run):
@@ -207,6 +221,7 @@ def try_programs(tally):
 
 def try_all(tally):
     try_failing(tally)
+    try_interrupted(tally)
     try_killed(tally)
     try_killed_plan(tally)
     try_full(tally)
