@@ -2,12 +2,11 @@
 
 from hints.forms import FIELDS, name
 from hints.records import ASKED, HEADERS, Unread
+from hints.refused_tables import MOST_TRIPLES, MOST_WINDOWS
 from schedule_files.files import judged
 
 # What stands for each leg that has no record of its own.
 EACH = "*"
-MOST_WINDOWS = 8
-MOST_TIMES = 20_000
 
 
 class Asked:
@@ -38,9 +37,9 @@ class Asked:
         for flight, *_ in self.records:
             own[flight] = own.get(flight, 1) + 1
         count = sum(own.get(flight, 1) for flight, *_ in costs)
-        if self.records and count > MOST_TIMES:
+        if self.records and count > MOST_TRIPLES:
             ways = "ask for fewer legs, or give fewer times or fleets"
-            raise Unread(f"{self.path}: {count:,} pairs of a leg and a fleet at their times, and tables have {MOST_TIMES:,} at most: {ways}")
+            raise Unread(f"{self.path}: {count:,} pairs of a leg and a fleet at their times, and tables have {MOST_TRIPLES:,} at most: {ways}")
 
 
 def keys_of(flown):
