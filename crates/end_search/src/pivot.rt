@@ -44,10 +44,12 @@ pub(crate) fn pivot<N: Number>(
     let Some(step) = progress.costs.step(&workspace.row, column) else {
         return Ok(false);
     };
-    let numbers = workspace.values.numbers.as_mut_slice();
-    progress
-        .weights
-        .change(frame, kernel, &workspace.column, numbers);
+    let scale = workspace.column.lay_lines(frame, kernel);
+    if let Some(scale) = scale {
+        progress
+            .weights
+            .change(frame, kernel, &workspace.column, scale);
+    }
     let place = open(kernel, leaves)?;
     progress.costs.open_slots(kernel.lines.len())?;
     progress.costs.change(&workspace.row, step);
@@ -55,7 +57,14 @@ pub(crate) fn pivot<N: Number>(
     progress.work = change_rows(kernel, workspace, place, progress.work)?;
     let weight = progress.weights.entered();
     lay_entered(alloc, kernel, &workspace.row, column, weight, place)?;
-    come_back(frame, kernel, progress, place)?;
+    let values = &mut workspace.values;
+    match scale {
+        Some(scale) => values.advance(kernel, workspace.row.own, &workspace.column, scale),
+        None => values.forget(),
+    }
+    if come_back(frame, kernel, progress, place)? {
+        workspace.values.forget();
+    }
     progress.made = progress.made.wrapping_add(1);
     Ok(true)
 }
@@ -131,23 +140,24 @@ pub(crate) fn lay_entered<N: Number>(
     Ok(())
 }
 
-// Where the column that entered is the first one of a line, its row and the line's slot go.
+// Where the column that entered is the first one of a line, its row and the line's slot go. Answers whether they do.
 fn come_back<N: Number>(
     frame: &Frame,
     kernel: &mut Kernel<N>,
     progress: &mut Progress,
     place: usize,
-) -> Result<(), NoMemory> {
+) -> Result<bool, NoMemory> {
     if place >= kernel.rows.len() {
-        return Ok(());
+        return Ok(false);
     }
     let line = frame.start.line_of(kernel.rows[place].column);
     let slot = kernel.slot_of(line);
     if line == NONE || slot == NONE {
-        return Ok(());
+        return Ok(false);
     }
     let weight = kernel.rows[place].weight;
     progress.weights.lay(line, weight);
     progress.costs.close_slot(slot);
-    kernel.close_slot(place, line)
+    kernel.close_slot(place, line)?;
+    Ok(true)
 }
