@@ -65,7 +65,11 @@ impl<N: Number> Values<N> {
             let line = at(lines, place, N::of(0));
             if !line.is_zero() {
                 let product = line.times(times);
-                let less = if den.is_one() { product } else { product.over(den) };
+                let less = if den.is_one() {
+                    product
+                } else {
+                    product.over(den)
+                };
                 if line.bits().wrapping_add(times.bits()) > N::room()
                     || !less.times(den).minus(product).is_zero()
                 {
