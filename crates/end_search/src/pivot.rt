@@ -44,12 +44,7 @@ pub(crate) fn pivot<N: Number>(
     let Some(step) = progress.costs.step(&workspace.row, column) else {
         return Ok(false);
     };
-    let scale = workspace.column.lay_lines(frame, kernel);
-    if let Some(scale) = scale {
-        progress
-            .weights
-            .change(frame, kernel, &workspace.column, scale);
-    }
+    let scale = change_weights(frame, kernel, progress, workspace);
     let place = open(kernel, leaves)?;
     progress.costs.open_slots(kernel.lines.len())?;
     progress.costs.change(&workspace.row, step);
@@ -57,16 +52,42 @@ pub(crate) fn pivot<N: Number>(
     progress.work = change_rows(kernel, workspace, place, progress.work)?;
     let weight = progress.weights.entered();
     lay_entered(alloc, kernel, &workspace.row, column, weight, place)?;
-    let values = &mut workspace.values;
-    match scale {
-        Some(scale) => values.advance(kernel, workspace.row.own, &workspace.column, scale),
-        None => values.forget(),
-    }
+    advance_values(kernel, workspace, scale);
     if come_back(frame, kernel, progress, place)? {
         workspace.values.forget();
     }
     progress.made = progress.made.wrapping_add(1);
     Ok(true)
+}
+
+// Lays the column's numbers in the lines, changes all weights by them, and answers their scale, where they fit.
+fn change_weights<N: Number>(
+    frame: &Frame,
+    kernel: &mut Kernel<N>,
+    progress: &mut Progress,
+    workspace: &mut Workspace<N>,
+) -> Option<N> {
+    match workspace.column.lay_lines(frame, kernel) {
+        Some(scale) => {
+            let column = &workspace.column;
+            progress.weights.change(frame, kernel, column, scale);
+            Some(scale)
+        }
+        None => None,
+    }
+}
+
+// Brings the values to what they are after the pivot, where the column's numbers in the lines have a scale.
+fn advance_values<N: Number>(kernel: &Kernel<N>, workspace: &mut Workspace<N>, scale: Option<N>) {
+    match scale {
+        Some(scale) => {
+            let own = workspace.row.own;
+            workspace
+                .values
+                .advance(kernel, own, &workspace.column, scale);
+        }
+        None => workspace.values.forget(),
+    }
 }
 
 /// The place of the row that enters, with a slot for a line that leaves.
