@@ -17,7 +17,7 @@ pub struct Costs {
     pub columns: Vec<i128>,
     pub slots: Vec<i128>,
     pub den: i128,
-    /// All bits that one of the sizes has, and more of them where numbers became less.
+    /// A number with as many bits as the greatest size, or more.
     sizes: i128,
 }
 
