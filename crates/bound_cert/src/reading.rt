@@ -128,8 +128,10 @@ fn of_version(
 ) -> Result<Proof, Stop>
     ensures { Gives (λ proof. (proof.planned, nodes_of proof.tree)) result (rest_at (names_in version tables.now) (seen left.now)) }
 {
-    let grammar = Grammar::new(alloc, version, tables)?;
-    rest_at(alloc, &grammar, left)
+    match Grammar::new(alloc, version, tables) {
+        Ok(grammar) => rest_at(alloc, &grammar, left),
+        Err(_) => Err(Stop::NoMemory),
+    }
 }
 
 /// Whether a plan comes, and the tree.
