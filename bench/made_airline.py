@@ -1,5 +1,6 @@
 #!/usr/bin/env python3
-"""Writes the schedule file of a made airline with its prices and stations, the same at each run: what examples/ssim holds.
+"""Writes the schedule file of a made airline with its prices, stations, other times and legs that may be left out, the same at each run:
+what examples/ssim holds.
 
 usage: made_airline.py FOLDER
 
@@ -30,6 +31,8 @@ DAYS = {
 }  # fmt: skip
 PRICES = "fleet,departure,minute,longest,closed\n223,750,45,300,\n320,900,52,400,LUG\n333,2500,110,,LUG FNC\nE90,500,36,130,\n"
 STATIONS = ("ZRH", "GVA")
+WINDOWS = "flight,shift,extra\n*,-15,100\n*,15,100\n"
+OPTIONAL = "flight,skip\nZZ324,2000\nZZ325,2000\n"
 
 
 def zone(minutes):
@@ -100,7 +103,8 @@ def main():
     folder.mkdir(parents=True, exist_ok=True)
     lines = whole(AIRLINE, [*others(), *trips(), *elsewhere()])
     (folder / "season.ssim").write_bytes(text(lines).encode("ascii"))
-    (folder / "prices.csv").write_bytes(PRICES.encode("ascii"))
+    for name, held in (("prices.csv", PRICES), ("windows.csv", WINDOWS), ("optional.csv", OPTIONAL)):
+        (folder / name).write_bytes(held.encode("ascii"))
     codes = sorted({it[at : at + 3] for it in lines if it[0] == "3" for at in (36, 54)})
     rows = [f"{it},0,{'yes' if it in STATIONS else 'no'}\n" for it in codes]
     (folder / "stations.csv").write_bytes(("code,extra,maintenance\n" + "".join(rows)).encode("ascii"))

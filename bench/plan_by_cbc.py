@@ -4,8 +4,10 @@
 usage: plan_by_cbc.py DIR [HH:MM]
 
 The day starts at the time of the second word, or else at 03:00. Where legs have a day, the schedule repeats after the last of these.
-Where windows.csv or optional.csv stands there, legs may depart at its times, or be left out. The plan is written as DIR/plan.csv, and its cost is printed. Each fleet has a time line at each station: its aircraft wait on arcs
-from a node, which are some that become ready and then some that depart, to the next one, and from the last to the first.
+Where windows.csv or optional.csv stands there, legs may depart at its times, or be left out. Limits of parking are kept. The plan is
+written as DIR/plan.csv, and its cost is printed. Each fleet has a time line at each station: its aircraft wait on arcs from a node,
+which are some that become ready and then some that depart, to the next one, and from the last to the first. Where a station has a
+limit, a node lies within a day.
 """
 import subprocess
 import sys
@@ -16,7 +18,7 @@ from pathlib import Path
 from schedules import FLAGGED, flags_of, period_of, rows
 
 DAY = 1440
-LEFT_OUT = "-"
+LEFT_OUT = UNLIMITED = "-"
 
 
 def minute(text):
@@ -25,8 +27,10 @@ def minute(text):
 
 def pairs_of(folder, start):
     """The legs, the fleets, and of each way to fly a leg, by its fleet and shift, its departure, ready minute, laps and cost. A leg that may
-    be left out has a way without fleet that has its cost alone."""
-    extra = {row["code"]: int(row["extra"]) for row in rows(folder, "stations.csv")}
+    be left out has a way without fleet that has its cost alone. Last come the limits of stations that have one."""
+    stations = rows(folder, "stations.csv")
+    extra = {row["code"]: int(row["extra"]) for row in stations}
+    limits = {row["code"]: int(row["parking"]) for row in stations if row.get("parking", UNLIMITED) != UNLIMITED}
     fleets = [(row["fleet"], int(row["aircraft"]), int(row["turn"])) for row in rows(folder, "fleets.csv")]
     legs, period = rows(folder, "legs.csv"), DAY * period_of(folder)
     place = {leg["flight"]: number for number, leg in enumerate(legs)}
@@ -43,10 +47,10 @@ def pairs_of(folder, start):
             pairs[place[row["flight"]], row["fleet"], shift] = (departs, ready % period, ready // period, int(row["cost"]) + more)
     for row in rows(folder, FLAGGED["--optional"]) if "--optional" in flags else ():
         pairs[place[row["flight"]], LEFT_OUT, 0] = (None, None, 0, int(row["skip"]))
-    return legs, fleets, pairs
+    return legs, fleets, pairs, limits
 
 
-def program(legs, fleets, pairs):
+def program(legs, fleets, pairs, limits):
     """The text of the integer program, in the form that cbc reads."""
     name = {key: f"x{number}" for number, key in enumerate(pairs)}
     lines = ["Minimize", " cost: " + " + ".join(f"{pairs[key][3]} {name[key]}" for key in pairs).replace("+ -", "- "), "Subject To"]
@@ -61,14 +65,19 @@ def program(legs, fleets, pairs):
         if crossed:
             laps[fleet].append(f"{crossed} {name[key]}")
     lines += [" " + " + ".join(terms) + " = 1" for terms in cover.values()]
-    stocks, arcs = defaultdict(list), 0
-    for (fleet, _), here in sorted(events.items()):
-        nodes = nodes_of(here)
+    stocks, parked, arcs = defaultdict(list), defaultdict(list), 0
+    days = max((int(leg.get("day", 1)) for leg in legs), default=1)
+    for (fleet, station), here in sorted(events.items()):
+        nodes = nodes_of(here, station in limits)
         stocks[fleet].append(f"g{arcs}")
-        for at, signed in enumerate(nodes):
+        for at, (_, signed) in enumerate(nodes):
             waits = [f"+ g{arcs + at}", f"- g{arcs + (at + 1) % len(nodes)}"] if len(nodes) > 1 else []
             lines.append(" " + " ".join(waits + signed) + " = 0")
+        for day in range(days if station in limits else 0):
+            later = (at for at, (first, _) in enumerate(nodes) if first >= DAY * (day + 1))
+            parked[station, day].append(f"g{arcs + next(later, 0)}")
         arcs += len(nodes)
+    lines += [" " + " + ".join(terms) + f" <= {limits[station]}" for (station, _), terms in parked.items()]
     for fleet, aircraft, _ in fleets:
         terms = stocks[fleet] + laps[fleet]
         if terms:
@@ -76,14 +85,15 @@ def program(legs, fleets, pairs):
     return "\n".join(lines + ["Binaries", " " + " ".join(name.values()), "End", ""]), name
 
 
-def nodes_of(events):
-    """The nodes of a time line, each as the terms of what becomes ready there and then departs, in order of time."""
-    nodes, has_left = [[]], False
-    for _, leaves, term in sorted(events):
-        if has_left and not leaves:
-            nodes.append([])
-        nodes[-1].append(("- " if leaves else "+ ") + term)
-        has_left = leaves
+def nodes_of(events, ends_with_day):
+    """The nodes of a time line, each as its first minute and the terms of what becomes ready there and then departs, in order of time."""
+    nodes, has_left, today = [], False, None
+    for at, leaves, term in sorted(events):
+        day = at // DAY if ends_with_day else 0
+        if has_left and not leaves or day != today:
+            nodes.append((at, []))
+        nodes[-1][1].append(("- " if leaves else "+ ") + term)
+        has_left, today = leaves, day
     return nodes
 
 
@@ -99,8 +109,8 @@ def solve(text):
 
 def write(folder, day_start):
     """Writes the plan of a folder, and gives its cost."""
-    legs, fleets, pairs = pairs_of(folder, minute(day_start))
-    text, name = program(legs, fleets, pairs)
+    legs, fleets, pairs, limits = pairs_of(folder, minute(day_start))
+    text, name = program(legs, fleets, pairs, limits)
     chosen = solve(text)
     flown = {leg: (fleet, shift) for (leg, fleet, shift), it in name.items() if it in chosen}
     width = 3 if "--windows" in flags_of(folder) else 2

@@ -202,11 +202,14 @@ TOLD = {
     "stations alone": "left out: 2 to or from another station",
     "local time": f"2 legs depart on {DATE} in UTC: 2 stations, 1 aircraft types",
     "aircraft as the plan as filed uses": "aircraft that the plan as filed uses: 320 2, E90 1",
-    "a plan as filed that isn't balanced": "arrivals less departures: 320 at LHR +1, 320 at ZRH -1",
+    "a plan as filed that isn't balanced": "arrivals less departures: 320 at LHR +1, 320 at ZRH -1\nssim: a week may be balanced where a date isn't: --week",
+    "a Monday's leg that departs on the Sunday in UTC": "the file is valid from 2026-10-25 to 2027-03-27",
     "the caller's costs": "1 legs may not be flown by their filed type by costs, the first is ZZ3",
     "two flights on some days of a week": f"4 legs depart in the 7 days from {DATE} in UTC: 2 stations, 1 aircraft types",
     "aircraft as the busiest day of the week uses": "aircraft that the plan as filed uses: 320 2, E90 1",
 }
+MOST_AIRCRAFT = "so fleets.csv has 500 of each: write how many there are, or give --fleets"
+FEWER = "no fleet may have more: ask for fewer legs, with --types, --stations-only or --service"
 
 
 def make(folder, lines, words, option="--date"):
@@ -266,6 +269,12 @@ def try_limits(tally):
             status, told = make(folder, whole("ZZ", legs), "")
             told = told.replace(f"{folder}/", "")
             tally.equal(f"the limit of {name}", (6, f"ssim: season: {line}\n", None), (status, told, standing(folder / "day")))
+    ways = {0: "ZRH 0800 +0000 LHR 0700 +0000", 1: "LHR 0800 +0000 ZRH 0700 +0000"}
+    with scratch() as folder:
+        status, told = make(folder, whole("ZZ", [out(it, ways[it % 2], shifts="01") for it in range(1, 521)]), "")
+        lines = [it[6:] for it in told.splitlines()[1:]]
+        wanted = "the plan as filed doesn't say how many aircraft it uses: too many: 320 used 520 of 500", MOST_AIRCRAFT, FEWER
+        tally.equal("the limit of aircraft", (0, ["320,500,30"], *wanted), (status, records(folder / "day", "fleets.csv"), *lines))
     with scratch() as folder:
         status, told = make(folder, whole("ZZ", [out(it) for it in range(1, 144)]), "", "--week")
         is_told = f": 1,001 legs in the 7 days from {DATE}, and tables have 1,000 at most: ask for fewer (" in told

@@ -15,6 +15,13 @@ NIGHT = leg("ZZ", 1, "ZRH 2350 +0100 LHR 0050 +0000", "320", "1", MONDAY, shifts
 MORNING = leg("ZZ", 1, "LIS 0010 +0000 FNC 0150 +0000", "320", "1", MONDAY, shifts="  ")
 # On Tuesdays, which are Mondays in UTC.
 DATE_LINE = leg("ZZ", 1, "AKL 0005 +1300 HNL 0835 -1000", "320", "2", shifts="0A")
+EVENING = [
+    leg("ZZ", 7, "ZRH 2200 +0100 GVA 2245 +0100", "320", "1", MONDAY),
+    leg("ZZ", 7, "GVA 2330 +0100 LIS 0110 +0000", "320", "1", MONDAY, sequence=2, shifts="01"),
+]
+LONG = [leg("ZZ", 7, "ZRH 0700 +0100 GVA 0745 +0100", "320", "1", MONDAY)]
+LONG += [segment(LONG[0], "010", "XY 1"), leg("ZZ", 7, "GVA 0830 +0100 LIS 1010 +0000", "320", "1", MONDAY, sequence=2)]
+LONG += [segment(LONG[2], "010", "XY 1"), leg("ZZ", 7, "LIS 1110 +0000 FNC 1250 +0000", "320", "1", MONDAY, sequence=3)]
 OTHER = leg("ZZ", 99, WAY, "E90", "7")
 ODD = leg("ZZ", 1, WAY, "320", "1", MONDAY, b40="0755", b62="    ")
 
@@ -55,6 +62,9 @@ CASES = {
         "00070201 29NOV2629NOV26      7 22302230 23152315 00 320", "00070202 29NOV2629NOV26      7 01550155 03350335 11 320",
         "00070301 30NOV2627MAR271234567 22302230 23152315 00 320", "00070302 30NOV2627MAR271234567 01300130 03100310 11 320",
     ]),
+    "both legs of a flight, one over midnight in local time alone": (EVENING, {"ZZ7A": ("320", 50), "ZZ7B": ("E90", 50)}, (), [
+        "00070101 30NOV2630NOV261 22502250 23352335 00 320", "00070102 30NOV2630NOV261 00200020 02000200 11 E90",
+    ]),
     "a leg left out of a date": ([ONE, segment(ONE, "010", "XY 1"), LATER], {"ZZ1": ("-", 0)}, (), [
         "00010101 25OCT2627NOV2612345 08000800 09500950 00 320", "00010101 010",
         "00010201 01DEC2627MAR2712345 08000800 09500950 00 320", "00010201 010",
@@ -71,6 +81,9 @@ CASES = {
         "00070201 25OCT2627MAR27 23456 22302230 23152315 00 320", "00070202 25OCT2627MAR27 23456 01300130 03100310 11 320",
         "00070301 25OCT2627MAR27      7 22302230 23152315 00 320", "00070302 25OCT2627MAR27      7 01000100 02400240 11 320",
     ]),
+    "the middle one of three legs left out": (LONG, {"ZZ7B": ("-", 0)}, (), [
+        "00070101 30NOV2630NOV261 07000700 07450745 00 320", "00070101 010", "00070103 30NOV2630NOV261 11101110 12501250 00 320",
+    ]),
     "all legs left out": ([leg("ZZ", 1, WAY, "320", "1", MONDAY), TWO], {"ZZ1": ("-", 0), "ZZ2": ("-", 0)}, ("--whole-season",), [
         "00020101 25OCT2627MAR27 2345 11001100 12501250 00 320",
     ]),
@@ -84,6 +97,10 @@ WEEKS = {
     "the same by days of operation": ([ONE], {("ZZ1", "12"): ("320", 10), ("ZZ1", "3"): ("E90", 10), ("ZZ1", "4"): ("-", 0)}, ("--whole-season",), [
         "00010101 25OCT2627MAR2712 08100810 10001000 00 320", "00010201 25OCT2627MAR27  3 08100810 10001000 00 E90",
         "00010301 25OCT2627MAR27    5 08000800 09500950 00 320",
+    ]),
+    "a departure over the end of the week": ([leg("ZZ", 1, "ZRH 2350 +0100 LHR 0050 +0000", "320", "7", shifts="01")], {("ZZ1", "7"): ("320", 90)}, (), [
+        "00010101 25OCT2629NOV26      7 23502350 00500050 01 320", "00010201 06DEC2606DEC26      7 01200120 02200220 11 320",
+        "00010301 13DEC2627MAR27      7 23502350 00500050 01 320",
     ]),
     "a day left out of every second week": ([leg("ZZ", 1, WAY, "320", "136", ("30NOV26", "22MAR27"), b36="2")], {("ZZ1", "1"): ("-", 0)}, (), [
         "00010101 02DEC2605DEC26  3  6 08000800 09500950 00 320", "00010201 14DEC2622MAR271 3  6 08000800 09500950 00 320",
@@ -166,7 +183,7 @@ TOLD = """\
 ssim: 1 legs have another aircraft type, and 3 records are new
 ssim: 1 legs depart at another time, 1 of them on another day in UTC
 ssim: 1 legs are left out, and 0 records are taken away
-ssim: configurations (bytes 173 to 192) and classes (bytes 76 to 100) stay as filed: mend them where types changed
+ssim: configurations (bytes 173 to 192), classes (76 to 100) and onward flights (138 to 146) stay as filed: mend them where types changed
 ssim: onward flights (bytes 138 to 146), leg sequences and data of segments stay as filed: mend them where times or legs changed
 """
 
@@ -184,7 +201,7 @@ def try_refusals(tally):
     with scratch() as folder:
         lines = planned(folder, file_of(leg("ZZ", 1, WAY, "320", "1", MONDAY)), {}, shifts={"ZZ1": 10})
         status, told = call("plan", folder / "new", folder / "day", folder / "newer")
-        line = "ZZ1 departs at 07:10 by line 3 of new, it should be 07:00 as in legs.csv, in the file that the tables are of"
+        line = "ZZ1 is ZRH 07:10 LHR 10:00 by line 3 of new, it should be ZRH 07:00 LHR 09:50 as in legs.csv, in the file that the tables are of"
         came = status, told.replace(f"{folder}/", ""), (folder / "newer").exists(), short(lines[2])
         tally.equal("plan: shifts twice", (6, f"ssim: day/names.csv record 2: {line}\n", False, "00010101 30NOV2630NOV261 08100810 10001000 00 320"), came)
     first = leg("ZZ", 1, "AKL 0005 +1300 HNL 0835 -1000", "320", period=("27OCT26", "00XXX00"), shifts="0A")

@@ -3,6 +3,7 @@
 import contextlib
 import os
 import resource
+import signal
 from unittest import mock
 
 from ssim_tests.trying import EXAMPLE, call, scratch, standing
@@ -22,14 +23,26 @@ def lay(folder):
     (folder / "fleets").write_text("fleet,aircraft,turn\n223,9,30\n320,9,30\n333,9,30\nE90,9,30\n", encoding="ascii")
 
 
-def failing(name, number):
-    """Has a call of os fail, that of a number, and those before and behind it not."""
+def full():
+    raise OSError(28, "No space left on device")
+
+
+def interrupt():
+    raise KeyboardInterrupt
+
+
+def kill():
+    os.kill(os.getpid(), signal.SIGKILL)
+
+
+def failing(name, number, end=full):
+    """Has a call of os end so, that of a number, and those before and behind it not."""
     real, seen = getattr(os, name), []
 
     def fails(*words, **more):
         seen.append(words)
         if len(seen) == number:
-            raise OSError(28, "No space left on device")
+            end()
         return real(*words, **more)
 
     return mock.patch.object(os, name, fails)
@@ -56,6 +69,63 @@ def try_failing(tally):
                     wanted = {it: whole[it] if after[it] == whole[it] else before[it] for it in before}
                 what = f"os.{name} {number} fails{' in a new folder' if is_new else ''}"
                 tally.equal(what, (7, line, wanted, []), (status, told, after, beside))
+
+
+def try_interrupted(tally):
+    """After Ctrl-C in the midst of writing a new folder nothing is left of it."""
+    for name, number in (("chmod", 1), ("chmod", COUNT), ("replace", COUNT), ("rename", 1)):
+        with scratch() as folder:
+            lay(folder)
+            with failing(name, number, interrupt):
+                came = tables(folder)
+            tally.equal(f"Ctrl-C at os.{name} {number}", (130, "", ["fleets"]), (*came, os.listdir(folder)))
+
+
+def killed(name, number, run):
+    """Has a process of its own run, and killed at a call of os, that of a number. Returns whether it was."""
+    process = os.fork()
+    if not process:
+        with failing(name, number, kill):
+            run()
+        os._exit(0)
+    return os.WIFSIGNALED(os.waitpid(process, 0)[1])
+
+
+def try_killed(tally):
+    """A process that is killed at a step of writing tables: a new folder isn't there, and in an older one each file is an older one or a
+    whole one."""
+    with scratch() as folder:
+        lay(folder)
+        tables(folder)
+        whole = standing(folder / "day")
+    steps = [(name, number, is_new) for name in ("chmod", "replace") for number in range(1, COUNT + 1) for is_new in (True, False)]
+    for name, number, is_new in [*steps, ("rename", 1, True)]:
+        with scratch() as folder:
+            lay(folder)
+            if not is_new:
+                tables(folder, "--types", "E90")
+            before = standing(folder / "day")
+            was_killed = killed(name, number, lambda folder=folder: tables(folder))
+            after = standing(folder / "day")
+            stand = after and {it: data for it, data in after.items() if not it.startswith(".ssim-")}
+            put = {it for it, data in stand.items() if data != before[it]} if stand else set()
+            wanted = before and {it: whole[it] if it in put else before[it] for it in before}
+            most = number - 1 if name == "replace" and not is_new else 0
+            tally.equal(f"killed at os.{name} {number}{' of a new folder' if is_new else ''}", (True, wanted, True), (was_killed, stand, len(put) <= most))
+
+
+def try_killed_plan(tally):
+    """A process that is killed as it writes a plan: the new file isn't there, or is the older one."""
+    for name, before in ((name, before) for name in ("chmod", "replace") for before in (None, b"mine")):
+        with scratch() as folder:
+            lay(folder)
+            tables(folder)
+            new = folder / "new"
+            if before:
+                new.write_bytes(before)
+            was_killed = killed(name, 1, lambda folder=folder, new=new: call("plan", FILE, folder / "day", new))
+            came = was_killed, new.read_bytes() if new.exists() else None
+            tally.equal(f"a plan that is killed at os.{name}, before it {before}", (True, before), came)
 
 
 @contextlib.contextmanager
@@ -151,6 +221,9 @@ def try_programs(tally):
 
 def try_all(tally):
     try_failing(tally)
+    try_interrupted(tally)
+    try_killed(tally)
+    try_killed_plan(tally)
     try_full(tally)
     try_places(tally)
     try_programs(tally)

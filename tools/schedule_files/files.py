@@ -37,17 +37,18 @@ def rows(path, *headers):
     return found[1:]
 
 
-def judged(path, header, forms):
-    """Returns the records of a table whose fields all have their form, each first field once."""
+def judged(path, header, forms, key=None):
+    """Returns the records of a table whose fields all have their form, each first field once, or each key."""
     known = set()
     found = rows(path, header)
     for number, row in enumerate(found, 2):
         for name, text, wrong in zip(header, row, forms):
             if wrong(text):
                 raise Unread(f'{path} record {number}: {name} is "{printed(text)}": {wrong(text)}')
-        if row[0] in known:
-            raise Unread(f"{path} record {number}: {row[0]} stands twice, it should stand once")
-        known.add(row[0])
+        own = key(row) if key else row[:1]
+        if tuple(own) in known:
+            raise Unread(f"{path} record {number}: {' '.join(map(str, own))} stands twice, it should stand once")
+        known.add(tuple(own))
     return found
 
 

@@ -17,11 +17,12 @@ def name_all(schedule, flown, dates):
     numbered = (it for it in (f"N{number}" for number in itertools.count(1)) if it not in taken)
     given = set()
     for it, wish in zip(flown, wanted):
+        it.plain = wished(it.leg, it.leg.name in several)
         it.name = next(numbered) if wish is None or wish in given else wish
         given.add(it.name)
 
 
-def wished(leg, has_letter, day):
+def wished(leg, has_letter, day=""):
     """Returns the name that a leg should have, or None where it doesn't fit."""
     if leg.sequence > len(LETTERS):
         return None

@@ -1,17 +1,19 @@
 """A plan written back into the schedule file: the aircraft types and the departures of the legs of its dates."""
 
 import datetime
+import itertools
 import os
 import re
 from collections import Counter
 
 from hints.forms import MOST_SHIFT
-from hints.records import HEADERS, NO_FLEET, SHIFTED, Unread, headers_of
-from schedule_files.days import DAY, clock, text_of
+from hints.records import DATED, HEADERS, NO_FLEET, SHIFTED, Unread, headers_of
+from schedule_files.days import DAY, clock, iso, text_of
 from schedule_files.files import rows
 from schedule_files.layout import BadLine, ZEROS, printed
-from schedule_files.reading import MOST_RECORDS
-from schedule_files.retiming import move_of, moved, retimed
+from schedule_files.reading import MOST_RECORDS, read_schedule
+from schedule_files.retiming import common_dates, move_of, moved, retimed
+from schedule_files.selecting import some
 from schedule_files.splitting import LEFT_OUT, Planned, parts_by_date, parts_by_weekday
 from schedule_files.tables import NAMES
 
@@ -22,32 +24,47 @@ SHIFT = re.compile("0|-?[1-9][0-9]{0,2}")
 
 
 def changes_of(schedule, folder):
-    """Returns of each itinerary that a plan changes its dates, each with what is planned of legs, and counts of what is changed; or raises
-    Unread."""
+    """Returns of each itinerary that a plan changes its dates, each with what is planned of legs; counts of what is changed; and the
+    records of the plan whose legs the file doesn't have; or raises Unread."""
     path = os.path.join(folder, "names.csv")
-    named = rows(path, NAMES)
-    plan = plan_of(folder, [it[0] for it in named])
-    times = times_of(folder, plan)
+    named, ways = rows(path, NAMES), ways_of(folder)
+    plan, added = plan_of(folder, [it[0] for it in named], ways)
     legs = {it.number: it for it in schedule.legs}
+    flown = [leg_named(schedule, legs, path, number, row) for number, row in enumerate(named, 2)]
+    first = first_day(flown[0], ways.get(named[0][0])) if flown else None
     changes, counts = {}, Counter()
-    for number, row in enumerate(named, 2):
-        leg, operates = leg_named(schedule, legs, path, number, row)
+    for number, row, (leg, operates) in zip(itertools.count(2), named, flown):
+        check_way(f"{path} record {number}: {row[0]}", schedule, leg, way_of(leg, operates, first), ways.get(row[0]))
         planned = plan[row[0]]
-        filed = clock(leg.departure % DAY)
-        if planned and planned.shift and times.get(row[0]) != filed:
-            what = f"{path} record {number}: {row[0]} departs at {filed} by line {row[6]} of {schedule.path}"
-            raise Unread(f"{what}, it should be {times.get(row[0])} as in legs.csv, in the file that the tables are of")
         if planned != Planned(leg.type, 0):
             changes.setdefault(itinerary_of(leg), {}).setdefault(operates, {})[leg.number] = planned
             counts.update(counted(leg, planned))
-    return changes, counts
+    return changes, counts, added
 
 
-def times_of(folder, plan):
-    """Returns when each leg departs by legs.csv, where a plan has shifts: they count from there."""
-    if not any(it and it.shift for it in plan.values()):
-        return {}
-    return {it[0]: printed(it[-3]) for it in rows(os.path.join(folder, "legs.csv"), *headers_of("legs.csv"))}
+def ways_of(folder):
+    """Returns where and when each leg departs and arrives by legs.csv: shifts count from there."""
+    return {it[0]: it[1:] for it in rows(os.path.join(folder, "legs.csv"), *headers_of("legs.csv"))}
+
+
+def first_day(flown, way):
+    """Returns the first day of tables whose legs have days, by that of a leg and its date of operation; or None."""
+    leg, operates = flown
+    has_day = way and len(way) == len(DATED) - 1 and re.fullmatch("[1-7]", way[0])
+    return operates + leg.departure // DAY + 1 - int(way[0]) if has_day else None
+
+
+def way_of(leg, operates, first):
+    """Returns where and when a leg departs and arrives as legs.csv has it, where the first day of the tables is known with its day."""
+    day = [] if first is None else [str(operates + leg.departure // DAY + 1 - first)]
+    return [*day, leg.origin, clock(leg.departure % DAY), leg.destination, clock(leg.arrival % DAY)]
+
+
+def check_way(where, schedule, leg, filed, way):
+    """Refuses a leg that legs.csv has otherwise than the schedule file: what is changed there isn't written back."""
+    if way != filed:
+        should = f"{printed(' '.join(way))} as in legs.csv, in the file that the tables are of" if way else "in legs.csv"
+        raise Unread(f"{where} is {' '.join(filed)} by line {leg.number} of {schedule.path}, it should be {should}")
 
 
 def counted(leg, planned):
@@ -63,18 +80,20 @@ def counted(leg, planned):
         yield "day"
 
 
-def plan_of(folder, names):
-    """Returns what plan.csv has for each leg."""
-    path = os.path.join(folder, "plan.csv")
-    found = rows(path, HEADERS["plan.csv"], SHIFTED)
+def plan_of(folder, names, ways):
+    """Returns what plan.csv has for each leg of names.csv, and those of its records whose legs legs.csv alone has."""
+    path, known = os.path.join(folder, "plan.csv"), set(names)
+    found = list(enumerate(rows(path, HEADERS["plan.csv"], SHIFTED), 2))
+    added = [row for _, row in found if row[0] not in known and row[0] in ways]
+    own = [(number, row) for number, row in found if row[0] in known or row[0] not in ways]
     plan = {}
-    for number, (row, name) in enumerate(zip(found, names), 2):
+    for (number, row), name in zip(own, names):
         if row[0] != name:
             raise Unread(f"{path} record {number}: the flight is {printed(row[0])}, it should be {printed(name)} as in names.csv")
         plan[name] = planned_by(f"{path} record {number}", *row)
-    if len(found) != len(names):
-        raise Unread(f"{path} has {len(found)} flights, it should have the {len(names)} of names.csv")
-    return plan
+    if len(own) != len(names):
+        raise Unread(f"{path} has {len(own)} flights, it should have the {len(names)} of names.csv")
+    return plan, added
 
 
 def planned_by(where, flight, fleet, shift="0"):
@@ -124,30 +143,35 @@ class Piece:
 def pieces_of(schedule, changes, cut):
     """Returns the records of legs of the new file, in their order. Legs of one itinerary that stand together are written together for
     each of its parts."""
-    legs, parts = {}, {}
-    itineraries = [itinerary_of(it) for it in schedule.legs]
-    for leg, itinerary in zip(schedule.legs, itineraries):
+    parts, pieces = parts_of(schedule, changes, cut), []
+    for itinerary, legs in itertools.groupby(schedule.legs, itinerary_of):
+        pieces.extend(pieces_in(schedule, itinerary, list(legs), parts.get(itinerary)))
+    return pieces
+
+
+def parts_of(schedule, changes, cut):
+    """Returns the parts of each itinerary that a plan changes."""
+    legs = {}
+    for leg in schedule.legs:
+        itinerary = itinerary_of(leg)
         if itinerary in changes:
             legs.setdefault(itinerary, []).append(leg)
-    for itinerary, own in legs.items():
-        parts[itinerary] = cut(own, changes[itinerary])
-        for it in parts[itinerary]:
-            it.move = move_of(schedule, [(leg, it.planned_of(leg).shift) for leg in own if is_flown(leg, it)])
-    pieces, at = [], 0
-    while at < len(itineraries):
-        itinerary, end = itineraries[at], at + 1
-        if itinerary not in parts:
-            leg = schedule.legs[at]
-            pieces.append(Piece(leg, itinerary, None, schedule.lines[leg.number - 1]))
-            at = end
-            continue
-        while end < len(itineraries) and itineraries[end] == itinerary:
-            end += 1
-        for part in parts[itinerary]:
-            found = ((leg, line_in(schedule, leg, part, parts[itinerary])) for leg in schedule.legs[at:end])
-            pieces.extend(Piece(leg, itinerary, part, line) for leg, line in found if line)
-        at = end
-    return pieces
+    return {itinerary: with_moves(schedule, own, cut(own, changes[itinerary])) for itinerary, own in legs.items()}
+
+
+def with_moves(schedule, legs, parts):
+    """Returns parts of an itinerary, each with the days by which its dates of operation have to move."""
+    for part in parts:
+        part.move = move_of(schedule, [(leg, part.planned_of(leg).shift) for leg in legs if is_flown(leg, part)])
+    return parts
+
+
+def pieces_in(schedule, itinerary, legs, parts):
+    """Returns the records of legs that stand together: those of each part, or, where there are none, as they are."""
+    if parts is None:
+        return [Piece(leg, itinerary, None, schedule.lines[leg.number - 1]) for leg in legs]
+    found = ((leg, part, line_in(schedule, leg, part, parts)) for part in parts for leg in legs)
+    return [Piece(leg, itinerary, part, line) for leg, part, line in found if line]
 
 
 def is_flown(leg, part):
@@ -244,7 +268,7 @@ def varied(line, number, at):
 
 def write_plan(schedule, folder, is_whole_season):
     """Returns the bytes of the file with what a plan says of its legs, and what is told of it."""
-    changes, counts = changes_of(schedule, folder)
+    changes, counts, added = changes_of(schedule, folder)
     pieces = pieces_of(schedule, changes, parts_by_weekday if is_whole_season else parts_by_date)
     variations = variations_of(pieces, changes)
     if max(variations.values(), default=0) >= 100 * len(LETTERS):
@@ -254,7 +278,24 @@ def write_plan(schedule, folder, is_whole_season):
     if writer.serial > MOST_RECORDS:
         line = len(schedule.lines)
         raise BadLine(schedule.path, line, f"there would be {writer.serial} records", "bytes 195 to 200", f"{MOST_RECORDS} at most")
-    return data, list(told(counts, len(schedule.legs), pieces))
+    return data, [*told(counts, len(schedule.legs), pieces), *unwritten(added), *doubled(schedule.path, data, pieces)]
+
+
+def unwritten(added):
+    """Yields what is told of the legs that the file doesn't have: those that are flown, as ferries."""
+    flown = [f"{printed(flight)} by {printed(fleet)}" for flight, fleet, *_ in added if fleet != NO_FLEET]
+    if flown:
+        yield f"{len(flown)} legs of legs.csv aren't in the file, and aren't written into it: {some(flown)}"
+
+
+def doubled(path, data, pieces):
+    """Yields what is told of the flights that have a date of operation twice, where the plan moves dates."""
+    names = {it.leg.name for it in pieces if it.part is not None and it.part.move}
+    if names:
+        found = common_dates([it for it in read_schedule(path, data).legs if it.name in names])
+        dates = [f"{airline.strip()} {flight}{suffix.strip()} on {iso(date)}" for (airline, flight, suffix), date in found.items()]
+        if dates:
+            yield f"{len(dates)} flights have a date of operation twice, which date variations can't say otherwise: {some(dates)}"
 
 
 def told(counts, filed, pieces):
@@ -267,6 +308,6 @@ def told(counts, filed, pieces):
     if counts["left out"]:
         yield f"{counts['left out']} legs are left out, and {filed - kept} records are taken away"
     if counts["type"]:
-        yield "configurations (bytes 173 to 192) and classes (bytes 76 to 100) stay as filed: mend them where types changed"
+        yield "configurations (bytes 173 to 192), classes (76 to 100) and onward flights (138 to 146) stay as filed: mend them where types changed"
     if counts["shift"] or counts["left out"]:
         yield "onward flights (bytes 138 to 146), leg sequences and data of segments stay as filed: mend them where times or legs changed"

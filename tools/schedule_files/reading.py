@@ -2,7 +2,7 @@
 
 from hints.records import Unread
 from schedule_files import layout
-from schedule_files.days import DATE_VARIATIONS, DAY, TIMES, VARIATIONS, day_of, weekday_of
+from schedule_files.days import DATE_VARIATIONS, DAY, OPEN, TIMES, VARIATIONS, day_of, iso, weekday_of
 from schedule_files.layout import LENGTH, ZEROS, BadLine
 
 MOST_RECORDS = 999_999
@@ -30,6 +30,9 @@ class Carrier:
 
     def is_valid(self, day):
         return self.start <= day <= self.end
+
+    def __str__(self):
+        return f"from {iso(self.start)} on" if self.end == OPEN else f"from {iso(self.start)} to {iso(self.end)}"
 
 
 class Leg:

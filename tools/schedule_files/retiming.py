@@ -1,7 +1,10 @@
 """A leg that departs later or earlier: the bytes of its record that say when it departs and arrives."""
 
+import itertools
+
 from schedule_files.days import ALL_DAYS, DATE_VARIATIONS, DAY, LAST_DAY, OPEN, TIMES, WEEK, text_of, weekday_of
 from schedule_files.layout import LEG, BadLine
+from schedule_files.splitting import FORTNIGHT
 
 # The letter of each date variation, a blank being another one of 0.
 LETTERS = {days: letter for letter, days in DATE_VARIATIONS.items() if letter != " "}
@@ -77,3 +80,15 @@ def moved(schedule, leg, held, move):
         should = f"within {text_of(first)} to {text_of(last)} as in line {leg.carrier.number}"
         raise BadLine(schedule.path, leg.number, what, "bytes 15 to 28", should)
     return start, end, "".join(it if days[(at - move) % WEEK] != " " else " " for at, it in enumerate(ALL_DAYS))
+
+
+def common_dates(legs):
+    """Returns of each flight that has one leg twice on a date of operation the first such date."""
+    found = {}
+    for one, other in itertools.combinations(legs, 2):
+        if (one.name, one.sequence) == (other.name, other.sequence) and one.name not in found:
+            first = max(one.start, other.start, one.carrier.start, other.carrier.start)
+            last = min(one.end, other.end, one.carrier.end, other.carrier.end, first + FORTNIGHT - 1)
+            date = next((it for it in range(first, last + 1) if one.operates(it) and other.operates(it)), None)
+            found.update({one.name: date} if date else {})
+    return found

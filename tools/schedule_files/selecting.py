@@ -22,14 +22,14 @@ TOLD = 6
 
 class Flown:
     """A leg on one of its dates of operation: the day in UTC on which it departs, counted from 1, the minute of that day, and its block
-    in minutes."""
+    in minutes; its name, and what that would be without the day, or None where it doesn't fit."""
 
-    __slots__ = ("leg", "operates", "day", "minute", "block", "name")
+    __slots__ = ("leg", "operates", "day", "minute", "block", "name", "plain")
 
     def __init__(self, leg, operates, day):
         self.leg, self.operates, self.day = leg, operates, day
         self.minute, self.block = leg.departure % DAY, leg.arrival - leg.departure
-        self.name = None
+        self.name = self.plain = None
 
 
 class Choice:
@@ -97,6 +97,10 @@ def check_size(path, dates, chosen):
 
 def listed(counter):
     """Returns the greatest counts, as `320 in 800 legs`."""
-    most = sorted(counter.items(), key=lambda it: (-it[1], it[0]))
-    rest = f" and {len(most) - TOLD} more" if len(most) > TOLD else ""
-    return ", ".join(f"{name} {count}" for name, count in most[:TOLD]) + rest
+    return some([f"{name} {count}" for name, count in sorted(counter.items(), key=lambda it: (-it[1], it[0]))])
+
+
+def some(texts):
+    """Returns the first of some texts, and how many more there are."""
+    rest = f" and {len(texts) - TOLD} more" if len(texts) > TOLD else ""
+    return ", ".join(texts[:TOLD]) + rest

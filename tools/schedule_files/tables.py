@@ -1,9 +1,10 @@
 """The tables of a folder, made of the legs of a date or a week, and what is told of them."""
 
+import os
 from collections import Counter
 
-from hints.records import DATED, HEADERS, LIMITED
-from schedule_files import costing, judging, naming, selecting
+from hints.records import ASKED, DATED, HEADERS, LIMITED, SHIFTED
+from schedule_files import choosing, costing, judging, naming, selecting
 from schedule_files.days import clock, iso
 from schedule_files.files import table, write_all
 
@@ -11,10 +12,11 @@ NAMES = ("flight", "airline", "number", "suffix", "variation", "leg", "line", "o
 
 
 class Sources:
-    """The files of the caller's, each a path or None, and the value of a through pair."""
+    """The files of the caller's, each a path or None, the value of a through pair, and the paths of tables that options have read."""
 
-    def __init__(self, stations=None, fleets=None, costs=None, through_value=0):
+    def __init__(self, stations=None, fleets=None, costs=None, through_value=0, asked=None):
         self.stations, self.fleets, self.costs, self.through_value = stations, fleets, costs, through_value
+        self.asked = asked or {}
 
 
 class Made:
@@ -28,6 +30,7 @@ class Made:
         self.fleets = costing.fleets_of(sources.fleets, schedule, self.flown)
         self.costs = costing.costs_of(sources.costs, schedule, self.flown, self.fleets)
         self.throughs = naming.throughs(self.flown, dates)
+        self.asked = [choosing.Asked(option, path, self.flown, self.costs) for option, path in sources.asked.items()]
         self.unjudged = None
         if sources.fleets is None:
             self.count_aircraft()
@@ -36,13 +39,13 @@ class Made:
         """Gives each fleet as many aircraft as the plan as filed uses, by the program; or as many as a fleet may have."""
         most = [(fleet, costing.MOST_AIRCRAFT, turn) for fleet, _, turn in self.fleets]
         anywhere = [it[: len(HEADERS["stations.csv"])] for it in self.stations]
-        asked = {**self.texts(), "stations.csv": encoded("stations.csv", anywhere), "fleets.csv": encoded("fleets.csv", most)}
+        asked = {**self.tables(), "stations.csv": encoded("stations.csv", anywhere), "fleets.csv": encoded("fleets.csv", most)}
         asked["costs.csv"] = encoded("costs.csv", costing.costs_of(None, self.schedule, self.flown, most))
         used, self.unjudged = judging.used_by(asked, [fleet for fleet, *_ in most], self.dates.count)
         self.fleets = most if used is None else [(fleet, used[fleet], turn) for fleet, _, turn in most]
 
-    def texts(self):
-        """Returns the bytes of each file by its name."""
+    def tables(self):
+        """Returns the bytes of the five tables and of the plan, by their names."""
         records = {
             "stations.csv": self.stations,
             "fleets.csv": self.fleets,
@@ -56,7 +59,14 @@ class Made:
             texts["stations.csv"] = table(LIMITED, self.stations).encode("ascii")
         if self.dates.count > 1:
             texts["legs.csv"] = table(DATED, records["legs.csv"]).encode("ascii")
-        return {**texts, "names.csv": table(NAMES, [named(it) for it in self.flown]).encode("ascii")}
+        return texts
+
+    def texts(self):
+        """Returns the bytes of each file by its name. Where legs have other times the plan has shifts."""
+        texts = {it.table: encoded(it.table, it.records) for it in self.asked}
+        if "windows" in self.sources.asked:
+            texts["plan.csv"] = table(SHIFTED, [(it.name, it.leg.type, 0) for it in self.flown]).encode("ascii")
+        return {**self.tables(), **texts, "names.csv": table(NAMES, [named(it) for it in self.flown]).encode("ascii")}
 
     def leg(self, it):
         """Returns the record of a leg, with its day where there are several."""
@@ -67,6 +77,8 @@ class Made:
         """Returns what standard error is told, in lines."""
         stations, types = len(self.stations), len({it.leg.type for it in self.flown})
         yield f"{len(self.flown)} legs depart {self.dates} in UTC: {stations} stations, {types} aircraft types"
+        if not self.flown:
+            yield f"the file is valid {', '.join(map(str, self.schedule.carriers))}"
         if self.left_out:
             yield "left out: " + ", ".join(f"{count} {why}" for why, count in self.left_out.items())
         if self.unjudged:
@@ -75,6 +87,8 @@ class Made:
             if self.unjudged.startswith("too many"):
                 yield "no fleet may have more: ask for fewer legs, with --types, --stations-only or --service"
             yield from self.unbalanced()
+            if self.unjudged.startswith("unbalanced") and self.dates.count == 1:
+                yield "a week may be balanced where a date isn't: --week"
         elif self.sources.fleets is None and self.fleets:
             yield "aircraft that the plan as filed uses: " + ", ".join(f"{fleet} {count}" for fleet, count, _ in self.fleets)
         allowed = {(flight, fleet) for flight, fleet, _ in self.costs}
@@ -82,15 +96,20 @@ class Made:
         if lacking:
             yield f"{len(lacking)} legs may not be flown by their filed type by {self.sources.costs}, the first is {lacking[0]}"
 
+    def told_of_asked(self):
+        """Tells of the tables that options of the program have read."""
+        for it in self.asked:
+            yield f"{it.table} has {len(it.records)} records, for calls with --{it.option}"
+            if it.unknown:
+                yield f"{len(it.unknown)} flights of {it.path} aren't among these legs: {selecting.some(it.unknown)}"
+
     def unbalanced(self):
         """Tells the aircraft types that don't leave a station as often as they come to it."""
         more = Counter((it.leg.type, it.leg.destination) for it in self.flown)
         more.subtract((it.leg.type, it.leg.origin) for it in self.flown)
         lacks = sorted((*it, count) for it, count in more.items() if count)
         if lacks:
-            told = ", ".join(f"{fleet} at {station} {count:+}" for fleet, station, count in lacks[: selecting.TOLD])
-            rest = len(lacks) - selecting.TOLD
-            yield f"arrivals less departures: {told}{f' and {rest} more' if rest > 0 else ''}"
+            yield f"arrivals less departures: {selecting.some([f'{fleet} at {station} {count:+}' for fleet, station, count in lacks])}"
 
 
 def encoded(name, records):
@@ -106,5 +125,6 @@ def named(it):
 def make_tables(schedule, folder, dates, choice, sources):
     """Writes the tables of some dates into a folder, and returns what is told of them."""
     made = Made(schedule, dates, choice, sources)
+    older = [it for option, it in ASKED.items() if option not in sources.asked and os.path.lexists(os.path.join(folder, it))]
     write_all(folder, made.texts())
-    return list(made.told())
+    return [*made.told(), *made.told_of_asked(), *(f"{it} stays in {folder} as it was" for it in older)]

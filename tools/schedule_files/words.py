@@ -4,6 +4,7 @@ import datetime
 import re
 
 from hints.forms import TRILLION
+from hints.records import ASKED
 from schedule_files.days import Dates
 from schedule_files.selecting import Choice
 from schedule_files.tables import Sources
@@ -14,6 +15,8 @@ TABLES = {
     "stations": "FILE",
     "fleets": "FILE",
     "costs": "FILE",
+    "windows": "FILE",
+    "optional": "FILE",
     "types": "T,..",
     "stations-only": "S,..",
     "service": "LETTERS",
@@ -25,12 +28,20 @@ PLAN = {"whole-season": None}
 DAYS = {"date": 1, "week": 7}
 
 
+# How many options of `tables` stand in one line of the usage.
+IN_LINE = 4
+
+
 def shown(options):
-    return " ".join(f"[--{name}{f' {form}' if form else ''}]" for name, form in options.items() if name not in DAYS)
+    """Returns options in lines."""
+    texts = [f"[--{name}{f' {form}' if form else ''}]" for name, form in options.items() if name not in DAYS]
+    return ("\n" + " " * 18).join(" ".join(texts[at : at + IN_LINE]) for at in range(0, len(texts), IN_LINE))
 
 
-USAGE = f"""usage: tools/ssim tables FILE DIR {" | ".join(f"--{it} {TABLES[it]}" for it in DAYS)} {shown(TABLES)}
-       tools/ssim plan FILE DIR NEW {shown(PLAN)}"""
+USAGE = f"""usage: tools/ssim tables FILE DIR {" | ".join(f"--{it} {TABLES[it]}" for it in DAYS)}
+                  {shown(TABLES)}
+       tools/ssim plan FILE DIR NEW {shown(PLAN)}
+docs/formats.md#schedule-files says what they do"""
 
 
 class Usage(Exception):
@@ -109,7 +120,8 @@ class TablesCall:
         value = found.get("through-value", "0")
         if not re.fullmatch("[0-9]{1,20}", value) or int(value) > TRILLION:
             raise Usage(f"--through-value {value}: a whole number from 0 to {TRILLION} is wanted")
-        self.sources = Sources(found.get("stations"), found.get("fleets"), found.get("costs"), int(value))
+        asked = {it: found[it] for it in ASKED if it in found}
+        self.sources = Sources(found.get("stations"), found.get("fleets"), found.get("costs"), int(value), asked)
 
 
 class PlanCall:

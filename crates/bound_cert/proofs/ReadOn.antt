@@ -1,6 +1,8 @@
 -- One line more of a series.
-use Rattle.bound_cert.specs.Lines.{◌>>=◌, Fails, Left, Reading, Stopped, first_form, fits, line_due, next_line}
-use Rattle.bound_cert.specs.Reading.{Series, entries_from, entry_at, said_at, with_last}
+use Rattle.bound_cert.specs.Lines.{◌>>=◌, Fails, Gives, Left, Reading, Stopped, first_form, fits, line_due, next_line}
+use Rattle.bound_cert.specs.Reading.{Series, charges_from, entries_from, entry_at, mixed_at, mixed_scale_at, prices_at, rents_from, said_at, scale_at, steps_from, weights_from, with_last}
+use Rattle.dual_bound.specs.declared.mixed.Mixed.{Mixed}
+use Rattle.dual_bound.specs.declared.prices.Prices.{Prices}
 use Rattle.bound_cert.specs.declared.faults.Stop.{Stop}
 use Rattle.bound_cert.specs.declared.reading_lines.Due.{Due}
 use Rattle.proof_lines.specs.Forms.{form_in}
@@ -8,7 +10,7 @@ use Rattle.proof_lines.specs.Known.{Naming}
 use Rattle.proof_lines.specs.declared.line.Line.{Line}
 use Rattle.proof_lines.specs.declared.line.Version.{Version}
 use Rattle.proof_lines.specs.Words.{seen, words_of}
-use Rattle.std.proofs.Common.{[], ◌++◌, ◌+◌, ◌<◌, ◌∙◌, ◌∷◌, ◌≡◌, Bool, Bor, Err, List, None, Ok, Option, Some, add-one, ap, append_assoc, arith, cond, drop, false, length, pos, refl, replicate, suc, sym, true, zero, ℕ, ℤ}
+use Rattle.std.proofs.Common.{[], ◌++◌, ◌+◌, ◌<◌, ◌∙◌, ◌∷◌, ◌≡◌, Bool, Bor, Err, List, None, Ok, Option, Some, add-one, ap, append_assoc, arith, cond, drop, false, length, pos, refl, replicate, Result, subst, suc, sym, true, zero, ℕ, ℤ}
 use Rattle.bound_cert.specs.declared.faults.Stop.TheVariants as stop
 
 -- in a text of this version a line begins as one that may stand where one of this kind is due
@@ -33,6 +35,10 @@ bound r x f is = ap (λ r. r >>= f) is
 pub failed : {A B : Type 0} (r : Reading A) (e : Stopped) (f : A → Reading B) → r ≡ Err e → (r >>= f) ≡ Err e
 failed r e f is = ap (λ r. r >>= f) is
 
+-- what a last step gives, behind one that went well
+pub gives_on : {X Y Z : Type 0} (view : X → Y) (result : Result X Stop) (r : Reading Z) (x : Z) (f : Z → Reading Y) → r ≡ Ok x → Gives view result (f x) → Gives view result (r >>= f)
+gives_on view result r x f is = subst (λ r. Gives view result (r >>= f)) (sym is)
+
 -- what fails where another reading does
 pub fails_by : {A B : Type 0} (e : Stop) (r : Reading A) (s : Reading B) → ((f : Stopped) → r ≡ Err f → s ≡ Err f) → Fails e r → Fails e s
 fails_by stop.NoMemory r s leads is = tt
@@ -41,6 +47,13 @@ fails_by (stop.Fault left kind) r s leads is = leads _ is
 pub seen_behind : (left : List (Bor (List ℕ))) → seen (drop 1 left) ≡ drop 1 (seen left)
 seen_behind [] = refl
 seen_behind (line ∷ rest) = refl
+
+pub behind_is : (left behind : List (Bor (List ℕ))) → behind ≡ drop 1 left → drop 1 (seen left) ≡ seen behind
+behind_is left behind is = sym (ap seen is ∙ seen_behind left)
+
+-- what a last step gives, which reads behind the first line
+pub gives_behind : {X Y : Type 0} (view : X → Y) (result : Result X Stop) (f : Left → Reading Y) (left behind : List (Bor (List ℕ))) → behind ≡ drop 1 left → Gives view result (f (seen behind)) → Gives view result (f (drop 1 (seen left)))
+gives_behind view result f left behind is = subst (λ rest. Gives view result (f rest)) (sym (behind_is left behind is))
 
 -- one 0 more
 pub padded_more : (old now grown : List ℤ) (k : ℕ) → now ≡ old ++ replicate k (pos 0) → grown ≡ now ++ pos 0 ∷ [] → grown ≡ old ++ replicate (k + 1) (pos 0)
@@ -84,6 +97,22 @@ said_by n kind say left line r is said = bound (line_due n kind left) line _ is 
 pub none_said : {A : Type 0} (n : Naming) (kind : Due) (say : Line → Left → Reading A) (left : Left) (f : Stopped) → line_due n kind left ≡ Err f → said_at n kind say left ≡ Err f
 unfolding said_at
 none_said n kind say left f is = failed (line_due n kind left) f _ is
+
+pub said_gives : {X Y : Type 0} (view : X → Y) (result : Result X Stop) (n : Naming) (kind : Due) (say : Line → Left → Reading Y) (left : Left) (line : Line) → line_due n kind left ≡ Ok line → Gives view result (say line left) → Gives view result (said_at n kind say left)
+unfolding said_at
+said_gives view result n kind say left line = gives_on view result (line_due n kind left) line (λ line. say line left)
+
+-- prices and fractional assignments, part by part
+pub prices_read : (n : Naming) (left : Left) (prices : Prices) (after_rents after_charges after : Left) → scale_at n left ≡ Ok prices.scale → rents_from n [] (drop 1 left) ≡ Ok (prices.rents, after_rents)
+    → charges_from n [] None after_rents ≡ Ok (prices.charges, after_charges) → steps_from n [] None after_charges ≡ Ok (prices.steps, after) → prices_at n left ≡ Ok (prices, after)
+unfolding prices_at
+prices_read n left prices after_rents after_charges after scaled rented charged stepped =
+    bound (scale_at n left) prices.scale _ scaled ∙ bound (rents_from n [] (drop 1 left)) (prices.rents, after_rents) _ rented
+    ∙ bound (charges_from n [] None after_rents) (prices.charges, after_charges) _ charged ∙ bound (steps_from n [] None after_charges) (prices.steps, after) _ stepped
+
+pub mixed_read : (n : Naming) (left : Left) (mixed : Mixed) (after : Left) → mixed_scale_at n left ≡ Ok mixed.scale → weights_from n [] None (drop 1 left) ≡ Ok (mixed.weights, after) → mixed_at n left ≡ Ok (mixed, after)
+unfolding mixed_at
+mixed_read n left mixed after scaled weighed = bound (mixed_scale_at n left) mixed.scale _ scaled ∙ bound (weights_from n [] None (drop 1 left)) (mixed.weights, after) _ weighed
 
 module _ {S A B : Type 0} (s : Series S A B) where
   pub entries_more : (so_far : S) (left : Left) (entry : A) → begins s.names.version left s.kind ≡ true → entry_at s so_far left ≡ Ok entry → entries_from s so_far left ≡ entries_from s (s.grow so_far entry) (drop 1 left)

@@ -2,7 +2,7 @@
 use Rattle.bound_cert.proofs.ReadOn.{bound, chosen, failed, fails_by, refused}
 use Rattle.bound_cert.specs.Lines.{Fails, Gives, Left, Reading, Stopped, stopped}
 use Rattle.bound_cert.specs.Nodes.{Above, above_of, above_with, after_node, after_tree, first_nodes, has_first, inner_node, nodes_from, parent_nodes, waiting_nodes}
-use Rattle.bound_cert.specs.ReadTree.{IsGrown, IsInnerOf, NextGives, StillWaits, goes_on}
+use Rattle.bound_cert.specs.ReadTree.{IsGrown, IsInnerOf, StillWaits}
 use Rattle.bound_cert.specs.Reading.{node_at}
 use Rattle.bound_cert.specs.declared.faults.Stop.{Stop}
 use Rattle.bound_cert.specs.declared.faults.TheConstants.{TEXT_ENDS}
@@ -13,7 +13,7 @@ use Rattle.dual_bound.specs.declared.nodes.Node.{Node}
 use Rattle.dual_bound.specs.declared.trees.Tree.{Tree}
 use Rattle.proof_lines.specs.Known.{Naming}
 use Rattle.proof_lines.specs.Words.{joined, seen, stands}
-use Rattle.std.proofs.Common.{[], ◌++◌, ◌+◌, ◌-◌, ◌==◌, ◌∙◌, ◌∷◌, ◌≡◌, ◌≢◌, Bor, Err, List, None, Ok, Option, Result, Some, ap, append-nil, append_assoc, arith, false, length, refl, subst, suc, sym, true, zero, ℕ}
+use Rattle.std.proofs.Common.{[], ◌++◌, ◌+◌, ◌-◌, ◌<◌, ◌==◌, ◌∙◌, ◌∷◌, ◌≡◌, ◌≢◌, Bor, Err, List, None, Ok, Option, Result, Some, ap, append-nil, append_assoc, arith, false, length, refl, subst, suc, sym, true, zero, ℕ}
 use Rattle.std.proofs.lemmas.Bool.Decides.{nat_tests}
 use Rattle.std.proofs.lemmas.Grind.{flat_map-append}
 use Rattle.bound_cert.specs.declared.faults.Stop.TheVariants as stop
@@ -76,13 +76,6 @@ second_above before rest parent first was some =
 pub as_many : (before : List Parent) → length (above_of before) ≡ length before
 as_many before = above_len [] before ∙ omega arith
 
--- Where reading nodes stands: with none whole yet, the nodes so far and those of what is left are all; with a whole
--- tree, its nodes are all; and a fault is the fault of all.
-abbrev pub Goes : Naming → ℕ → ℕ → List Parent → Left → Left → Result (Option Tree) Stop → Type 0
-Goes n turns most waiting all left (Ok None) = nodes_from n most (waiting_nodes waiting) (above_of waiting) left ≡ nodes_from n turns [] [] all
-Goes n turns most waiting all left (Ok (Some tree)) = nodes_from n turns [] [] all ≡ Ok (nodes_of tree, left)
-Goes n turns most waiting all left (Err e) = Fails e (nodes_from n turns [] [] all)
-
 is_empty : (above : Above) → above ≡ [] → (length above == 0) ≡ true
 is_empty above none = ap (λ a. length a == 0) none
 
@@ -104,42 +97,39 @@ pub none_more : (n : Naming) (most : ℕ) (nodes : List Node) (above : Above) (l
 unfolding nodes_from
 none_more n most nodes above left f is = failed (node_at n (length above) left) f _ is
 
--- a turn
-module _ (n : Naming) (turns : ℕ) (all : Left) where
-  read_above : (before : List Parent) (left : Left) (r : Reading (Node × Left)) → node_at n (length before) left ≡ r → node_at n (length (above_of before)) left ≡ r
-  read_above before left r is = ap (λ k. node_at n k left) (as_many before) ∙ is
+-- a loop that reads nodes, where some may come still: its ends, and a turn
+module _ (n : Naming) (whole : Reading (List Node × Left)) (most : ℕ) (waiting : List Parent) (left : Left) (many : ℕ) (many_is : many ≡ length waiting) (some : 0 < most) (so_far : nodes_from n most (waiting_nodes waiting) (above_of waiting) left ≡ whole) where
+  from_next : nodes_from n (suc (most - 1)) (waiting_nodes waiting) (above_of waiting) left ≡ whole
+  from_next = let same : suc (most - 1) ≡ most = omega (arith, some) in ap (λ m. nodes_from n m (waiting_nodes waiting) (above_of waiting) left) same ∙ so_far
 
-  grown_on : (most : ℕ) (before waiting : List Parent) (left behind : Left) (node : Node) (reached : Option Tree) → node_at n (length before) left ≡ Ok (node, behind)
-      → nodes_from n (suc most) (waiting_nodes before) (above_of before) left ≡ nodes_from n turns [] [] all → IsGrown before node waiting reached
-      → Goes n turns most waiting all behind (Ok reached)
-  grown_on most before waiting left behind node None is so_far grown =
-      rw (grown.nodes_are, grown.above_is)
-      (sym (one_more n most (waiting_nodes before) (above_of before) left behind node (read_above before left _ is) grown.some) ∙ so_far)
-  grown_on most before waiting left behind node (Some tree) is so_far grown =
-      sym so_far ∙ last_one n most (waiting_nodes before) (above_of before) left behind node (read_above before left _ is) grown.none
-      ∙ ap (λ n. Ok (n, behind)) (sym grown.all)
+  read_above : (r : Reading (Node × Left)) → node_at n many left ≡ r → node_at n (length (above_of waiting)) left ≡ r
+  read_above r is = ap (λ k. node_at n k left) (as_many waiting ∙ sym many_is) ∙ is
 
-  pub turn : (most : ℕ) (before waiting : List Parent) (left behind : Left) (reached next : Result (Option Tree) Stop) → Goes n turns most before all left reached → goes_on reached most ≡ true
-      → NextGives n before left waiting behind next → Goes n turns (most - 1) waiting all behind next
-  turn most before waiting left behind (Err e) next so_far on gives = absurd (cc on)
-  turn most before waiting left behind (Ok (Some tree)) next so_far on gives = absurd (cc on)
-  turn zero before waiting left behind (Ok None) next so_far on gives = absurd (cc on)
-  turn (suc most) before waiting left behind (Ok None) (Ok reached) so_far on gives =
-      let one_less : most ≡ suc most - 1 = omega arith in
-      subst (λ k. Goes n turns k waiting all behind (Ok reached)) one_less (grown_on most before waiting left behind gives.node reached gives.read so_far gives.grown)
-  turn (suc most) before waiting left behind (Ok None) (Err e) so_far on gives =
-      fails_by e (node_at n (length before) left) (nodes_from n turns [] [] all)
-      (λ f is. sym so_far ∙ none_more n most (waiting_nodes before) (above_of before) left f (read_above before left _ is)) gives
+  pub node_stops : (e : Stop) → Fails e (node_at n many left) → Fails e whole
+  node_stops e =
+      fails_by e (node_at n many left) whole
+      (λ f is. sym from_next ∙ none_more n (most - 1) (waiting_nodes waiting) (above_of waiting) left f (read_above (Err f) is))
 
-  pub ended : (most : ℕ) (waiting : List Parent) (left : Left) (reached : Result (Option Tree) Stop) → Goes n turns most waiting all left reached → goes_on reached most ≡ false → reached ≡ Ok None
-      → nodes_from n turns [] [] all ≡ stopped left TEXT_ENDS
-  unfolding nodes_from
-  ended zero waiting left (Ok None) so_far off is = sym so_far
-  ended (suc most) waiting left (Ok None) so_far off is = absurd (grind (arith, nat_tests, off))
-  ended most waiting left (Ok (Some tree)) so_far off is = absurd (cc is)
-  ended most waiting left (Err e) so_far off is = absurd (cc is)
+  module _ (grown : List Parent) (behind : Left) (node : Node) (is : node_at n many left ≡ Ok (node, behind)) where
+    pub goes_on : (reached : Option Tree) → reached ≡ None → IsGrown waiting node grown reached → nodes_from n (most - 1) (waiting_nodes grown) (above_of grown) behind ≡ whole
+    goes_on (Some tree) none waits = absurd (cc none)
+    goes_on None none waits =
+        rw (waits.nodes_are, waits.above_is)
+        (sym (one_more n (most - 1) (waiting_nodes waiting) (above_of waiting) left behind node (read_above _ is) waits.some) ∙ from_next)
 
-seen_len : (left : List (Bor (List ℕ))) → length (seen left) ≡ length left
+    pub is_whole : (tree : Tree) (reached : Option Tree) → reached ≡ Some tree → IsGrown waiting node grown reached → whole ≡ Ok (nodes_of tree, behind)
+    is_whole tree None some all = absurd (cc some)
+    is_whole tree (Some other) some all =
+        let same : other ≡ tree = cc some in
+        sym from_next ∙ last_one n (most - 1) (waiting_nodes waiting) (above_of waiting) left behind node (read_above _ is) all.none
+        ∙ ap (λ nodes. Ok (nodes, behind)) (sym all.all ∙ ap nodes_of same)
+
+pub none_left : (n : Naming) (whole : Reading (List Node × Left)) (most : ℕ) (nodes : List Node) (above : Above) (left : Left) → most ≡ 0 → nodes_from n most nodes above left ≡ whole → whole ≡ stopped left TEXT_ENDS
+unfolding nodes_from
+none_left n whole zero nodes above left is so_far = sym so_far
+none_left n whole (suc most) nodes above left is so_far = absurd (omega (arith, is))
+
+pub seen_len : (left : List (Bor (List ℕ))) → length (seen left) ≡ length left
 seen_len [] = refl
 seen_len (line ∷ rest) = ap suc (seen_len rest)
 

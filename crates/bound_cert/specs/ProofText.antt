@@ -78,6 +78,16 @@ node_lines t (node.Open prices why) = open_line why ∷ (price_lines t prices ++
 node_lines t (node.Trim leg choice) = line.Trim leg choice ∷ []
 node_lines t (node.Split leg choice prices mixed) = line.Split leg choice ∷ (price_lines t prices ++ mixed_lines mixed)
 
+-- the first of them
+abbrev pub first_line : Node → Line
+first_line (node.Bare leg) = line.Bare leg
+first_line node.Sole = line.Sole
+first_line (node.Refuted prices) = line.Refuted
+first_line (node.Priced prices) = line.Priced
+first_line (node.Open prices why) = open_line why
+first_line (node.Trim leg choice) = line.Trim leg choice
+first_line (node.Split leg choice prices mixed) = line.Split leg choice
+
 -- the node at the top of a tree
 abbrev pub root_of : Tree → Node
 root_of tree = slice_index_or (nodes_of tree) 0 node.Sole

@@ -33,7 +33,7 @@ pub fn scale_at(alloc: Global, grammar: &Grammar<'_>, left: &[&[u8]]) -> Result<
     ensures { Gives (λ scale. scale) result (scale_at (naming grammar.now) (seen left.now)) }
 {
     let line = line_due(alloc, grammar, Due::Scale, left)?;
-    Ok(scale_of(line, left)?)
+    scale_of(line, left)
 }
 
 /// The scale that a line of prices says. Takes no memory.
@@ -53,7 +53,7 @@ pub fn mixed_scale_at(alloc: Global, grammar: &Grammar<'_>, left: &[&[u8]]) -> R
     ensures { Gives (λ scale. scale) result (mixed_scale_at (naming grammar.now) (seen left.now)) }
 {
     let line = line_due(alloc, grammar, Due::Mixed, left)?;
-    Ok(mixed_scale_of(line, left)?)
+    mixed_scale_of(line, left)
 }
 
 /// The scale that a line of a fractional assignment says. Takes no memory.

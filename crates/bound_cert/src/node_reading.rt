@@ -27,7 +27,7 @@ pub fn node_at<'a, 'b>(
     ensures { Gives (λ r. (r.0, seen r.1.now)) result (node_at (naming grammar.now) above (seen left.now)) }
 {
     let head = head_at(alloc, grammar, above, left)?;
-    Ok(body_at(alloc, grammar, head, behind(left))?)
+    body_at(alloc, grammar, head, behind(left))
 }
 
 /// What the first line of a node says, below so many trims and splits.
@@ -37,7 +37,7 @@ fn head_at(alloc: Global, grammar: &Grammar<'_>, above: usize, left: &[&[u8]]) -
 {
     let line = line_due(alloc, grammar, Due::Node, left)?;
     let head = head_of(line, left)?;
-    Ok(deep_at(above, head, left)?)
+    deep_at(above, head, left)
 }
 
 /// Goes on where a node isn't too deep. Takes no memory.

@@ -78,7 +78,7 @@ fn proof_at(alloc: Global, tables: &Tables, left: &[&[u8]]) -> Result<Proof, Sto
     ensures { Gives (λ proof. (proof.planned, nodes_of proof.tree)) result (proof_at tables.now (seen left.now)) }
 {
     let version = head_is(tables.windows, left)?;
-    Ok(of_version(alloc, tables, version, behind(left))?)
+    of_version(alloc, tables, version, behind(left))
 }
 
 /// The version that the head says, where that is the first line, and the tables have windows or haven't. Takes no memory.
@@ -128,8 +128,10 @@ fn of_version(
 ) -> Result<Proof, Stop>
     ensures { Gives (λ proof. (proof.planned, nodes_of proof.tree)) result (rest_at (names_in version tables.now) (seen left.now)) }
 {
-    let grammar = Grammar::new(alloc, version, tables)?;
-    rest_at(alloc, &grammar, left)
+    match Grammar::new(alloc, version, tables) {
+        Ok(grammar) => rest_at(alloc, &grammar, left),
+        Err(_) => Err(Stop::NoMemory),
+    }
 }
 
 /// Whether a plan comes, and the tree.
@@ -148,7 +150,7 @@ fn plan_at(alloc: Global, grammar: &Grammar<'_>, left: &[&[u8]]) -> Result<bool,
     ensures { Gives (λ planned. planned) result (plan_at (naming grammar.now) (seen left.now)) }
 {
     let line = line_due(alloc, grammar, Due::Plan, left)?;
-    Ok(plan_of(line, left)?)
+    plan_of(line, left)
 }
 
 /// Whether a line says that a plan comes with the proof. Takes no memory.
@@ -178,7 +180,7 @@ fn end_at(alloc: Global, grammar: &Grammar<'_>, left: &[&[u8]]) -> Result<(), St
     ensures { Gives (λ _. tt) result (end_at (naming grammar.now) (seen left.now)) }
 {
     line_due(alloc, grammar, Due::End, left)?;
-    Ok(nothing(behind(left))?)
+    nothing(behind(left))
 }
 
 /// Goes on where nothing is left. Takes no memory.

@@ -1,13 +1,12 @@
 //! Trees, read from the lines of a proof. The nodes that wait for children stand in a list, so the depth of a tree
 //! takes none of the stack.
-ghost use Rattle.std.specs.Prelude.{◌≡◌, ◌++◌, ◌∷◌, [], length, IfErr, IfOk, MatchOption};
+ghost use Rattle.std.specs.Prelude.{◌≡◌, ◌++◌, ◌∷◌, [], length, IfOk};
 ghost use Rattle.proof_lines.specs.Known.{naming};
 ghost use Rattle.proof_lines.specs.Words.{seen};
 ghost use Rattle.bound_cert.specs.Lines.{Gives};
-ghost use Rattle.bound_cert.specs.Nodes.{above_of, after_node, after_tree, inner_node, nodes_from, waiting_nodes};
+ghost use Rattle.bound_cert.specs.Nodes.{inner_node, nodes_from};
 ghost use Rattle.dual_bound.specs.Nodes.{nodes_of};
-ghost use Rattle.bound_cert.specs.ReadTree.{IsClosed, IsGrown, IsPlaced, NextGives, NodeGives, PlacedGives, goes_on};
-ghost use Rattle.bound_cert.specs.declared.faults.Stop.TheVariants as stop;
+ghost use Rattle.bound_cert.specs.ReadTree.{IsClosed, IsGrown, IsPlaced};
 
 use crate::faults::{Stop, TEXT_ENDS};
 use crate::node_reading::node_at;
@@ -28,76 +27,42 @@ pub fn tree_from<'a, 'b>(
     ensures { Gives (λ r. (nodes_of r.0, seen r.1.now)) result (nodes_from (naming grammar.now) (length left.now) [] [] (seen left.now)) }
 {
     let mut waiting = Vec::new(alloc);
-    let mut reached = Ok(None);
+    read_nodes(alloc, grammar, &mut waiting, left)
+}
+
+/// The same, where no node waits yet.
+fn read_nodes<'a, 'b>(
+    alloc: Global,
+    grammar: &Grammar<'_>,
+    waiting: &mut Vec<Parent>,
+    left: &'b [&'a [u8]],
+) -> Result<(Tree, &'b [&'a [u8]]), Stop>
+    requires { waiting.now.items ≡ [] }
+    ensures { Gives (λ r. (nodes_of r.0, seen r.1.now)) result (nodes_from (naming grammar.now) (length left.now) [] [] (seen left.now)) }
+{
     let mut rest = left;
     let mut most = left.len();
-    while goes_on(&reached, most) {
-        rest = next_node(alloc, grammar, &mut waiting, &mut reached, rest);
+    while most > 0 {
+        let (node, behind) = match node_at(alloc, grammar, waiting.len(), rest) {
+            Ok(read) => read,
+            Err(stop) => return Err(stop),
+        };
+        match with_node(alloc, waiting, node) {
+            Ok(None) => {}
+            Ok(Some(tree)) => return Ok((tree, behind)),
+            Err(_) => return Err(Stop::NoMemory),
+        }
+        rest = same(behind);
         most -= 1;
     }
-    match reached {
-        Ok(Some(tree)) => Ok((tree, rest)),
-        Ok(None) => stopped(rest, TEXT_ENDS),
-        Err(stop) => Err(stop),
-    }
+    stopped(rest, TEXT_ENDS)
 }
 
-/// Whether no tree is whole yet, nothing failed, and more nodes may come.
-fn goes_on(reached: &Result<Option<Tree>, Stop>, most: usize) -> bool
-    ensures { result ≡ goes_on reached.now most }
+/// The same lines. The borrow checker wants a call where a loop goes on with a reference out of a pair.
+fn same<'a, 'b>(left: &'b [&'a [u8]]) -> &'b [&'a [u8]]
+    ensures { result.now ≡ left.now }
 {
-    match reached {
-        Ok(None) => most > 0,
-        Ok(Some(_)) | Err(_) => false,
-    }
-}
-
-/// Reads a node and puts it into its place, and answers what is left behind it. What is reached then is the tree,
-/// where that is complete now.
-fn next_node<'a, 'b>(
-    alloc: Global,
-    grammar: &Grammar<'_>,
-    waiting: &mut Vec<Parent>,
-    reached: &mut Result<Option<Tree>, Stop>,
-    left: &'b [&'a [u8]],
-) -> &'b [&'a [u8]]
-    ensures { NextGives (naming grammar.now) waiting.old.items (seen left.now) waiting.new.items (seen result.now) reached.new }
-{
-    let (node, behind) = read_node(alloc, grammar, waiting.len(), left);
-    *reached = placed(alloc, waiting, node);
-    behind
-}
-
-/// Reads a node, and answers what is left behind it; all, where it isn't read.
-fn read_node<'a, 'b>(
-    alloc: Global,
-    grammar: &Grammar<'_>,
-    above: usize,
-    left: &'b [&'a [u8]],
-) -> (Result<Node, Stop>, &'b [&'a [u8]])
-    ensures { NodeGives (naming grammar.now) above (seen left.now) (seen result.1.now) result.0 }
-{
-    match node_at(alloc, grammar, above, left) {
-        Ok((node, behind)) => (Ok(node), behind),
-        Err(stop) => (Err(stop), left),
-    }
-}
-
-/// Puts a node that was read into its place.
-fn placed(
-    alloc: Global,
-    waiting: &mut Vec<Parent>,
-    node: Result<Node, Stop>,
-) -> Result<Option<Tree>, Stop>
-    ensures { PlacedGives node waiting.old.items waiting.new.items result }
-{
-    match node {
-        Ok(node) => match with_node(alloc, waiting, node) {
-            Ok(tree) => Ok(tree),
-            Err(_) => Err(Stop::NoMemory),
-        },
-        Err(stop) => Err(stop),
-    }
+    left
 }
 
 /// Puts a node into its place: the tree, where that is complete now, else one more waits or has its first child.
@@ -165,26 +130,40 @@ fn joined(alloc: Global, inner: Inner, yes: Tree, no: Tree) -> Result<Tree, NoMe
     ensures { IfOk result (λ tree. nodes_of tree ≡ inner_node inner ∷ (nodes_of yes ++ nodes_of no)) }
 {
     let yes = Box::new(alloc, yes)?;
+    with_first(alloc, inner, yes, no)
+}
+
+/// The same, where the first child is kept already.
+fn with_first(alloc: Global, inner: Inner, yes: Box<Tree>, no: Tree) -> Result<Tree, NoMemory>
+    ensures { IfOk result (λ tree. nodes_of tree ≡ inner_node inner ∷ (nodes_of yes.value ++ nodes_of no)) }
+{
     let no = Box::new(alloc, no)?;
+    Ok(with_both(inner, yes, no))
+}
+
+/// The same, where both children are kept already.
+fn with_both(inner: Inner, yes: Box<Tree>, no: Box<Tree>) -> Tree
+    ensures { nodes_of result ≡ inner_node inner ∷ (nodes_of yes.value ++ nodes_of no.value) }
+{
     match inner {
-        Inner::Trim { leg, choice } => Ok(Tree::Trim {
+        Inner::Trim { leg, choice } => Tree::Trim {
             leg,
             choice,
             yes,
             no,
-        }),
+        },
         Inner::Split {
             leg,
             choice,
             prices,
             mixed,
-        } => Ok(Tree::Split {
+        } => Tree::Split {
             leg,
             choice,
             prices,
             mixed,
             yes,
             no,
-        }),
+        },
     }
 }

@@ -1,10 +1,9 @@
 //! The text of a proof, written.
-ghost use Rattle.std.specs.Prelude.{◌≡◌, ◌++◌, ◌<◌, All, IfOk, OnOk, map};
+ghost use Rattle.std.specs.Prelude.{◌≡◌, ◌++◌, ◌<◌, All, IfOk, OnOk, drop, map};
 ghost use Rattle.fleet_model.specs.Schedule.{fleets_in};
 ghost use Rattle.dual_bound.specs.OfTables.{ArePricesOf, IsCauseOf, IsChargeOf, IsMixedOf, IsOfTables, IsStepOf, IsWeightOf};
-ghost use Rattle.proof_lines.specs.LineText.{IsNamed, text_of};
-ghost use Rattle.proof_lines.specs.declared.line.Line.TheVariants as line;
-ghost use Rattle.bound_cert.specs.ProofText.{at_line, cause_lines, charge_line, lines_of, mixed_lines, node_lines, open_line, price_lines, proof_text, rent_lines, rent_lines_at, root_of, tree_lines, weight_line, written_version};
+ghost use Rattle.proof_lines.specs.LineText.{text_of};
+ghost use Rattle.bound_cert.specs.ProofText.{at_line, cause_lines, charge_line, first_line, lines_of, mixed_lines, node_lines, open_line, price_lines, proof_text, rent_lines, rent_lines_at, root_of, tree_lines, weight_line, written_version};
 
 use dual_bound::{Cause, Charge, Mixed, PriceStep, Prices, Tree, Weight};
 use entries::NoMemory;
@@ -24,12 +23,26 @@ pub fn write_proof(
     ensures { IfOk result (λ text. text.items ≡ proof_text tables.now planned tree.now) }
 {
     let mut text = Vec::new(alloc);
-    let version = written_version(tables.windows);
-    push_line(alloc, &mut text, tables, &Line::Head(version))?;
-    push_line(alloc, &mut text, tables, &Line::Plan { planned })?;
-    push_tree(alloc, &mut text, tables, tree)?;
-    push_line(alloc, &mut text, tables, &Line::End)?;
+    push_proof(alloc, &mut text, tables, planned, tree)?;
     Ok(text)
+}
+
+/// Appends the text of a proof.
+fn push_proof(
+    alloc: Global,
+    text: &mut Vec<u8>,
+    tables: &Tables,
+    planned: bool,
+    tree: &Tree,
+) -> Result<(), NoMemory>
+    requires { IsOfTables tables.now tree.now }
+    ensures { OnOk result (text.new.items ≡ text.old.items ++ proof_text tables.now planned tree.now) }
+{
+    let version = written_version(tables.windows);
+    push_line(alloc, text, tables, &Line::Head(version))?;
+    push_line(alloc, text, tables, &Line::Plan { planned })?;
+    push_tree(alloc, text, tables, tree)?;
+    push_line(alloc, text, tables, &Line::End)
 }
 
 /// The version that is written: where the tables have windows that with shifts.
@@ -75,67 +88,37 @@ fn push_node(
     requires { IsOfTables tables.now tree.now }
     ensures { OnOk result (text.new.items ≡ text.old.items ++ lines_of tables.now (node_lines tables.now (root_of tree.now))) }
 {
+    let line = first_line(tree);
+    push_line(alloc, text, tables, &line)?;
+    push_more(alloc, text, tables, tree)
+}
+
+/// The first line of the node at the top of a tree.
+fn first_line(tree: &Tree) -> Line
+    ensures { result ≡ first_line (root_of tree.now) }
+{
     match tree {
-        Tree::Bare { leg } => push_line(alloc, text, tables, &Line::Bare { leg: *leg }),
-        Tree::Sole => push_line(alloc, text, tables, &Line::Sole),
-        Tree::Refuted(prices) => {
-            push_line(alloc, text, tables, &Line::Refuted)?;
-            push_prices(alloc, text, tables, prices)
-        }
-        Tree::Priced(prices) => {
-            push_line(alloc, text, tables, &Line::Priced)?;
-            push_prices(alloc, text, tables, prices)
-        }
-        Tree::Open(prices, cause) => {
-            push_open(alloc, text, tables, cause)?;
-            push_prices(alloc, text, tables, prices)?;
-            push_cause(alloc, text, tables, cause)
-        }
-        Tree::Trim { leg, choice, .. } => {
-            let line = Line::Trim {
-                leg: *leg,
-                choice: *choice,
-            };
-            push_line(alloc, text, tables, &line)
-        }
-        Tree::Split {
-            leg,
-            choice,
-            prices,
-            mixed,
-            ..
-        } => {
-            push_split(alloc, text, tables, *leg, *choice)?;
-            push_prices(alloc, text, tables, prices)?;
-            push_mixed(alloc, text, tables, mixed)
-        }
+        Tree::Bare { leg } => Line::Bare { leg: *leg },
+        Tree::Sole => Line::Sole,
+        Tree::Refuted(_) => Line::Refuted,
+        Tree::Priced(_) => Line::Priced,
+        Tree::Open(_, cause) => open_line(cause),
+        Tree::Trim { leg, choice, .. } => Line::Trim {
+            leg: *leg,
+            choice: *choice,
+        },
+        Tree::Split { leg, choice, .. } => Line::Split {
+            leg: *leg,
+            choice: *choice,
+        },
     }
 }
 
-/// Appends the first line of a split.
-fn push_split(
-    alloc: Global,
-    text: &mut Vec<u8>,
-    tables: &Tables,
-    leg: u32,
-    choice: u32,
-) -> Result<(), NoMemory>
-    requires { IsNamed tables.now (line.Split leg choice) }
-    ensures { OnOk result (text.new.items ≡ text.old.items ++ text_of tables.now (line.Split leg choice)) }
+/// The first line of an open leaf.
+fn open_line(cause: &Cause) -> Line
+    ensures { result ≡ open_line cause.now }
 {
-    push_line(alloc, text, tables, &Line::Split { leg, choice })
-}
-
-/// Appends the first line of an open leaf.
-fn push_open(
-    alloc: Global,
-    text: &mut Vec<u8>,
-    tables: &Tables,
-    cause: &Cause,
-) -> Result<(), NoMemory>
-    ensures { OnOk result (text.new.items ≡ text.old.items ++ text_of tables.now (open_line cause.now)) }
-{
-    let line = match cause {
+    match cause {
         Cause::Nodes(_) => Line::OpenNodes,
         Cause::Pivots { made } => Line::OpenPivots { made: *made },
         Cause::Grew {
@@ -151,8 +134,31 @@ fn push_open(
             step: *step,
             at: *at,
         },
-    };
-    push_line(alloc, text, tables, &line)
+    }
+}
+
+/// Appends the lines of the node at the top of a tree behind its first.
+fn push_more(
+    alloc: Global,
+    text: &mut Vec<u8>,
+    tables: &Tables,
+    tree: &Tree,
+) -> Result<(), NoMemory>
+    requires { IsOfTables tables.now tree.now }
+    ensures { OnOk result (text.new.items ≡ text.old.items ++ lines_of tables.now (drop 1 (node_lines tables.now (root_of tree.now)))) }
+{
+    match tree {
+        Tree::Refuted(prices) | Tree::Priced(prices) => push_prices(alloc, text, tables, prices),
+        Tree::Open(prices, cause) => {
+            push_prices(alloc, text, tables, prices)?;
+            push_cause(alloc, text, tables, cause)
+        }
+        Tree::Split { prices, mixed, .. } => {
+            push_prices(alloc, text, tables, prices)?;
+            push_mixed(alloc, text, tables, mixed)
+        }
+        Tree::Bare { .. } | Tree::Sole | Tree::Trim { .. } => Ok(()),
+    }
 }
 
 /// Appends the lines of a cause behind the prices of its leaf.

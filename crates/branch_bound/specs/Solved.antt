@@ -1,5 +1,4 @@
--- What the solver answers on tables: a plan with a bound, that there is none, or a bound alone; each with the tree of
--- subproblems that proves it.
+-- What a solution says of the tables, and how its tree came about.
 use Rattle.std.specs.Prelude.{◌≡◌, ℕ, ◌<◌, ◌≤◌, List, true, false, All, Any, Option, Some, None, IfSome, ℤ, ◌≤ℤ◌, ◌<ℤ◌, ⊤}
 use Rattle.std.specs.List.{Contains}
 use Rattle.fleet_model.specs.Kept.{all_pairs}
@@ -19,8 +18,9 @@ use Rattle.node_bounding.specs.Found.{AnswersSole, IsFoundAt, LeavesGap}
 use Rattle.node_bounding.specs.Made.{AreMade}
 use Rattle.node_bounding.specs.Trims.{IsTrimmed}
 use Rattle.node_bounding.specs.Worked.{IsWaitingWorth}
-use Rattle.branch_bound.specs.declared.solved.Solved.{Solved}
-use Rattle.branch_bound.specs.declared.solved.Solved.TheVariants as solved
+use Rattle.solutions.specs.Solved.{plan_cost, tree_of}
+use Rattle.solutions.specs.declared.solved.Solved.{Solved}
+use Rattle.solutions.specs.declared.solved.Solved.TheVariants as solved
 
 -- The plan is legal and its cost exact. The bound is the tree's, and no legal assignment undercuts it. It is the
 -- cost where no leaf is open, and less where one is.
@@ -43,18 +43,6 @@ pub record IsUnsettled (t : Tables) (bound : ℤ) (tree : Tree) : Type 0 where
   pub is_open : has_open tree ≡ true
   pub of_tree : IsBound t tree (Some bound)
   pub lower : IsLowerBound t bound
-
--- the tree of a solution
-abbrev pub tree_of : Solved → Tree
-tree_of (solved.Planned plan cost bound tree) = tree
-tree_of (solved.Infeasible tree) = tree
-tree_of (solved.Unsettled bound tree) = tree
-
--- the cost of a solution's plan, where it has one
-abbrev pub plan_cost : Solved → Option ℤ
-plan_cost (solved.Planned plan cost bound tree) = Some cost
-plan_cost (solved.Infeasible tree) = None
-plan_cost (solved.Unsettled bound tree) = None
 
 -- what a solution says of the tables
 abbrev pub IsRight : Tables → Solved → Type 0
@@ -109,9 +97,3 @@ pub record IsSolved (t : Tables) (nodes : ℕ) (pivots : Option ℕ) (s : Solved
   pub right : IsRight t s
   pub proved : IsTreeOf t nodes pivots (plan_cost s) (tree_of s)
   pub found : IsFound t s
-
--- a plan of the solution has a known fleet for each leg
-abbrev pub PlanFits : Tables → Solved → Type 0
-PlanFits t (solved.Planned plan cost bound tree) = IsAssignment t plan
-PlanFits t (solved.Infeasible tree) = ⊤
-PlanFits t (solved.Unsettled bound tree) = ⊤

@@ -6,9 +6,8 @@ mod growing;
 mod ranks;
 mod search;
 mod settling;
-pub mod solved;
 pub mod solving;
 mod subproblems;
 
-pub use solved::Solved;
+pub use solutions::Solved;
 pub use solving::solve;

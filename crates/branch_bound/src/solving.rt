@@ -12,13 +12,13 @@ use crate::branching::branch;
 use crate::growing::grown;
 use crate::search::Search;
 use crate::settling::settle;
-use crate::solved::Solved;
 use dual_bound::Tree;
 use entries::NoMemory;
 use fleet_model::{Kept, Tables};
 use node_bounding::removals::{below, remove};
 use node_bounding::{Plan, close};
 use presolve::trim;
+use solutions::Solved;
 use std::alloc::Global;
 
 /// Solves tables, with at most so many splits, and at most so many pivots for each subproblem, or with no budget of them

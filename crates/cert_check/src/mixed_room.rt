@@ -11,7 +11,7 @@ ghost use Rattle.cert_check.specs.MixedRules.{HasRoomAt};
 use crate::mixed_counts::{Parted, leg_parts};
 use dual_bound::WeightFinder;
 use fleet_model::Tables;
-use fleet_model::limits::MINUTES_PER_DAY;
+use fleet_model::period::day_end;
 use stand_counts::{need, stand};
 
 /// Whether at each station with a limit no more aircraft stand at the end of a day than may, so many parts each. Takes no
@@ -53,10 +53,10 @@ fn parked(tables: &Tables, mixed: &WeightFinder<'_>, station: u32, day: u32) -> 
     requires week { day ≤ 7 }
     ensures { result ≡ parked tables.now (parts_in mixed.now) station day }
 {
-    let minute = day * u32::from(MINUTES_PER_DAY) - 1;
+    let minute = day_end(day);
     let mut sum = 0;
     for fleet in 0..tables.fleet_count() {
-        sum += standing(tables, mixed, fleet, station, minute as u16);
+        sum += standing(tables, mixed, fleet, station, minute);
     }
     sum
 }

@@ -15,7 +15,7 @@ ghost use Rattle.cert_check.specs.PriceRules.{AreChargesAt, AreWithinAtSteps, Fa
 use dual_bound::prices::{MAX_PRICE, MAX_SCALE};
 use dual_bound::{Charge, PriceFinder, PriceStep, Prices};
 use fleet_model::Tables;
-use fleet_model::limits::MINUTES_PER_DAY;
+use fleet_model::period::{days_ended, ends_day};
 
 /// Whether a scale is 1 or more and within its limit. Takes no memory.
 pub(crate) fn is_scale(scale: &i128) -> bool
@@ -201,11 +201,10 @@ fn with_charge(
     requires price { IsUpTo 2 price.now }
     ensures { result ≡ with_charge prices.now station minute price.now }
 {
-    let next = minute + 1;
-    if next % MINUTES_PER_DAY != 0 {
+    if !ends_day(minute) {
         return *price;
     }
-    *price + charge_within(tables, prices, station, u32::from(next / MINUTES_PER_DAY))
+    *price + charge_within(tables, prices, station, days_ended(minute))
 }
 
 // A charge, which is within its limits.

@@ -11,7 +11,7 @@ use Rattle.ground_turns.specs.Maps.{HasTurn, IsSuccessorMap, arrivals_of, depart
 use Rattle.ground_turns.specs.Turns.{IsTurn}
 use Rattle.ground_turns.proofs.Rounds.{bit}
 use Rattle.cycle_join.specs.Joins.{Flies}
-use Rattle.cycle_join.specs.Rounds.{IsPath, last_of, turn_between}
+use Rattle.cycle_join.specs.Rounds.{IsPath, IsRound, last_of, turn_between}
 use Rattle.sums.proofs.Terms.{few_apart}
 
 module _ (t : Tables) (a : List ℕ) (f : ℕ) (turns : List Connection) (map : IsSuccessorMap t a f turns) where
@@ -106,6 +106,12 @@ module _ (t : Tables) (a : List ℕ) (f : ℕ) (turns : List Connection) (map : 
 
   pub not_round : IsPath turns first (legs ++ leg ∷ []) → Flies t a f first → legs_in t ≤ length legs → ⊥
   not_round path flies long = absurd (omega (arith, path_short t a f turns map first (legs ++ leg ∷ []) path flies, length-append legs (leg ∷ []), long))
+
+  pub come_round : (pushed : List ℕ) (q : ℕ) → pushed ≡ legs ++ leg ∷ [] → IsPath turns first (legs ++ leg ∷ []) → HasTurn turns (turn_between leg q) → q ≡ first → IsRound turns first pushed
+  come_round pushed q is path turn same = subst (IsRound turns first) (sym is) (record {
+    path = path;
+    closes = subst (λ l. HasTurn turns (turn_between l first)) (sym last_leg) (subst (λ r. HasTurn turns (turn_between leg r)) same turn);
+  })
 
 -- a path of one leg
 pub one_leg : (turns : List Connection) (first : ℕ) → IsPath turns first (first ∷ [])

@@ -1,8 +1,7 @@
 -- A round of a map whose legs all have one label is a tour.
-use Rattle.std.proofs.Common.{◌≡◌, ℕ, zero, suc, ◌+◌, ◌-◌, ◌*◌, ◌%◌, ◌<◌, inl, inr, Bool, true, ◌==◌, List, length, slice_index, refl, sym, ◌∙◌, ap, subst, arith, ap₂}
+use Rattle.std.proofs.Common.{◌≡◌, ℕ, zero, suc, ◌-◌, ◌%◌, ◌<◌, inl, inr, Bool, true, ◌==◌, List, length, slice_index, refl, sym, ◌∙◌, ap, subst, arith, ap₂}
 use Rattle.std.proofs.Math.Nat.{mod-eq_of_lt}
 use Rattle.std.proofs.lemmas.Bool.{cases_lt, cases_order, eq-eqb, eqb-true}
-use Rattle.std.proofs.lemmas.Nat.{mod-mul-add}
 use Rattle.sums.proofs.Places.{get_or-list_below, length-list_below}
 use Rattle.sums.proofs.Tests.{same_tests}
 use Rattle.fleet_model.specs.declared.parts.Connection.{Connection}

@@ -16,7 +16,7 @@ use lines_of_flying::successors;
 use std::alloc::Global;
 
 /// What the cycles of a fleet's legs come to. Legs go by their numbers.
-#[derive(Debug, Drop)]
+#[derive(Drop)]
 pub enum Joined {
     /// One tour of all the fleet's legs that holds the given pairs, from the first of them.
     Tour(Entries<u32>),

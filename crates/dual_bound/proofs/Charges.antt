@@ -1,5 +1,5 @@
 -- Charges, and pairs that are flown. What the words for them stand for is looked at here, in `NoCharges`, and by the rules of `cert_check`.
-use Rattle.std.proofs.Common.{◌≡◌, ℕ, ◌+◌, ◌-◌, ◌*◌, ◌/◌, ◌%◌, ◌<◌, ◌≤◌, ◌==◌, Bool, true, false, if◌then◌else◌, nat_lt, ℤ, pos, ◌+ℤ◌, ◌-ℤ◌, ◌*ℤ◌, ◌≤ℤ◌, refl, sym, ◌∙◌, ap, ap₂, arith}
+use Rattle.std.proofs.Common.{◌≡◌, ℕ, ◌+◌, ◌-◌, ◌*◌, ◌<◌, ◌≤◌, ◌==◌, Bool, true, false, if◌then◌else◌, nat_lt, ℤ, pos, ◌+ℤ◌, ◌-ℤ◌, ◌*ℤ◌, ◌≤ℤ◌, refl, sym, ◌∙◌, ap, ap₂, arith}
 use Rattle.std.proofs.lemmas.Int.{ints}
 use lib.IntN.{*ℤ_comm}
 use Rattle.std.proofs.lemmas.Bool.{eqb-true, lt-ltb}
@@ -8,7 +8,7 @@ use Rattle.sums.proofs.Blocks.{blocks_ℤ}
 use Rattle.sums.proofs.WholeSums.{sum_below_ℤ-same}
 use Rattle.sums.proofs.WholeSwaps.{sum_below_ℤ-one, where_true}
 use Rattle.sums.proofs.WholeTerms.{*ℤ-where_true}
-use Rattle.fleet_model.specs.declared.limits.TheConstants.{MINUTES_PER_DAY}
+use Rattle.fleet_model.specs.Period.{day_end, days_ended, ends_day, minute_of_day, minutes_of}
 use Rattle.fleet_model.specs.declared.parts.Pair.{Pair}
 use Rattle.fleet_model.specs.declared.tables.Tables.{Tables}
 use Rattle.fleet_model.specs.Schedule.{IsPair, days_in, fleet_by, fleets_in, leg_of, period_of, stations_in}
@@ -36,23 +36,23 @@ flown_worth t prices k p pair by = ap₂ (λ x y. (pos k *ℤ prices.scale *ℤ 
 
 -- ---- days and the minutes that end them
 -- a minute that ends a day ends one of the period
-pub some_day : (m : ℕ) → (m + 1) % MINUTES_PER_DAY ≡ 0 → 0 < (m + 1) / MINUTES_PER_DAY
+pub some_day : (m : ℕ) → minute_of_day (m + 1) ≡ 0 → 0 < days_ended m
 some_day m e = omega (arith, e)
 
-pub day_within : (t : Tables) (m : ℕ) → m < period_of t → (m + 1) % MINUTES_PER_DAY ≡ 0 → (m + 1) / MINUTES_PER_DAY ≤ days_in t
+pub day_within : (t : Tables) (m : ℕ) → m < period_of t → minute_of_day (m + 1) ≡ 0 → days_ended m ≤ days_in t
 day_within t m below ends = last_day m (days_in t) (period_of t) (days_are_period t) below ends
   where
-    last_day : (m days minutes : ℕ) → minutes ≡ days * MINUTES_PER_DAY → m < minutes → (m + 1) % MINUTES_PER_DAY ≡ 0 → (m + 1) / MINUTES_PER_DAY ≤ days
+    last_day : (m days minutes : ℕ) → minutes ≡ minutes_of days → m < minutes → minute_of_day (m + 1) ≡ 0 → days_ended m ≤ days
     last_day m days minutes e below ends = omega (arith, e, below, ends)
 
 -- ---- charges by minutes
 -- the charge by the end of a minute, 0 where it ends no day
 unfoldable pub charge_after : Prices → ℕ → ℕ → ℤ
-charge_after prices s m = where_true ((m + 1) % MINUTES_PER_DAY == 0) (charge_of prices s ((m + 1) / MINUTES_PER_DAY))
+charge_after prices s m = where_true (ends_day m) (charge_of prices s (days_ended m))
 
 pub with_charge_is : (prices : Prices) (s m : ℕ) (price : ℤ) → with_charge prices s m price ≡ price +ℤ charge_after prices s m
 unfolding charge_after with_charge
-with_charge_is prices s m price = by_case ((m + 1) % MINUTES_PER_DAY == 0) (charge_of prices s ((m + 1) / MINUTES_PER_DAY))
+with_charge_is prices s m price = by_case (ends_day m) (charge_of prices s (days_ended m))
   where
     by_case : (b : Bool) (charge : ℤ) → (if b then price +ℤ charge else price) ≡ price +ℤ where_true b charge
     by_case true charge = refl
@@ -60,9 +60,9 @@ with_charge_is prices s m price = by_case ((m + 1) % MINUTES_PER_DAY == 0) (char
 
 pub some_after : (t : Tables) (prices : Prices) → AreCharges t prices → (s m : ℕ) → s < stations_in t → m < period_of t → pos 0 ≤ℤ charge_after prices s m
 unfolding charge_after
-some_after t prices charges s m there within = by_case ((m + 1) % MINUTES_PER_DAY == 0) (λ e. (charges s _ there (some_day m (eqb-true _ _ e)) (day_within t m within (eqb-true _ _ e))).some)
+some_after t prices charges s m there within = by_case (ends_day m) (λ e. (charges s _ there (some_day m (eqb-true _ _ e)) (day_within t m within (eqb-true _ _ e))).some)
   where
-    by_case : (b : Bool) → (b ≡ true → pos 0 ≤ℤ charge_of prices s ((m + 1) / MINUTES_PER_DAY)) → pos 0 ≤ℤ where_true b (charge_of prices s ((m + 1) / MINUTES_PER_DAY))
+    by_case : (b : Bool) → (b ≡ true → pos 0 ≤ℤ charge_of prices s (days_ended m)) → pos 0 ≤ℤ where_true b (charge_of prices s (days_ended m))
     by_case true some = some refl
     by_case false some = omega (arith, ints)
 
@@ -75,33 +75,33 @@ unfoldable pub charges_at : Tables → Prices → ℕ → ℤ
 charges_at t prices s = sum_below_ℤ (λ m. pos (limit_of t s) *ℤ charge_after prices s m) (period_of t)
 
 -- of the minutes of a day the last alone ends it
-ends_last : (d i : ℕ) → i < MINUTES_PER_DAY → ((d * MINUTES_PER_DAY + i + 1) % MINUTES_PER_DAY == 0) ≡ (MINUTES_PER_DAY - 1 == i)
+ends_last : (d i : ℕ) → i < minutes_of 1 → ends_day (minutes_of d + i) ≡ (day_end 1 == i)
 ends_last d i below = grind arith
 
 -- a sum over days is one over minutes of what stands at the end of each
-over_days : (f : ℕ → ℤ) (n : ℕ) → sum_below_ℤ (λ m. where_true ((m + 1) % MINUTES_PER_DAY == 0) (f ((m + 1) / MINUTES_PER_DAY))) (n * MINUTES_PER_DAY) ≡ sum_below_ℤ (λ d. f (d + 1)) n
+over_days : (f : ℕ → ℤ) (n : ℕ) → sum_below_ℤ (λ m. where_true (ends_day m) (f (days_ended m))) (minutes_of n) ≡ sum_below_ℤ (λ d. f (d + 1)) n
 over_days f n =
-    blocks_ℤ (λ m. where_true ((m + 1) % MINUTES_PER_DAY == 0) (f ((m + 1) / MINUTES_PER_DAY))) n MINUTES_PER_DAY
+    blocks_ℤ (λ m. where_true (ends_day m) (f (days_ended m))) n (minutes_of 1)
     ∙ sum_below_ℤ-same _ (λ d. f (d + 1)) n (λ d below. one_day d)
   where
-    at_end : (d : ℕ) → (d * MINUTES_PER_DAY + (MINUTES_PER_DAY - 1) + 1) / MINUTES_PER_DAY ≡ d + 1
+    at_end : (d : ℕ) → days_ended (minutes_of d + day_end 1) ≡ d + 1
     at_end d = omega arith
 
-    one_day : (d : ℕ) → sum_below_ℤ (λ i. where_true ((d * MINUTES_PER_DAY + i + 1) % MINUTES_PER_DAY == 0) (f ((d * MINUTES_PER_DAY + i + 1) / MINUTES_PER_DAY))) MINUTES_PER_DAY ≡ f (d + 1)
+    one_day : (d : ℕ) → sum_below_ℤ (λ i. where_true (ends_day (minutes_of d + i)) (f (days_ended (minutes_of d + i)))) (minutes_of 1) ≡ f (d + 1)
     one_day d =
-        sum_below_ℤ-same _ (λ i. where_true (MINUTES_PER_DAY - 1 == i) (f ((d * MINUTES_PER_DAY + i + 1) / MINUTES_PER_DAY))) MINUTES_PER_DAY
-        (λ i below. ap (λ b. where_true b (f ((d * MINUTES_PER_DAY + i + 1) / MINUTES_PER_DAY))) (ends_last d i below))
-        ∙ sum_below_ℤ-one (MINUTES_PER_DAY - 1) (λ i. f ((d * MINUTES_PER_DAY + i + 1) / MINUTES_PER_DAY)) MINUTES_PER_DAY (omega arith)
+        sum_below_ℤ-same _ (λ i. where_true (day_end 1 == i) (f (days_ended (minutes_of d + i)))) (minutes_of 1)
+        (λ i below. ap (λ b. where_true b (f (days_ended (minutes_of d + i)))) (ends_last d i below))
+        ∙ sum_below_ℤ-one (day_end 1) (λ i. f (days_ended (minutes_of d + i))) (minutes_of 1) (omega arith)
         ∙ ap f (at_end d)
 
 charges_by_minutes : (t : Tables) (prices : Prices) (s : ℕ) → charges_of t prices s ≡ charges_at t prices s
 unfolding charges_at charge_after
 charges_by_minutes t prices s =
     sym (over_days (λ d. charge_of prices s d *ℤ pos (limit_of t s)) (days_in t))
-    ∙ ap (sum_below_ℤ (λ m. where_true ((m + 1) % MINUTES_PER_DAY == 0) (charge_of prices s ((m + 1) / MINUTES_PER_DAY) *ℤ pos (limit_of t s)))) (sym (days_are_period t))
-    ∙ sum_below_ℤ-same _ (λ m. pos (limit_of t s) *ℤ where_true ((m + 1) % MINUTES_PER_DAY == 0) (charge_of prices s ((m + 1) / MINUTES_PER_DAY))) (period_of t) (λ m below.
-    ap (where_true ((m + 1) % MINUTES_PER_DAY == 0)) (*ℤ_comm (charge_of prices s ((m + 1) / MINUTES_PER_DAY)) (pos (limit_of t s)))
-    ∙ sym (*ℤ-where_true (pos (limit_of t s)) ((m + 1) % MINUTES_PER_DAY == 0) (charge_of prices s ((m + 1) / MINUTES_PER_DAY))))
+    ∙ ap (sum_below_ℤ (λ m. where_true (ends_day m) (charge_of prices s (days_ended m) *ℤ pos (limit_of t s)))) (sym (days_are_period t))
+    ∙ sum_below_ℤ-same _ (λ m. pos (limit_of t s) *ℤ where_true (ends_day m) (charge_of prices s (days_ended m))) (period_of t) (λ m below.
+    ap (where_true (ends_day m)) (*ℤ_comm (charge_of prices s (days_ended m)) (pos (limit_of t s)))
+    ∙ sym (*ℤ-where_true (pos (limit_of t s)) (ends_day m) (charge_of prices s (days_ended m))))
 
 pub less_charges_is : (t : Tables) (prices : Prices) (z : ℤ) → less_charges t prices z ≡ z -ℤ sum_below_ℤ (charges_at t prices) (stations_in t)
 unfolding less_charges

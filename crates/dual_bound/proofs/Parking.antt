@@ -1,5 +1,5 @@
 -- Charges for the aircraft of all fleets: no more than the limits allow.
-use Rattle.std.proofs.Common.{◌≡◌, ℕ, ◌+◌, ◌*◌, ◌/◌, ◌%◌, ◌<◌, ◌==◌, true, false, Option, Some, None, pos, ◌*ℤ◌, ◌≤ℤ◌, refl, sym, ◌∙◌, ap, subst, arith}
+use Rattle.std.proofs.Common.{◌≡◌, ℕ, ◌+◌, ◌*◌, ◌<◌, true, false, Option, Some, None, pos, ◌*ℤ◌, ◌≤ℤ◌, refl, sym, ◌∙◌, ap, subst, arith}
 use Rattle.std.specs.Prelude.{unwrap_or}
 use Rattle.std.proofs.lemmas.Bool.{eqb-true}
 use Rattle.std.proofs.lemmas.Int.{ints}
@@ -10,7 +10,7 @@ use Rattle.sums.proofs.Orders.{more_times, sum_below_ℤ-le}
 use Rattle.sums.proofs.Tests.{by_test}
 use Rattle.sums.proofs.WholeSums.{*ℤ-sum_below_ℤ, sum_below_ℤ-same}
 use Rattle.sums.proofs.WholeSwaps.{sum_below-times, sum_below_ℤ-swap, where_true}
-use Rattle.fleet_model.specs.declared.limits.TheConstants.{MINUTES_PER_DAY}
+use Rattle.fleet_model.specs.Period.{days_ended, ends_day, minute_of_day}
 use Rattle.fleet_model.specs.declared.tables.Tables.{Tables}
 use Rattle.fleet_model.specs.Counts.{Weights}
 use Rattle.fleet_model.specs.Legal.{HasRoom}
@@ -23,7 +23,7 @@ use Rattle.dual_bound.proofs.Charges.{charge_after, charges_at, day_within, some
 use Rattle.dual_bound.proofs.Flows.{charges_for}
 
 -- a minute that ends a day is the last of that day
-pub last_of_day : (m : ℕ) → (m + 1) % MINUTES_PER_DAY ≡ 0 → m ≡ day_end ((m + 1) / MINUTES_PER_DAY)
+pub last_of_day : (m : ℕ) → minute_of_day (m + 1) ≡ 0 → m ≡ day_end (days_ended m)
 last_of_day m e = omega (arith, e)
 
 module _ (t : Tables) (prices : Prices) (charges : AreCharges t prices) (q : ℕ) (w : Weights) (room : HasRoom t q w) where
@@ -31,31 +31,31 @@ module _ (t : Tables) (prices : Prices) (charges : AreCharges t prices) (q : ℕ
   all_stand : ℕ → ℕ → ℕ
   all_stand s m = sum_below (λ f. stand_of t w f s m) (fleets_in t)
 
-  standing_then : (s m : ℕ) → (m + 1) % MINUTES_PER_DAY ≡ 0 → all_stand s m ≡ parked t w s ((m + 1) / MINUTES_PER_DAY)
+  standing_then : (s m : ℕ) → minute_of_day (m + 1) ≡ 0 → all_stand s m ≡ parked t w s (days_ended m)
   unfolding all_stand parked
   standing_then s m ends = ap (λ n. sum_below (λ f. stand_of t w f s n) (fleets_in t)) (last_of_day m ends)
 
   at_minute : (s m : ℕ) → s < stations_in t → m < period_of t → (pos (all_stand s m) *ℤ charge_after prices s m) ≤ℤ (pos q *ℤ (pos (limit_of t s) *ℤ charge_after prices s m))
   unfolding charge_after
-  at_minute s m there below = by_test ((m + 1) % MINUTES_PER_DAY == 0) (λ e. at_end e) (λ e. none e)
+  at_minute s m there below = by_test (ends_day m) (λ e. at_end e) (λ e. none e)
     where
-      none : ((m + 1) % MINUTES_PER_DAY == 0) ≡ false → (pos (all_stand s m) *ℤ where_true ((m + 1) % MINUTES_PER_DAY == 0) (charge_of prices s ((m + 1) / MINUTES_PER_DAY)))
-          ≤ℤ (pos q *ℤ (pos (limit_of t s) *ℤ where_true ((m + 1) % MINUTES_PER_DAY == 0) (charge_of prices s ((m + 1) / MINUTES_PER_DAY))))
+      none : (ends_day m) ≡ false → (pos (all_stand s m) *ℤ where_true (ends_day m) (charge_of prices s (days_ended m)))
+          ≤ℤ (pos q *ℤ (pos (limit_of t s) *ℤ where_true (ends_day m) (charge_of prices s (days_ended m))))
       none e = rw e (omega (arith, ints, *ℤ-zero (pos (all_stand s m)), *ℤ-zero (pos (limit_of t s)), *ℤ-zero (pos q), ap (λ x. pos q *ℤ x) (*ℤ-zero (pos (limit_of t s)))))
 
-      at_end : ((m + 1) % MINUTES_PER_DAY == 0) ≡ true → (pos (all_stand s m) *ℤ where_true ((m + 1) % MINUTES_PER_DAY == 0) (charge_of prices s ((m + 1) / MINUTES_PER_DAY)))
-          ≤ℤ (pos q *ℤ (pos (limit_of t s) *ℤ where_true ((m + 1) % MINUTES_PER_DAY == 0) (charge_of prices s ((m + 1) / MINUTES_PER_DAY))))
+      at_end : (ends_day m) ≡ true → (pos (all_stand s m) *ℤ where_true (ends_day m) (charge_of prices s (days_ended m)))
+          ≤ℤ (pos q *ℤ (pos (limit_of t s) *ℤ where_true (ends_day m) (charge_of prices s (days_ended m))))
       at_end e = rw e (by_limit (parking_of t s) refl)
         where
           d : ℕ
-          d = (m + 1) / MINUTES_PER_DAY
+          d = days_ended m
 
-          charge : IsCharge t prices s ((m + 1) / MINUTES_PER_DAY)
-          charge = charges s ((m + 1) / MINUTES_PER_DAY) there (some_day m (eqb-true _ _ e)) (day_within t m below (eqb-true _ _ e))
+          charge : IsCharge t prices s (days_ended m)
+          charge = charges s (days_ended m) there (some_day m (eqb-true _ _ e)) (day_within t m below (eqb-true _ _ e))
 
-          by_limit : (o : Option ℕ) → parking_of t s ≡ o → (pos (all_stand s m) *ℤ charge_of prices s ((m + 1) / MINUTES_PER_DAY)) ≤ℤ (pos q *ℤ (pos (limit_of t s) *ℤ charge_of prices s ((m + 1) / MINUTES_PER_DAY)))
+          by_limit : (o : Option ℕ) → parking_of t s ≡ o → (pos (all_stand s m) *ℤ charge_of prices s (days_ended m)) ≤ℤ (pos q *ℤ (pos (limit_of t s) *ℤ charge_of prices s (days_ended m)))
           by_limit None is =
-              let free : charge_of prices s ((m + 1) / MINUTES_PER_DAY) ≡ pos 0 = charge.only_limited is in
+              let free : charge_of prices s (days_ended m) ≡ pos 0 = charge.only_limited is in
               let left = ap (λ z. pos (all_stand s m) *ℤ z) free ∙ *ℤ-zero (pos (all_stand s m)) in
               let right = ap (λ z. pos q *ℤ (pos (limit_of t s) *ℤ z)) free ∙ ap (λ z. pos q *ℤ z) (*ℤ-zero (pos (limit_of t s))) ∙ *ℤ-zero (pos q) in
               omega (arith, ints, left, right)

@@ -1,7 +1,7 @@
 -- What prices say at each minute, and when they are proper.
-use Rattle.std.specs.Prelude.{◌≡◌, ℕ, ◌+◌, ◌/◌, ◌%◌, ◌<◌, ◌≤◌, ◌^◌, Bool, ◌==◌, ◌&&◌, nat_le, if◌then◌else◌, List, [], ◌∷◌, slice_index_or, None, ℤ, pos, neg_ℤ, ◌≤ℤ◌, ◌+ℤ◌}
+use Rattle.std.specs.Prelude.{◌≡◌, ℕ, ◌+◌, ◌<◌, ◌≤◌, ◌^◌, Bool, ◌==◌, ◌&&◌, nat_le, if◌then◌else◌, List, [], ◌∷◌, slice_index_or, None, ℤ, pos, neg_ℤ, ◌≤ℤ◌, ◌+ℤ◌}
 use Rattle.fleet_model.specs.Schedule.{days_in, fleets_in, last_of, parking_of, period_of, stations_in}
-use Rattle.fleet_model.specs.declared.limits.TheConstants.{MINUTES_PER_DAY}
+use Rattle.fleet_model.specs.Period.{days_ended, ends_day}
 use Rattle.fleet_model.specs.declared.tables.Tables.{Tables}
 use Rattle.dual_bound.specs.declared.prices.Charge.{Charge}
 use Rattle.dual_bound.specs.declared.prices.Prices.{Prices}
@@ -41,7 +41,7 @@ charge_of prices s d = last_charge (pos 0) prices.charges s d
 -- what a price at a minute may be a minute later: itself, and the station's charge where the minute ends a day
 unfoldable pub with_charge : Prices → ℕ → ℕ → ℤ → ℤ
 with_charge prices s m price =
-    if (m + 1) % MINUTES_PER_DAY == 0 then price +ℤ charge_of prices s ((m + 1) / MINUTES_PER_DAY) else price
+    if ends_day m then price +ℤ charge_of prices s (days_ended m) else price
 
 -- ---- limits
 -- the greatest scale of prices, and the greatest size of a rent, of a price and of a charge

@@ -1,4 +1,4 @@
-use crate::columns::{Columns, Unit};
+use crate::columns::{Columns, Unit, items_of, sum_up};
 use crate::lists::{at, filled, put};
 use crate::number::Number;
 use entries::NoMemory;
@@ -23,6 +23,12 @@ pub struct Start {
     others: Vec<Unit>,
     columns: Vec<u32>,
     lines: Vec<u32>,
+    /// The lines without a step.
+    bare: Vec<u32>,
+    /// Where the crossings of each line end.
+    crossing_ends: Vec<u32>,
+    /// The steps whose columns have a number in a line that isn't their own, line by line: the step's line, and the number.
+    crossings: Vec<Unit>,
 }
 
 #[derive(Clone, Copy)]
@@ -43,11 +49,49 @@ impl Start {
             others: Vec::new(alloc),
             columns: filled(alloc, NONE, columns.line_count())?,
             lines: filled(alloc, NONE, columns.count())?,
+            bare: Vec::new(alloc),
+            crossing_ends: filled(alloc, 0, columns.line_count())?,
+            crossings: Vec::new(alloc),
         };
         for place in places {
             start.add(columns, *place)?;
         }
+        start.note_bare()?;
+        start.count_crossings()?;
+        start.cross();
         Ok(start)
+    }
+
+    // Notes the lines without a step.
+    fn note_bare(&mut self) -> Result<(), NoMemory> {
+        for line in 0..self.columns.len() {
+            let line = (line & 0xffff_ffff) as u32;
+            if self.column_of(line) == NONE {
+                self.bare.push(line)?;
+            }
+        }
+        Ok(())
+    }
+
+    // Makes room for the crossings of each line.
+    fn count_crossings(&mut self) -> Result<(), NoMemory> {
+        for unit in &self.others {
+            let line = unit.line as usize;
+            let count = at(&self.crossing_ends, line, 0);
+            put(&mut self.crossing_ends, line, count.wrapping_add(1));
+        }
+        sum_up(&mut self.crossing_ends);
+        let none = Unit { line: 0, number: 0 };
+        self.crossings.resize(self.others.len(), none)?;
+        Ok(())
+    }
+
+    // Lays the crossings of all lines.
+    fn cross(&mut self) {
+        for step in &self.steps {
+            let others = others_of(*step, &self.others);
+            lay_crossings(*step, others, &mut self.crossing_ends, &mut self.crossings);
+        }
     }
 
     // Puts a column behind those so far, where the order lets it.
@@ -76,18 +120,6 @@ impl Start {
             }
         }
         Ok(())
-    }
-
-    // The other numbers of a step's column.
-    #[inline(always)]
-    fn others_of(&self, step: Step) -> &[Unit] {
-        let begin = step.begin as usize;
-        let end = step.end as usize;
-        if begin <= end && end <= self.others.len() {
-            &self.others.as_slice()[begin..end]
-        } else {
-            &[]
-        }
     }
 
     // The number of a column in its own line, or 0 where it or its line stands already, or it has a number in the line
@@ -136,21 +168,63 @@ impl Start {
             if !own.is_zero() {
                 let part = own.times(N::of(step.own));
                 put(sums, step.line as usize, part);
-                take_units(self.others_of(*step), part, sums);
+                take_units(others_of(*step, &self.others), part, sums);
             }
         }
     }
 
     /// Of what the basic columns weigh, by their lines, the multipliers of the lines by which they do.
     pub fn backward<N: Number>(&self, weighed: &mut [N]) {
+        self.take_bare(weighed);
         for step in self.steps.iter().rev() {
-            let mut own = at(weighed, step.line as usize, N::of(0));
-            for unit in self.others_of(*step) {
-                let other = at(weighed, unit.line as usize, N::of(0));
-                own = own.minus(other.times(N::of(unit.number)));
+            let own = at(weighed, step.line as usize, N::of(0));
+            if !own.is_zero() {
+                let part = own.times(N::of(step.own));
+                put(weighed, step.line as usize, part);
+                take_units(self.crossings_of(step.line), part, weighed);
             }
-            put(weighed, step.line as usize, own.times(N::of(step.own)));
         }
+    }
+
+    // Takes what the lines without a step weigh.
+    fn take_bare<N: Number>(&self, weighed: &mut [N]) {
+        for line in &self.bare {
+            let own = at(weighed, *line as usize, N::of(0));
+            if !own.is_zero() {
+                take_units(self.crossings_of(*line), own, weighed);
+            }
+        }
+    }
+
+    #[inline(always)]
+    fn crossings_of(&self, line: u32) -> &[Unit] {
+        items_of(&self.crossing_ends, &self.crossings, line as usize)
+    }
+}
+
+// The other numbers of a step's column.
+#[inline(always)]
+fn others_of(step: Step, others: &[Unit]) -> &[Unit] {
+    let begin = step.begin as usize;
+    let end = step.end as usize;
+    if begin <= end && end <= others.len() {
+        &others[begin..end]
+    } else {
+        &[]
+    }
+}
+
+// Lays the other numbers of a step's column behind those that their lines have so far.
+fn lay_crossings(step: Step, others: &[Unit], ends: &mut [u32], crossings: &mut [Unit]) {
+    for unit in others {
+        let line = unit.line as usize;
+        let end = at(ends, line, 0);
+        let crossing = Unit {
+            line: step.line,
+            number: unit.number,
+        };
+        put(crossings, end as usize, crossing);
+        put(ends, line, end.wrapping_add(1));
     }
 }
 

@@ -17,6 +17,8 @@ pub struct Costs {
     pub columns: Vec<i128>,
     pub slots: Vec<i128>,
     pub den: i128,
+    /// A number with as many bits as the greatest size, or more.
+    sizes: i128,
 }
 
 /// By which the cost row is multiplied, and how many times the pivot row is added to it.
@@ -34,10 +36,12 @@ impl Costs {
         let mut columns = filled(alloc, 0, frame.columns.count())?;
         let fits = lay_costs(&frame.columns, costs, &lines, columns.as_mut_slice());
         Ok(if fits {
+            let sizes = sizes_of(&columns).either(1);
             Some(Costs {
                 columns,
                 slots: Vec::new(alloc),
                 den: 1,
+                sizes,
             })
         } else {
             None
@@ -53,11 +57,8 @@ impl Costs {
             factor: size.over(divisor),
             times: cost.over(divisor),
         };
-        let most = sizes_of(&self.columns)
-            .either(sizes_of(&self.slots))
-            .either(self.den);
         let others = sizes_met(row).either(row.sizes.wide());
-        let grown = most.bits().wrapping_add(step.factor.bits());
+        let grown = self.sizes.bits().wrapping_add(step.factor.bits());
         let added = others.bits().wrapping_add(step.times.bits());
         if grown > 125 || added > 125 {
             None
@@ -76,8 +77,9 @@ impl Costs {
             multiply(self.slots.as_mut_slice(), step.factor);
             self.den = self.den.wrapping_mul(step.factor);
         }
-        add_numbers(self.columns.as_mut_slice(), row, step.times);
-        take_parts(self.slots.as_mut_slice(), &row.parts, step.times);
+        let met = add_numbers(self.columns.as_mut_slice(), row, step.times);
+        let parts = take_parts(self.slots.as_mut_slice(), &row.parts, step.times);
+        self.sizes = self.sizes.either(met).either(parts);
         self.reduce();
     }
 
@@ -91,7 +93,9 @@ impl Costs {
     pub fn lay_slots(&mut self, lines: &[u32], weighed: &[i128]) -> Result<(), NoMemory> {
         self.slots.clear();
         for line in lines {
-            self.slots.push(at(weighed, *line as usize, 0))?;
+            let slot: i128 = at(weighed, *line as usize, 0);
+            self.sizes = self.sizes.either(slot.size());
+            self.slots.push(slot)?;
         }
         Ok(())
     }
@@ -111,7 +115,9 @@ impl Costs {
         let twos = sizes.lowest_bit();
         let odd = shared(&self.slots, shared(&self.columns, odd_part(self.den)));
         let divisor = twos.wrapping_mul(odd);
+        self.sizes = sizes;
         if divisor != 1 {
+            self.sizes = sizes.over(divisor).wrapping_mul(2);
             divide(self.columns.as_mut_slice(), twos, odd);
             divide(self.slots.as_mut_slice(), twos, odd);
             self.den = self.den.over(divisor);
@@ -204,27 +210,28 @@ fn divide(numbers: &mut [i128], twos: i128, odd: i128) {
     }
 }
 
-fn add_numbers<N: Number>(numbers: &mut [i128], row: &PivotRow<N>, times: i128) {
+// Adds the row's numbers, so many times, and answers all bits of the sizes that come of it.
+fn add_numbers<N: Number>(numbers: &mut [i128], row: &PivotRow<N>, times: i128) -> i128 {
+    let mut sizes = 0i128;
     for column in &row.met {
         let place = *column as usize;
         let more = at(&row.columns, place, N::of(0)).wide();
-        let number = at(numbers, place, 0);
-        put(
-            numbers,
-            place,
-            number.wrapping_add(more.wrapping_mul(times)),
-        );
+        let number = at(numbers, place, 0).wrapping_add(more.wrapping_mul(times));
+        sizes = sizes.either(number.size());
+        put(numbers, place, number);
     }
+    sizes
 }
 
-fn take_parts<N: Number>(numbers: &mut [i128], parts: &[Part<N>], times: i128) {
+// Takes the parts of a row, so many times, and answers all bits of the sizes that come of it.
+fn take_parts<N: Number>(numbers: &mut [i128], parts: &[Part<N>], times: i128) -> i128 {
+    let mut sizes = 0i128;
     for part in parts {
         let place = part.slot as usize;
-        let number = at(numbers, place, 0);
-        put(
-            numbers,
-            place,
-            number.wrapping_sub(part.number.wide().wrapping_mul(times)),
-        );
+        let less = part.number.wide().wrapping_mul(times);
+        let number = at(numbers, place, 0).wrapping_sub(less);
+        sizes = sizes.either(number.size());
+        put(numbers, place, number);
     }
+    sizes
 }

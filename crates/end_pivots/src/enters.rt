@@ -51,6 +51,9 @@ fn better(best: Option<Candidate>, next: Candidate) -> Option<Candidate> {
     let Some(other) = best else {
         return Some(next);
     };
+    if other.cost == 0 && next.cost > 0 {
+        return Some(other);
+    }
     if next.cost.bits().wrapping_add(other.size.bits()) > 126
         || other.cost.bits().wrapping_add(next.size.bits()) > 126
     {

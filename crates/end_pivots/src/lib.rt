@@ -21,4 +21,4 @@ pub use pivot_column::PivotColumn;
 pub use pivot_row::PivotRow;
 pub use trial::Trial;
 pub use values::Values;
-pub use weights::{Weights, lay_column};
+pub use weights::Weights;

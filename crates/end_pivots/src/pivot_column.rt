@@ -1,6 +1,7 @@
 use crate::frame::Frame;
 use crate::pivot_row::PivotRow;
 use end_kernel::lists::fill;
+use end_kernel::number::common_scale;
 use end_kernel::start::take_column;
 use end_kernel::{Kernel, Number, Sides, at, common_divisor, filled};
 use entries::NoMemory;
@@ -19,6 +20,8 @@ pub struct PivotColumn<N> {
     /// Its numbers in the slots as the start has them, beside those of the other sum.
     slots: Vec<Sides<N>>,
     sums: Vec<N>,
+    /// Its numbers in the lines, over a scale.
+    pub lines: Vec<N>,
 }
 
 impl<N: Number> PivotColumn<N> {
@@ -30,6 +33,7 @@ impl<N: Number> PivotColumn<N> {
             crossings: Vec::new(alloc),
             slots: Vec::new(alloc),
             sums: filled(alloc, N::of(0), frame.columns.line_count())?,
+            lines: filled(alloc, N::of(0), frame.columns.line_count())?,
         })
     }
 
@@ -86,6 +90,46 @@ impl<N: Number> PivotColumn<N> {
         Ok(sizes)
     }
 
+    /// Lays its numbers in the lines, and answers their scale, where they fit.
+    pub fn lay_lines(&mut self, frame: &Frame, kernel: &Kernel<N>) -> Option<N> {
+        let scale = self.scale(kernel)?;
+        fill(self.lines.as_mut_slice(), N::of(0));
+        if !self.take_rows(frame, kernel, scale) {
+            return None;
+        }
+        frame.start.forward(self.lines.as_mut_slice());
+        add_times(self.lines.as_mut_slice(), &self.sums, scale);
+        Some(scale)
+    }
+
+    // Takes the columns of the rows that the column meets, each so many times, and answers whether all fit.
+    fn take_rows(&mut self, frame: &Frame, kernel: &Kernel<N>, scale: N) -> bool {
+        let lines = self.lines.as_mut_slice();
+        for place in 0..kernel.rows.len() {
+            let product = at(&self.products, place, N::of(0));
+            if !product.is_zero() {
+                let row = &kernel.rows[place];
+                let factor = scale.over(row.den);
+                if product.bits().wrapping_add(factor.bits()).wrapping_add(20) > N::room() {
+                    return false;
+                }
+                take_column(&frame.columns, row.column, product.times(factor), lines);
+            }
+        }
+        true
+    }
+
+    // A scale of the rows that the column meets.
+    fn scale(&self, kernel: &Kernel<N>) -> Option<N> {
+        let mut scale = N::of(1);
+        for place in 0..kernel.rows.len() {
+            if !at(&self.products, place, N::of(0)).is_zero() {
+                scale = common_scale(scale, kernel.rows[place].den, N::room() / 3 * 2)?;
+            }
+        }
+        Some(scale)
+    }
+
     /// Whether each row fits once it is changed.
     pub fn fits(&self, kernel: &Kernel<N>, pivot: &PivotRow<N>) -> bool {
         for place in 0..kernel.rows.len() {
@@ -106,5 +150,14 @@ impl<N: Number> PivotColumn<N> {
             }
         }
         true
+    }
+}
+
+fn add_times<N: Number>(numbers: &mut [N], others: &[N], times: N) {
+    for place in 0..numbers.len() {
+        let other = at(others, place, N::of(0));
+        if !other.is_zero() {
+            numbers[place] = numbers[place].plus(other.times(times));
+        }
     }
 }

@@ -1,8 +1,9 @@
 use crate::frame::Frame;
+use crate::pivot_column::PivotColumn;
 use end_kernel::lists::fill;
 use end_kernel::number::common_scale;
 use end_kernel::start::take_column;
-use end_kernel::{Kernel, Number, filled};
+use end_kernel::{Kernel, Number, at, common_divisor, filled};
 use entries::NoMemory;
 use std::alloc::Global;
 
@@ -11,6 +12,8 @@ use std::alloc::Global;
 pub struct Values<N> {
     pub numbers: Vec<N>,
     pub scale: N,
+    /// Whether they are those of the basis.
+    are_known: bool,
 }
 
 impl<N: Number> Values<N> {
@@ -18,11 +21,68 @@ impl<N: Number> Values<N> {
         Ok(Values {
             numbers: filled(alloc, N::of(0), lines)?,
             scale: N::of(1),
+            are_known: false,
         })
     }
 
-    /// Reckons all values anew, and answers whether they fit.
-    pub fn reckon(&mut self, frame: &Frame, kernel: &Kernel<N>) -> bool {
+    /// Whether all values are those of the basis, or fit once they are reckoned anew.
+    pub fn are_ready(&mut self, frame: &Frame, kernel: &Kernel<N>) -> bool {
+        self.are_known || self.reckon(frame, kernel)
+    }
+
+    /// Lets the values go.
+    pub fn forget(&mut self) {
+        self.are_known = false;
+    }
+
+    /// Brings the values to what they are after a pivot, whose column has its numbers in the lines over a scale. Where they aren't whole
+    /// over the same scale as before, or a number is large, they are to be reckoned anew.
+    pub fn advance(&mut self, kernel: &Kernel<N>, own: N, column: &PivotColumn<N>, scale: N) {
+        self.are_known = self.are_known && self.advanced(kernel, own, column, scale);
+    }
+
+    fn advanced(&mut self, kernel: &Kernel<N>, own: N, column: &PivotColumn<N>, scale: N) -> bool {
+        let most = N::room() / 2;
+        let Some(new) = scale_of(kernel) else {
+            return false;
+        };
+        if !new.minus(self.scale).is_zero()
+            || own.bits().wrapping_add(self.scale.bits()) > most
+            || column.size.bits().wrapping_add(scale.bits()) > most
+        {
+            return false;
+        }
+        let times = own.size().times(self.scale);
+        let den = column.size.times(scale);
+        let divisor = common_divisor(times, den);
+        self.take_times(&column.lines, times.over(divisor), den.over(divisor))
+    }
+
+    // Takes the numbers of lines so many times over a denominator, and answers whether all was whole and fits.
+    fn take_times(&mut self, lines: &[N], times: N, den: N) -> bool {
+        let numbers = self.numbers.as_mut_slice();
+        for place in 0..numbers.len() {
+            let line = at(lines, place, N::of(0));
+            if !line.is_zero() {
+                let product = line.times(times);
+                let less = if den.is_one() {
+                    product
+                } else {
+                    product.over(den)
+                };
+                if line.bits().wrapping_add(times.bits()) > N::room()
+                    || !less.times(den).minus(product).is_zero()
+                {
+                    return false;
+                }
+                numbers[place] = numbers[place].minus(less);
+            }
+        }
+        true
+    }
+
+    // Reckons all values anew, and answers whether they fit.
+    fn reckon(&mut self, frame: &Frame, kernel: &Kernel<N>) -> bool {
         let Some(scale) = scale_of(kernel) else {
             return false;
         };
@@ -41,6 +101,7 @@ impl<N: Number> Values<N> {
             }
         }
         frame.start.forward(numbers);
+        self.are_known = true;
         true
     }
 

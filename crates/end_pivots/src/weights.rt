@@ -3,7 +3,6 @@ use crate::pivot_column::PivotColumn;
 use crate::pivot_row::PivotRow;
 use crate::pricing::{LEAST_WEIGHT, MOST_WEIGHT, PART_BITS, WHOLE, quotient};
 use end_kernel::lists::fill;
-use end_kernel::number::common_scale;
 use end_kernel::start::take_column;
 use end_kernel::{Kernel, NONE, Number, at, filled, put};
 use entries::NoMemory;
@@ -17,10 +16,10 @@ const MOST_NUMBER: i128 = 1 << 50;
 #[derive(Drop)]
 pub struct Weights {
     lines: Vec<i64>,
-    /// The row that enters, as multipliers of the lines, in parts.
-    row: Vec<i64>,
-    /// What it weighs in the rows of the lines, while it is reckoned; before that what the start leaves of it.
+    /// What the start leaves of the row that enters, as multipliers of the lines, in parts.
     crosses: Vec<i64>,
+    /// What the rows of the kernel take from that.
+    more: Vec<i64>,
     /// The weight of the row that enters.
     entered: i128,
 }
@@ -29,8 +28,8 @@ impl Weights {
     pub fn new(alloc: Global, lines: usize) -> Result<Weights, NoMemory> {
         Ok(Weights {
             lines: filled(alloc, 1 << PART_BITS, lines)?,
-            row: filled(alloc, 0, lines)?,
             crosses: filled(alloc, 0, lines)?,
+            more: filled(alloc, 0, lines)?,
             entered: WHOLE,
         })
     }
@@ -58,27 +57,22 @@ impl Weights {
     /// Takes the row of a column that enters, which is the pivot row over its number there.
     pub fn take<N: Number>(&mut self, frame: &Frame, row: &PivotRow<N>, entering: u32) {
         let size = at(&row.columns, entering as usize, N::of(1)).size();
-        self.entered = lay_row(self.row.as_mut_slice(), &row.lines, size.wide());
-        copy(self.crosses.as_mut_slice(), &self.row);
+        self.entered = lay_row(self.crosses.as_mut_slice(), &row.lines, size.wide());
         frame.start.forward(self.crosses.as_mut_slice());
     }
 
-    /// Brings all weights to what they are after the pivot. The numbers of the column in the lines are laid into `numbers`. Where
-    /// they don't fit the weights stay.
+    /// Brings all weights to what they are after the pivot, where the column's numbers in the lines have a scale.
     pub fn change<N: Number>(
         &mut self,
         frame: &Frame,
         kernel: &mut Kernel<N>,
         column: &PivotColumn<N>,
-        numbers: &mut [N],
+        scale: N,
     ) {
-        let Some(scale) = lay_column(frame, kernel, column, numbers) else {
-            return;
-        };
-        copy(self.crosses.as_mut_slice(), &self.row);
+        fill(self.more.as_mut_slice(), 0);
         self.change_rows(frame, kernel, column);
-        frame.start.forward(self.crosses.as_mut_slice());
-        self.change_lines(kernel, numbers, scale);
+        frame.start.forward(self.more.as_mut_slice());
+        self.change_lines(kernel, &column.lines, scale);
     }
 
     // The weights of the kernel's rows. What the row that enters weighs in each is taken from the crosses.
@@ -93,8 +87,10 @@ impl Weights {
             let row = &rows[place];
             let crossing = at(&column.crossings, place, N::of(0)).wide();
             let cross = quotient(crossing, row.den.wide());
-            let crosses = self.crosses.as_mut_slice();
-            take_column(&frame.columns, row.column, i64::narrowed(cross), crosses);
+            if cross != 0 {
+                let more = self.more.as_mut_slice();
+                take_column(&frame.columns, row.column, i64::narrowed(cross), more);
+            }
             let number = at(&column.products, place, N::of(0));
             if !number.is_zero() {
                 let weight = changed(row.weight, number, row.den, cross, self.entered);
@@ -108,7 +104,8 @@ impl Weights {
         for place in 0..numbers.len() {
             let number = numbers[place];
             if !number.is_zero() && kernel.slot_of((place & 0xffff_ffff) as u32) == NONE {
-                let cross = i128::from(at(&self.crosses, place, 0));
+                let more = at(&self.more, place, 0);
+                let cross = i128::from(at(&self.crosses, place, 0).wrapping_add(more));
                 let old = at(&self.lines, place, 0);
                 let new = changed(old, number, scale, cross, self.entered);
                 put(self.lines.as_mut_slice(), place, new);
@@ -123,18 +120,15 @@ fn lay_row<N: Number>(parts: &mut [i64], numbers: &[N], size: i128) -> i128 {
     let mut sum = 0i128;
     for place in 0..parts.len() {
         let number = at(numbers, place, N::of(0));
-        let part = number.wide().clamp(-MOST_NUMBER, MOST_NUMBER);
-        let part = part.wrapping_mul(inverse).wrapping_shr(PART_BITS);
-        parts[place] = i64::narrowed(part.wrapping_neg());
-        sum = sum.wrapping_add(part.wrapping_mul(part).wrapping_shr(PART_BITS));
+        parts[place] = 0;
+        if !number.is_zero() {
+            let part = number.wide().clamp(-MOST_NUMBER, MOST_NUMBER);
+            let part = part.wrapping_mul(inverse).wrapping_shr(PART_BITS);
+            parts[place] = i64::narrowed(part.wrapping_neg());
+            sum = sum.wrapping_add(part.wrapping_mul(part).wrapping_shr(PART_BITS));
+        }
     }
     sum.clamp(LEAST_WEIGHT, MOST_WEIGHT)
-}
-
-fn copy(numbers: &mut [i64], others: &[i64]) {
-    for place in 0..numbers.len() {
-        numbers[place] = at(others, place, 0);
-    }
 }
 
 // A weight after the pivot: the row gives up the number's part of the row that entered.
@@ -152,49 +146,4 @@ fn changed<N: Number>(old: i64, number: N, scale: N, cross: i128, entered: i128)
     };
     let new = i128::from(old).wrapping_sub(less).wrapping_add(more);
     i64::narrowed(new.clamp(LEAST_WEIGHT, MOST_WEIGHT))
-}
-
-/// Lays the numbers of the column that enters in the lines, over a scale, where they fit.
-pub fn lay_column<N: Number>(
-    frame: &Frame,
-    kernel: &Kernel<N>,
-    column: &PivotColumn<N>,
-    numbers: &mut [N],
-) -> Option<N> {
-    let scale = scale_of(kernel, &column.products)?;
-    fill(numbers, N::of(0));
-    take_column(
-        &frame.columns,
-        column.entering,
-        N::of(0).minus(scale),
-        numbers,
-    );
-    for place in 0..kernel.rows.len() {
-        let product = at(&column.products, place, N::of(0));
-        if !product.is_zero() {
-            let factor = scale.over(kernel.rows[place].den);
-            if product.bits().wrapping_add(factor.bits()).wrapping_add(20) > N::room() {
-                return None;
-            }
-            take_column(
-                &frame.columns,
-                kernel.rows[place].column,
-                product.times(factor),
-                numbers,
-            );
-        }
-    }
-    frame.start.forward(numbers);
-    Some(scale)
-}
-
-// A scale of the rows that the column meets.
-fn scale_of<N: Number>(kernel: &Kernel<N>, products: &[N]) -> Option<N> {
-    let mut scale = N::of(1);
-    for place in 0..kernel.rows.len() {
-        if !at(products, place, N::of(0)).is_zero() {
-            scale = common_scale(scale, kernel.rows[place].den, N::room() / 3 * 2)?;
-        }
-    }
-    Some(scale)
 }

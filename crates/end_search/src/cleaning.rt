@@ -1,7 +1,7 @@
 use crate::pivot::{pivot, take_row};
 use crate::progress::{Progress, Workspace};
 use end_kernel::{Kernel, Number, at};
-use end_pivots::{Frame, Leaving, Trial, lay_column};
+use end_pivots::{Frame, Leaving, Trial};
 use entries::NoMemory;
 use std::alloc::Global;
 
@@ -73,13 +73,12 @@ fn trial<N: Number>(
     )? {
         return Ok(None);
     }
-    let numbers = workspace.row.lines.as_mut_slice();
-    let Some(scale) = lay_column(frame, kernel, &workspace.column, numbers) else {
+    let Some(scale) = workspace.column.lay_lines(frame, kernel) else {
         return Ok(None);
     };
     let tried = Trial {
         products: &workspace.column.products,
-        numbers: &workspace.row.lines,
+        numbers: &workspace.column.lines,
         scale,
     };
     Ok(tried.gaining(frame, kernel, &workspace.values))
@@ -101,5 +100,5 @@ fn enter<N: Number>(
     {
         return Ok(false);
     }
-    Ok(workspace.values.reckon(frame, kernel))
+    Ok(workspace.values.are_ready(frame, kernel))
 }

@@ -44,10 +44,7 @@ pub(crate) fn pivot<N: Number>(
     let Some(step) = progress.costs.step(&workspace.row, column) else {
         return Ok(false);
     };
-    let numbers = workspace.values.numbers.as_mut_slice();
-    progress
-        .weights
-        .change(frame, kernel, &workspace.column, numbers);
+    let scale = change_weights(frame, kernel, progress, workspace);
     let place = open(kernel, leaves)?;
     progress.costs.open_slots(kernel.lines.len())?;
     progress.costs.change(&workspace.row, step);
@@ -55,9 +52,42 @@ pub(crate) fn pivot<N: Number>(
     progress.work = change_rows(kernel, workspace, place, progress.work)?;
     let weight = progress.weights.entered();
     lay_entered(alloc, kernel, &workspace.row, column, weight, place)?;
-    come_back(frame, kernel, progress, place)?;
+    advance_values(kernel, workspace, scale);
+    if come_back(frame, kernel, progress, place)? {
+        workspace.values.forget();
+    }
     progress.made = progress.made.wrapping_add(1);
     Ok(true)
+}
+
+// Lays the column's numbers in the lines, changes all weights by them, and answers their scale, where they fit.
+fn change_weights<N: Number>(
+    frame: &Frame,
+    kernel: &mut Kernel<N>,
+    progress: &mut Progress,
+    workspace: &mut Workspace<N>,
+) -> Option<N> {
+    match workspace.column.lay_lines(frame, kernel) {
+        Some(scale) => {
+            let column = &workspace.column;
+            progress.weights.change(frame, kernel, column, scale);
+            Some(scale)
+        }
+        None => None,
+    }
+}
+
+// Brings the values to what they are after the pivot, where the column's numbers in the lines have a scale.
+fn advance_values<N: Number>(kernel: &Kernel<N>, workspace: &mut Workspace<N>, scale: Option<N>) {
+    match scale {
+        Some(scale) => {
+            let own = workspace.row.own;
+            workspace
+                .values
+                .advance(kernel, own, &workspace.column, scale);
+        }
+        None => workspace.values.forget(),
+    }
 }
 
 /// The place of the row that enters, with a slot for a line that leaves.
@@ -131,23 +161,24 @@ pub(crate) fn lay_entered<N: Number>(
     Ok(())
 }
 
-// Where the column that entered is the first one of a line, its row and the line's slot go.
+// Where the column that entered is the first one of a line, its row and the line's slot go. Answers whether they do.
 fn come_back<N: Number>(
     frame: &Frame,
     kernel: &mut Kernel<N>,
     progress: &mut Progress,
     place: usize,
-) -> Result<(), NoMemory> {
+) -> Result<bool, NoMemory> {
     if place >= kernel.rows.len() {
-        return Ok(());
+        return Ok(false);
     }
     let line = frame.start.line_of(kernel.rows[place].column);
     let slot = kernel.slot_of(line);
     if line == NONE || slot == NONE {
-        return Ok(());
+        return Ok(false);
     }
     let weight = kernel.rows[place].weight;
     progress.weights.lay(line, weight);
     progress.costs.close_slot(slot);
-    kernel.close_slot(place, line)
+    kernel.close_slot(place, line)?;
+    Ok(true)
 }

@@ -3,7 +3,7 @@ use crate::basis::Basis;
 use crate::pivot::{change_rows, lay_entered, open};
 use crate::progress::{Progress, Workspace};
 use end_kernel::{Kernel, NONE, Number, Start, at, put, triangular_places};
-use end_pivots::{Frame, Leaving, Weights, lay_column};
+use end_pivots::{Frame, Leaving, Weights};
 use entries::NoMemory;
 use std::alloc::Global;
 use std::mem;
@@ -30,6 +30,7 @@ pub(crate) fn reinvert<N: Number>(
         }
         None => frame.start = before,
     }
+    workspace.values.forget();
     progress.reinverted = kernel.rows.len();
     Ok(())
 }
@@ -116,11 +117,10 @@ fn leaving_for<N: Number>(
     {
         return Ok(None);
     }
-    let numbers = workspace.values.numbers.as_mut_slice();
-    if lay_column(frame, kernel, &workspace.column, numbers).is_none() {
+    if workspace.column.lay_lines(frame, kernel).is_none() {
         return Ok(None);
     }
-    Ok(least_free(frame, kernel, basis, numbers))
+    Ok(least_free(frame, kernel, basis, &workspace.column.lines))
 }
 
 // The line without a column that lacks nothing and in which a number other than 0 is least.

@@ -29,7 +29,7 @@ pub(crate) fn take_turn<N: Number>(
     workspace: &mut Workspace<N>,
     may_pivot: bool,
 ) -> Result<Turn, NoMemory> {
-    if !workspace.values.reckon(frame, kernel) {
+    if !workspace.values.are_ready(frame, kernel) {
         return Ok(Turn::Outgrown);
     }
     let Some(leaves) = leaving(frame, kernel, &workspace.values, &progress.weights) else {

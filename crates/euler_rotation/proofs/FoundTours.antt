@@ -7,7 +7,7 @@ use Rattle.cycle_join.specs.declared.joined.Joined.TheVariants as joined
 use Rattle.euler_rotation.specs.declared.asked.Asked.{Asked}
 use Rattle.euler_rotation.specs.declared.search.Found.{Found}
 use Rattle.euler_rotation.specs.declared.search.Found.TheVariants as found
-use Rattle.euler_rotation.specs.Answers.{AreEnough, AreVisited}
+use Rattle.euler_rotation.specs.Answers.{AreEnough, AreVisited, IsNone, IsRight, IsSpent}
 use Rattle.euler_rotation.specs.Searches.{IsFoundUnder, IsTold}
 use Rattle.euler_rotation.specs.Tours.{IsKeptTour, IsTourWith, nights_maintained, nights_used}
 use Rattle.euler_rotation.proofs.Answering.{found_for, kept_for}
@@ -51,3 +51,20 @@ pub joined_tour : (asked : Asked) (it : Joined) (legs : List ℕ) → Joins aske
     → IsTourWith asked.tables.now asked.plan.now asked.fleet asked.pairs.now legs
 unfolding joins_for
 joined_tour asked it legs joins e = let is : IsJoined asked.tables.now asked.plan.now asked.fleet asked.pairs.now legs = subst (joins_for asked) e joins in record { tour = is.tour; holds = is.holds }
+
+-- what is told, by its cases
+unfoldable pub is_told : Asked → List ℕ → ℕ → Found → Type 0
+is_told asked tour visits it = IsTold asked tour visits it
+
+module _ (asked : Asked) (tour : List ℕ) (visits : ℕ) (it : Found) (told : IsTold asked tour visits it) where
+  pub tour_told : (legs : List ℕ) → it ≡ found.Tour legs → IsRight asked.tables.now asked.plan.now asked.fleet asked.pairs.now asked.days legs
+  unfolding is_told
+  tour_told legs e = subst (is_told asked tour visits) e told
+
+  pub none_told : it ≡ found.Nothing → IsNone asked.tables.now asked.plan.now asked.fleet asked.pairs.now asked.days
+  unfolding is_told
+  none_told e = subst (is_told asked tour visits) e told
+
+  pub spent_told : (prefix : List ℕ) → it ≡ found.Spent prefix → IsSpent asked.tables.now asked.plan.now asked.fleet asked.pairs.now asked.days visits tour prefix
+  unfolding is_told
+  spent_told prefix e = subst (is_told asked tour visits) e told

@@ -17,3 +17,4 @@ pub mod Answering
 pub mod FoundTours
 pub mod EntriesKept
 pub mod EntriesRise
+pub mod Filtered

@@ -4,7 +4,7 @@ use Rattle.std.proofs.lemmas.Bool.Decides.{nat_tests}
 use Rattle.std.proofs.lemmas.List.{get_or-set_other, get_or-set_same, map-append, reverse-append, reverse-reverse, take_more}
 use Rattle.std.proofs.lemmas.List.Folds.{list_any-append}
 use Rattle.std.proofs.lemmas.Bool.{eqb-true}
-use Rattle.sums.proofs.Tests.{by_test}
+use Rattle.sums.proofs.Tests.{by_test, or_false}
 use Rattle.euler_rotation.specs.declared.path.Level.{Level}
 use Rattle.euler_rotation.specs.Prefixes.{has_leg}
 use Rattle.euler_rotation.specs.Walks.{legs_of}
@@ -12,10 +12,6 @@ use Rattle.euler_rotation.specs.Walks.{legs_of}
 -- a leg more
 has_more : (legs : List ℕ) (l k : ℕ) → has_leg (legs ++ l ∷ []) k ≡ (has_leg legs k || (l == k))
 has_more legs l k = list_any-append (λ j. j == k) legs (l ∷ []) ∙ ap (λ b. has_leg legs k || b) (or_false (l == k))
-  where
-    or_false : (b : Bool) → (b || false) ≡ b
-    or_false true = refl
-    or_false false = refl
 
 same_or_not : {X : Type 0} (l k : ℕ) → (l ≡ k → X) → (l ≢ k → X) → X
 same_or_not l k yes_same not_same = by_test (l == k) (λ e. yes_same (eqb-true l k e)) (λ e. not_same (other l k e))

@@ -2,7 +2,7 @@ use entries::Entries;
 
 /// What becomes of the rotation of a fleet (Gopalan and Talluri 1998): one tour of all its legs that comes to maintenance
 /// often enough, or the cause why there is none. Legs go by their numbers.
-#[derive(Debug, Drop)]
+#[derive(Drop)]
 pub enum Rotation {
     /// The fleet has no leg.
     Unused,

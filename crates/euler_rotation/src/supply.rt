@@ -10,7 +10,7 @@ ghost use Rattle.euler_rotation.specs.Asked.{IsAsked};
 ghost use Rattle.euler_rotation.specs.Tours.{nights_maintained, nights_used};
 
 use crate::asked::Asked;
-use fleet_model::limits::MINUTES_PER_DAY;
+use fleet_model::period::day_end;
 use stand_counts::{Planned, need, stand, used};
 
 /// A leg of the fleet. Takes no memory.
@@ -74,8 +74,8 @@ fn stands_by_day(asked: &Asked<'_>, station: u32) -> u32
     ensures few { result ≤ 14000 }
 {
     let mut stands = 0;
-    for day in 0..asked.tables.day_count() as u16 {
-        stands += stand_at(asked, station, MINUTES_PER_DAY * (day + 1) - 1);
+    for day in 0..asked.tables.day_count() {
+        stands += stand_at(asked, station, day_end(day + 1));
     }
     stands
 }

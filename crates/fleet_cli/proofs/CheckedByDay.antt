@@ -7,7 +7,7 @@ use Rattle.command_words.specs.Words.{check}
 use Rattle.fleet_model.specs.Legal.{cost_of, total_cost}
 use Rattle.fleet_model.specs.Limits.{AreSettings}
 use Rattle.fleet_model.specs.Schedule.{days_in, fleet_by, slot_by}
-use Rattle.fleet_model.specs.declared.limits.TheConstants.{MINUTES_PER_DAY}
+use Rattle.fleet_model.specs.Period.{minutes_of}
 use Rattle.fleet_model.specs.declared.options.TableOptions.{TableOptions}
 use Rattle.fleet_model.specs.declared.parts.Settings.{Settings}
 use Rattle.fleet_model.specs.declared.tables.Tables.{Tables}
@@ -28,7 +28,7 @@ use Rattle.fleet_cli.specs.SolvedChecked.{CountAlike}
 use Rattle.fleet_cli.specs.declared.answer.Answer.{Answer}
 
 -- files read by settings that are within their limits
-wait_in_day : (bytes : AllBytes) (options : TableOptions) (t : Tables) → FilesRead bytes options t → options.settings.through_max < MINUTES_PER_DAY
+wait_in_day : (bytes : AllBytes) (options : TableOptions) (t : Tables) → FilesRead bytes options t → options.settings.through_max < minutes_of 1
 wait_in_day bytes options t reads =
     let fits = t.in_range.settings_fit.through_max in
     let same : t.settings.through_max ≡ options.settings.through_max = ap (λ (s : Settings). s.through_max) (settings_read bytes options t reads) in
@@ -37,7 +37,7 @@ wait_in_day bytes options t reads =
 days_are : (bytes : AllBytes) (options : TableOptions) (t : Tables) → FilesRead bytes options t → t.settings.period ≡ options.settings.period
 days_are bytes options t reads = ap (λ (s : Settings). s.period) (settings_read bytes options t reads)
 
-day_in_day : (bytes : AllBytes) (options : TableOptions) (t : Tables) → FilesRead bytes options t → options.settings.day_start < MINUTES_PER_DAY
+day_in_day : (bytes : AllBytes) (options : TableOptions) (t : Tables) → FilesRead bytes options t → options.settings.day_start < minutes_of 1
 day_in_day bytes options t reads =
     let fits = t.in_range.settings_fit.day_start in
     let same : t.settings.day_start ≡ options.settings.day_start = ap (λ (s : Settings). s.day_start) (settings_read bytes options t reads) in
@@ -93,7 +93,7 @@ module _ (held : Files) (dir : List ℕ) where
         }
 
     -- where checking answers at all, its longest wait is within its limit
-    never_answered : (answer : Answer) → ProofThere held dir solving → MINUTES_PER_DAY ≤ checking.settings.through_max → Answers held (Some (check dir checking)) answer → ⊥
+    never_answered : (answer : Answer) → ProofThere held dir solving → minutes_of 1 ≤ checking.settings.through_max → Answers held (Some (check dir checking)) answer → ⊥
     never_answered answer x great (inl long) =
         within_or_long (Some (check dir checking)) held long.file
         (all_within held (Some (check dir checking)) (subst (AllStand held dir) same_files x.there) (λ follows. absurd (unread follows.1.tables follows.1.reads))) long.longer
@@ -113,12 +113,12 @@ module _ (held : Files) (dir : List ℕ) where
 
     -- so a proof that stands there by some settings is one by those of an answer to checking that counts minutes alike
     pub proof_by_day : (answer : Answer) → ProofThere held dir solving → Answers held (Some (check dir checking)) answer → ProofThere held dir checking
-    proof_by_day answer x answers = by_wait (cases_lt checking.settings.through_max MINUTES_PER_DAY)
+    proof_by_day answer x answers = by_wait (cases_lt checking.settings.through_max (minutes_of 1))
       where
         days : x.tables.settings.period ≡ checking.settings.period
         days = days_are (table_bytes (bytes_in held dir)) solving x.tables x.reads ∙ alike.days
 
-        settings_fit : checking.settings.through_max < MINUTES_PER_DAY → AreSettings checking.settings
+        settings_fit : checking.settings.through_max < minutes_of 1 → AreSettings checking.settings
         settings_fit small = record {
           day_start = rw (← alike.day_start) (day_in_day (table_bytes (bytes_in held dir)) solving x.tables x.reads);
           through_max = small;
@@ -126,6 +126,6 @@ module _ (held : Files) (dir : List ℕ) where
           few_days = rw (← days) x.tables.in_range.settings_fit.few_days;
         }
 
-        by_wait : (checking.settings.through_max < MINUTES_PER_DAY) ⊎ (MINUTES_PER_DAY ≤ checking.settings.through_max) → ProofThere held dir checking
+        by_wait : (checking.settings.through_max < minutes_of 1) ⊎ (minutes_of 1 ≤ checking.settings.through_max) → ProofThere held dir checking
         by_wait (inl small) = proof_by (settings_fit small) x
         by_wait (inr great) = absurd (never_answered answer x great answers)

@@ -19,7 +19,6 @@ pub mod Parts
 pub mod PlanLength
 pub mod RunFacts
 pub mod SameBytes
-pub mod Shown
 pub mod Skeletons
 pub mod SolvedFiles
 pub mod SolvedHolds

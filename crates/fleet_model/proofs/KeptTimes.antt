@@ -1,12 +1,12 @@
 -- Which pairs may be taken, by what costs and legs say of them; and a fleet's pairs of a leg, at each of its times.
-use Rattle.std.proofs.Common.{◌≡◌, ℕ, ◌+◌, ◌*◌, ◌<◌, ◌≤◌, Bool, true, false, ◌==◌, ◌&&◌, ◌||◌, nat_lt, if◌then◌else◌, List, [], ◌∷◌, Option, Some, None, is_some, ℤ, refl, sym, ◌∙◌, ap, subst, inl, inr, arith}
+use Rattle.std.proofs.Common.{◌≡◌, ℕ, ◌+◌, ◌*◌, ◌<◌, ◌≤◌, Bool, true, false, ◌==◌, ◌&&◌, ◌||◌, nat_lt, if◌then◌else◌, List, [], ◌∷◌, Option, None, is_some, ℤ, refl, sym, ◌∙◌, ap, subst, inl, inr, arith}
 use Rattle.std.specs.List.{AllByRecursion}
 use Rattle.std.proofs.lemmas.Bool.{cases_lt, lt-ltb}
 use Rattle.std.proofs.lemmas.Bool.Decides.{nat_tests}
 use Rattle.std.proofs.lemmas.List.{get_or_past}
 use Rattle.std.proofs.lemmas.List.Elements.{recursion_from_All}
 use Rattle.std.proofs.lemmas.Nat.{mul-le}
-use Rattle.sums.proofs.Tests.{by_either, by_test, parts_true, same_tests}
+use Rattle.sums.proofs.Tests.{by_either, by_test, or_false, parts_true, same_tests}
 use Rattle.fleet_model.specs.declared.parts.Leg.{Leg}
 use Rattle.fleet_model.specs.declared.parts.Pair.{Pair}
 use Rattle.fleet_model.specs.declared.parts.PairCost.{PairCost}
@@ -27,9 +27,6 @@ or_assoc false b c = refl
 -- the pair is flown by the entry's fleet on the entry's leg, at one of the first times
 abbrev pub at_first : Tables → PairCost → ℕ → Pair → Bool
 at_first t entry slot p = is_of p.leg (fleet_by t p) entry && nat_lt (slot_by t p) slot
-
-pub at_none : (t : Tables) (entry : PairCost) (p : Pair) (kept : Bool) → kept ≡ (kept || at_first t entry 0 p)
-at_none t entry p kept = let none : nat_lt (slot_by t p) 0 ≡ false = grind (arith, nat_tests) in grind (arith, nat_tests, none)
 
 is_there : (t : Tables) (l f slot : ℕ) (p : Pair) → slot < shifts_in t l → p.leg ≡ l → p.choice ≡ f * shifts_in t l + slot → (fleet_by t p ≡ f) × (slot_by t p ≡ slot)
 is_there t l f slot p within leg choice =
@@ -89,24 +86,6 @@ times_kept t entry times p new old number is = is ∙ ap (λ n. old || at_first 
 abbrev pub out_first : Tables → ℕ → Pair → Bool
 out_first t n p = nat_lt p.leg n && ((p.choice == left_out t p.leg) && is_some (leg_of t p.leg).skip)
 
-pub out_none : (t : Tables) (p : Pair) (kept : Bool) → kept ≡ (kept || out_first t 0 p)
-out_none t p kept = let none : nat_lt p.leg 0 ≡ false = grind (arith, nat_tests) in grind (arith, nat_tests, none)
-
-pub out_more : (t : Tables) (l next : ℕ) (p : Pair) → next ≡ l + 1
-    → (out_first t l p || ((p.leg == l) && ((p.choice == left_out t l) && is_some (leg_of t l).skip))) ≡ out_first t next p
-out_more t l next p follows = by_test (p.leg == l) (λ is.
-    let leg : p.leg ≡ l = grind (arith, nat_tests, is) in
-    let now : nat_lt p.leg next ≡ true = grind (arith, nat_tests, leg, follows) in
-    let before : nat_lt p.leg l ≡ false = grind (arith, nat_tests, leg) in
-    let same : ((p.choice == left_out t l) && is_some (leg_of t l).skip) ≡ ((p.choice == left_out t p.leg) && is_some (leg_of t p.leg).skip) = ap (λ k. (p.choice == left_out t k) && is_some (leg_of t k).skip) (sym leg) in
-    rw (is, before, now) same) (λ other.
-    let same : nat_lt p.leg next ≡ nat_lt p.leg l = grind (arith, nat_tests, other, follows) in
-    rw (other, same) (or_false (out_first t l p)))
-  where
-    or_false : (b : Bool) → (b || false) ≡ b
-    or_false true = refl
-    or_false false = refl
-
 -- ---- which pairs may be taken
 -- no fleet but those of the tables has a cost
 no_cost_past : (costs : List PairCost) (legs fleets l f : ℕ) → fleets ≤ f → AllByRecursion (IsPairCost legs fleets) costs → cost_in costs l f ≡ None
@@ -154,10 +133,6 @@ taken t p = elim (cases_lt (fleet_by t p) (fleets_in t)) [
       let not_flown : nat_lt (fleet_by t p) (fleets_in t) ≡ false = grind (arith, nat_tests, past) in
       rw (none, not_flown) (sym (chosen (p.choice == left_out t p.leg) (leg_of t p.leg).skip))
 ]
-  where
-    or_false : (b : Bool) → (b || false) ≡ b
-    or_false true = refl
-    or_false false = refl
 
 pub all_out : (t : Tables) (p : Pair) → (is_some (cost_in t.costs p.leg (fleet_by t p)) || out_first t (legs_in t) p) ≡ all_pairs t p
 all_out t p = elim (cases_lt p.leg (legs_in t)) [

@@ -1,6 +1,6 @@
 -- Legs flown at their own times; and where each leg departs once, all that is flown. What the words for departures and choices
 -- stand for is looked at here for a leg's own time.
-use Rattle.std.proofs.Common.{◌≡◌, ℕ, ◌+◌, ◌*◌, ◌<◌, ◌≤◌, true, false, nat_lt, if◌then◌else◌, Bool, List, length, slice_index_or, refl, sym, ◌∙◌, ap, subst, inl, inr, arith}
+use Rattle.std.proofs.Common.{◌≡◌, ℕ, ◌+◌, ◌*◌, ◌<◌, false, nat_lt, if◌then◌else◌, List, length, slice_index_or, sym, ◌∙◌, ap, subst, inl, inr, arith}
 use Rattle.std.proofs.lemmas.Bool.{cases_lt, lt-ltb}
 use Rattle.std.proofs.lemmas.Bool.Decides.{nat_tests}
 use Rattle.std.proofs.lemmas.List.{get_or_past}
@@ -9,15 +9,14 @@ use Rattle.sums.proofs.Blocks.{sum_below-more}
 use Rattle.sums.proofs.Sums.{sum_below-agree}
 use Rattle.fleet_model.specs.declared.parts.Leg.{Leg}
 use Rattle.fleet_model.specs.declared.parts.Pair.{Pair}
-use Rattle.fleet_model.specs.declared.shifts.Shift.{Shift}
 use Rattle.fleet_model.specs.declared.tables.Tables.{Tables}
 use Rattle.fleet_model.specs.OwnTimes.{own_choice, own_pair}
 use Rattle.fleet_model.specs.Plain.{IsPlain}
-use Rattle.fleet_model.specs.Schedule.{IsFlown, choices_in, departures_in, fleet_by, fleets_in, leg_at, leg_of, leg_on, legs_in, no_leg, own_shift, pair_on, shifts_in, slot_by}
+use Rattle.fleet_model.specs.Schedule.{IsFlown, choices_in, departures_in, fleet_by, fleets_in, leg_of, leg_on, legs_in, no_leg, own_shift, pair_on, shifts_in}
 use Rattle.fleet_model.specs.Times.{departure}
 use Rattle.fleet_model.specs.Windows.{own_slot}
-use Rattle.fleet_model.proofs.Departures.{block_fleet, block_flown, block_slot, in_block, last_adds, slot_within}
-use Rattle.fleet_model.proofs.PlainTables.{once_plain, one_time, plain_fleet, plain_leg, plain_pair}
+use Rattle.fleet_model.proofs.Departures.{block_fleet, block_flown, block_slot, last_adds}
+use Rattle.fleet_model.proofs.PlainTables.{once_plain, one_time, plain_fleet, plain_pair}
 
 -- a leg's own time is among its times
 pub has_own : (t : Tables) (l : ℕ) → own_slot (leg_of t l).shifts < shifts_in t l
@@ -43,19 +42,12 @@ own_at t l f = ap (λ k. (slice_index_or (leg_of t l).shifts k (own_shift 0)).de
 pub own_departure : (t : Tables) (l f g : ℕ) → departure t (own_pair t l f) ≡ departure t (own_pair t l g)
 own_departure t l f g = own_at t l f ∙ sym (own_at t l g)
 
--- .. and it is the minute that the leg names
-pub own_minute : (t : Tables) (l f : ℕ) → l < legs_in t → departure t (own_pair t l f) ≡ (leg_of t l).dep
-own_minute t l f below = own_at t l f ∙ ap (λ (shift : Shift). shift.dep) (t.in_range.legs_fit.each l no_leg below).shifts.own
-
 -- a fleet flies a leg at its own time by one choice, whichever tables they are of, where the legs are the same
 pub own_alike : (t u : Tables) → t.legs ≡ u.legs → own_choice t ≡ own_choice u
 unfolding own_choice
 own_alike t u legs = ap (λ (legs : List Leg). λ (l f : ℕ). f * length (slice_index_or legs l no_leg).shifts + own_slot (slice_index_or legs l no_leg).shifts) legs
 
 -- ---- where each leg departs once
-pub once_at : (t : Tables) (d : ℕ) → departures_in t ≡ legs_in t → d < departures_in t → leg_at t d ≡ d
-once_at t d once below = plain_leg t d (once_plain t once) (subst (λ n. d < n) once below)
-
 plain_own : (t : Tables) (l f : ℕ) → IsPlain t → own_pair t l f ≡ leg_on l f
 unfolding own_choice
 plain_own t l f plain =

@@ -4,10 +4,10 @@ use Rattle.fleet_model.specs.Period.{minutes_of}
 use Rattle.fleet_model.specs.declared.parts.Station.{Station}
 use Rattle.fleet_model.specs.declared.parts.Fleet.{Fleet}
 use Rattle.fleet_model.specs.declared.parts.Leg.{Leg}
-use Rattle.fleet_model.specs.declared.limits.TheConstants.{MINUTES_PER_DAY}
 use Rattle.fleet_model.specs.declared.parts.Pair.{Pair}
 use Rattle.fleet_model.specs.declared.shifts.Shift.{Shift}
 use Rattle.fleet_model.specs.declared.tables.Tables.{Tables}
+pub use Rattle.fleet_model.specs.Period.{day_end}
 pub use Rattle.fleet_model.specs.Windows.{no_departure, no_leg, own_shift}
 
 -- what stands where the number is of no station, fleet or leg
@@ -47,10 +47,6 @@ period_of t = minutes_of t.settings.period
 
 abbrev pub last_of : Tables → ℕ
 last_of t = period_of t - 1
-
--- the last minute of a day of the period, days counted from 1
-abbrev pub day_end : ℕ → ℕ
-day_end d = d * MINUTES_PER_DAY - 1
 
 -- how many aircraft may stand at a station at the end of a day, where there is a limit
 unfoldable pub parking_of : Tables → ℕ → Option ℕ

@@ -2,7 +2,7 @@
 use Rattle.std.specs.Prelude.{ℕ, ◌+◌, ◌-◌, ◌/◌, ◌%◌}
 use Rattle.fleet_model.specs.declared.parts.Pair.{Pair}
 use Rattle.fleet_model.specs.declared.tables.Tables.{Tables}
-use Rattle.fleet_model.specs.declared.limits.TheConstants.{MINUTES_PER_DAY}
+use Rattle.fleet_model.specs.Period.{day_of_minute}
 use Rattle.fleet_model.specs.Schedule.{fleet_by, fleet_of, leg_of, period_of, shift_by, station_of}
 
 -- the minute of departure, counted from the start of the period
@@ -19,7 +19,7 @@ ready_minute t p = (departure t p + busy_minutes t p) % period_of t
 
 -- how many day starts lie between departure and readiness
 abbrev pub nights_of : Tables → Pair → ℕ
-nights_of t p = (departure t p + busy_minutes t p) / MINUTES_PER_DAY - departure t p / MINUTES_PER_DAY
+nights_of t p = day_of_minute (departure t p + busy_minutes t p) - day_of_minute (departure t p)
 
 -- how many period starts lie between departure and readiness
 abbrev pub laps_of : Tables → Pair → ℕ

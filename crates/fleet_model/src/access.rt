@@ -8,8 +8,8 @@ ghost use Rattle.fleet_model.specs.OwnTimes.{own_pair};
 ghost use Rattle.fleet_model.specs.Period.{minutes_of};
 ghost use Rattle.fleet_model.specs.Schedule.{IsFlown, IsPair, choices_in, days_in, departures_in, fleet_by, fleet_of, fleets_in, left_out, leg_of, legs_in, no_departure, pair_on, parking_of, period_of, shift_by, shifts_in, station_of, stations_in};
 
-use crate::limits::MINUTES_PER_DAY;
 use crate::parts::{Departure, Fleet, Leg, Pair, Settings, Station};
+use crate::period::minutes_of;
 use crate::shifts::Shift;
 use crate::tables::Tables;
 
@@ -19,7 +19,7 @@ impl Settings {
         requires { AreSettings self.now }
         ensures { result ≡ minutes_of self.now.period }
     {
-        self.period * MINUTES_PER_DAY
+        minutes_of(self.period)
     }
 }
 

@@ -10,6 +10,7 @@ pub mod laws;
 pub mod limits;
 pub mod options;
 pub mod parts;
+pub mod period;
 pub mod refusals;
 mod saved;
 pub mod shifts;

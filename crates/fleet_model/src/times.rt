@@ -4,8 +4,8 @@ ghost use Rattle.fleet_model.specs.OwnTimes.{own_pair};
 ghost use Rattle.fleet_model.specs.Schedule.{IsPair, fleet_of, fleets_in, legs_in, period_of};
 ghost use Rattle.fleet_model.specs.Times.{busy_minutes, departure, laps_of, nights_of, ready_minute};
 
-use crate::limits::MINUTES_PER_DAY;
 use crate::parts::Pair;
+use crate::period::day_of_minute;
 use crate::tables::Tables;
 
 impl Tables {
@@ -60,7 +60,7 @@ impl Tables {
         ensures few { result ≤ 2 }
     {
         let departure = self.departure(pair);
-        u32::from((departure + self.busy(pair)) / MINUTES_PER_DAY - departure / MINUTES_PER_DAY)
+        u32::from(day_of_minute(departure + self.busy(pair)) - day_of_minute(departure))
     }
 
     /// How many period starts lie between a pair's departure and the minute at which its aircraft can depart again. Takes no

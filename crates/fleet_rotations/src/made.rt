@@ -7,7 +7,7 @@ use fleet_model::Connection;
 
 /// What was made of a fleet's rotation. A list of these has one for each fleet, in table order, and is empty where there
 /// is no plan.
-#[derive(Debug, Drop)]
+#[derive(Drop)]
 pub struct FleetRotation {
     /// The through pairs that were chosen, by the leg that arrives.
     pub pairs: Entries<Connection>,

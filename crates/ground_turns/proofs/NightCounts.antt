@@ -1,8 +1,8 @@
 -- The nights of the turns at a station.
-use Rattle.std.proofs.Common.{◌≡◌, ◌<◌, ◌==◌, ◌&&◌, ◌∙◌, ◌-◌, ◌*◌, ◌+◌, Bool, List, ℕ, ap, arith, false, if◌then◌else◌, length, refl, sym, true}
+use Rattle.std.proofs.Common.{◌≡◌, ◌<◌, ◌==◌, ◌&&◌, ◌∙◌, ◌-◌, ◌+◌, Bool, List, ℕ, ap, arith, false, if◌then◌else◌, length, refl, sym, true, suc}
 use Rattle.sums.specs.Below.{sum_below, count_below}
 use Rattle.sums.proofs.Sums.{sum_below-agree, sum_below-swap, sum_below-zero}
-use Rattle.fleet_model.specs.declared.limits.TheConstants.{MINUTES_PER_DAY}
+use Rattle.fleet_model.specs.Period.{day_end, minutes_of}
 use Rattle.fleet_model.specs.declared.parts.Connection.{Connection}
 use Rattle.fleet_model.specs.declared.tables.Tables.{Tables}
 use Rattle.fleet_model.specs.Schedule.{days_in, last_of, period_of, stations_in}
@@ -12,7 +12,7 @@ use Rattle.fleet_model.specs.Counts.{arrived, departed, weights_of}
 use Rattle.ground_turns.specs.Laws.{NightsAreNeed, NightsAreStands, nights_at, nights_there, stand_by_day, stands_by_day}
 use Rattle.ground_turns.specs.Maps.{IsFitting, turn_at, waiting_at, waits_there}
 use Rattle.ground_turns.specs.Turns.{departs_at, ready_at, station_at, waits_at}
-use Rattle.ground_turns.proofs.DayStarts.{day_end, day_starts}
+use Rattle.ground_turns.proofs.DayStarts.{day_starts}
 use Rattle.ground_turns.proofs.Fits.{balances, waiting_is_stand}
 use Rattle.ground_turns.proofs.Rounds.{bit}
 use Rattle.ground_turns.proofs.Waits.{departs_within, ready_within}
@@ -24,26 +24,26 @@ count_where false p n = sym (sum_below-zero n)
 
 module _ (t : Tables) (a : List ℕ) (f : ℕ) (turns : List Connection) (s : ℕ) (h : IsFitting t a f turns) where
   -- the nights of one turn at the station
-  one_turn : (k : ℕ) → k < length turns → nights_there t f turns s k ≡ count_below (λ j. waits_there t f turns s (day_end MINUTES_PER_DAY j) k) (days_in t)
+  one_turn : (k : ℕ) → k < length turns → nights_there t f turns s k ≡ count_below (λ j. waits_there t f turns s (day_end (suc j)) k) (days_in t)
   one_turn k lt =
       ap (λ n. if station_at t (turn_at turns k) == s then n else 0)
-      (day_starts MINUTES_PER_DAY (days_in t) (period_of t) (ready_at t f (turn_at turns k)) (departs_at t f (turn_at turns k)) (omega arith) (days_are_period t)
+      (day_starts (minutes_of 1) (days_in t) (period_of t) (ready_at t f (turn_at turns k)) (departs_at t f (turn_at turns k)) (omega arith) (days_are_period t)
       (ready_within t a f turns h.map k) (departs_within t a f turns h.map k lt))
-      ∙ count_where (station_at t (turn_at turns k) == s) (λ j. waits_at t f (turn_at turns k) (day_end MINUTES_PER_DAY j)) (days_in t)
+      ∙ count_where (station_at t (turn_at turns k) == s) (λ j. waits_at t f (turn_at turns k) (day_end (suc j))) (days_in t)
 
-  nights_wait : nights_at t f turns s ≡ sum_below (λ j. waiting_at t f turns s (day_end MINUTES_PER_DAY j)) (days_in t)
+  nights_wait : nights_at t f turns s ≡ sum_below (λ j. waiting_at t f turns s (day_end (suc j))) (days_in t)
   nights_wait =
-      sum_below-agree (nights_there t f turns s) (λ k. count_below (λ j. waits_there t f turns s (day_end MINUTES_PER_DAY j) k) (days_in t)) (length turns)
+      sum_below-agree (nights_there t f turns s) (λ k. count_below (λ j. waits_there t f turns s (day_end (suc j)) k) (days_in t)) (length turns)
       (record { each = λ k lt. one_turn k lt })
-      ∙ sum_below-swap (λ k j. bit (waits_there t f turns s (day_end MINUTES_PER_DAY j) k)) (days_in t) (length turns)
+      ∙ sum_below-swap (λ k j. bit (waits_there t f turns s (day_end (suc j)) k)) (days_in t) (length turns)
 
   pub nights_stand : s < stations_in t → nights_at t f turns s ≡ stands_by_day t a f s
   nights_stand below =
       nights_wait
-      ∙ sum_below-agree (λ j. waiting_at t f turns s (day_end MINUTES_PER_DAY j)) (stand_by_day t a f s) (days_in t)
-      (record { each = λ j lt. waiting_is_stand t a f turns s (day_end MINUTES_PER_DAY j) h below (within j lt) })
+      ∙ sum_below-agree (λ j. waiting_at t f turns s (day_end (suc j))) (stand_by_day t a f s) (days_in t)
+      (record { each = λ j lt. waiting_is_stand t a f turns s (day_end (suc j)) h below (within j lt) })
     where
-      within : (j : ℕ) → j < days_in t → day_end MINUTES_PER_DAY j < period_of t
+      within : (j : ℕ) → j < days_in t → day_end (suc j) < period_of t
       within j lt = omega (arith, days_are_period t)
 
 pub nights_are_stands : NightsAreStands
@@ -54,7 +54,7 @@ unfolding stand_of
 nights_are_need t a f turns s h below one =
     let law = nights_stand t a f turns s h below in
     let stands : stands_by_day t a f s ≡ stand_by_day t a f s 0 = ap (sum_below (stand_by_day t a f s)) one ∙ only (stand_by_day t a f s 0) in
-    let last : MINUTES_PER_DAY * 1 - 1 ≡ last_of t = omega (arith, days_are_period t, one) in
+    let last : day_end 1 ≡ last_of t = omega (arith, days_are_period t, one) in
     let there : stand_by_day t a f s 0 ≡ stand_of t (weights_of a) f s (last_of t) = ap (stand_of t (weights_of a) f s) last in
     law ∙ stands ∙ there ∙ as_needed (need_of t (weights_of a) f s) (arrived t (weights_of a) f s (last_of t)) (departed t (weights_of a) f s (last_of t)) (balances t a f turns h.map s)
   where

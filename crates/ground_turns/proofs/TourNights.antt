@@ -1,11 +1,11 @@
 -- The nights of a fitting map, all in all.
-use Rattle.std.proofs.Common.{◌≡◌, ◌+◌, ◌-◌, ◌*◌, ◌/◌, ◌<◌, [], ◌∷◌, ◌∙◌, ◌≤◌, List, ℕ, ap, arith, length, length-append, refl, replicate, suc, sym, zero}
+use Rattle.std.proofs.Common.{◌≡◌, ◌+◌, ◌-◌, ◌*◌, ◌<◌, [], ◌∷◌, ◌∙◌, ◌≤◌, List, ℕ, ap, arith, length, length-append, refl, replicate, suc, sym, zero}
 use Rattle.std.proofs.lemmas.List.{length-replicate}
 use Rattle.std.proofs.Math.Nat.{mul_comm}
 use Rattle.sums.specs.Below.{sum_below}
 use Rattle.sums.proofs.Sums.{sum_below-add, sum_below-agree}
 use Rattle.sums.proofs.Turned.{shifted}
-use Rattle.fleet_model.specs.declared.limits.TheConstants.{MINUTES_PER_DAY}
+use Rattle.fleet_model.specs.Period.{day_of_minute, minutes_of}
 use Rattle.fleet_model.specs.declared.parts.Connection.{Connection}
 use Rattle.fleet_model.specs.declared.tables.Tables.{Tables}
 use Rattle.fleet_model.specs.Counts.{weights_of}
@@ -14,7 +14,7 @@ use Rattle.fleet_model.specs.Times.{busy_minutes, departure, laps_of, nights_of}
 use Rattle.fleet_model.specs.Use.{used_of}
 use Rattle.fleet_model.proofs.PeriodMinutes.{days_are_period, lap_split}
 use Rattle.fleet_model.proofs.PlainTables.{plain_laps}
-use Rattle.ground_turns.specs.Laws.{NightsAreUse, NightsByDays}
+use Rattle.ground_turns.specs.Laws.{NightsAreUse, NightsByDays, TurnByDays}
 use Rattle.ground_turns.specs.Maps.{IsSuccessorMap, periods_in_turn, periods_of, turn_at}
 use Rattle.ground_turns.specs.Nights.{nights_in, nights_in_turn, nights_in_turns}
 use Rattle.ground_turns.specs.Turns.{crosses, departs_at, nights_waited, ready_at, station_at, wait_of}
@@ -41,29 +41,27 @@ sum_scaled scale g zero = omega arith
 sum_scaled scale g (suc n) = omega (arith, sum_scaled scale g n, times_sum scale (sum_below g n) (g n))
 
 -- the nights of a flight and of the wait behind it, by the days of what departs
-by_days : (dep busy ready wait next laps crossings n : ℕ) → dep + busy ≡ n * MINUTES_PER_DAY * laps + ready → ready + wait ≡ next + crossings * (n * MINUTES_PER_DAY)
-    → ((dep + busy) / MINUTES_PER_DAY - dep / MINUTES_PER_DAY) + ((ready + wait) / MINUTES_PER_DAY - ready / MINUTES_PER_DAY) + dep / MINUTES_PER_DAY
-    ≡ n * (laps + crossings) + next / MINUTES_PER_DAY
+by_days : (dep busy ready wait next laps crossings n : ℕ) → dep + busy ≡ minutes_of n * laps + ready → ready + wait ≡ next + crossings * minutes_of n
+    → (day_of_minute (dep + busy) - day_of_minute dep) + (day_of_minute (ready + wait) - day_of_minute ready) + day_of_minute dep
+    ≡ n * (laps + crossings) + day_of_minute next
 by_days dep busy ready wait next laps crossings n flight turn =
-    let flown : (dep + busy) / MINUTES_PER_DAY ≡ ready / MINUTES_PER_DAY + n * laps =
-    ap (λ k. k / MINUTES_PER_DAY) (flight ∙ periods n laps ready) ∙ div-more ready MINUTES_PER_DAY (n * laps) (omega arith) in
-    let waited : (ready + wait) / MINUTES_PER_DAY ≡ next / MINUTES_PER_DAY + n * crossings =
-    ap (λ k. k / MINUTES_PER_DAY) (turn ∙ starts n crossings next) ∙ div-more next MINUTES_PER_DAY (n * crossings) (omega arith) in
+    let flown : day_of_minute (dep + busy) ≡ day_of_minute ready + n * laps =
+    ap (λ k. day_of_minute k) (flight ∙ periods n laps ready) ∙ div-more ready (minutes_of 1) (n * laps) (omega arith) in
+    let waited : day_of_minute (ready + wait) ≡ day_of_minute next + n * crossings =
+    ap (λ k. day_of_minute k) (turn ∙ starts n crossings next) ∙ div-more next (minutes_of 1) (n * crossings) (omega arith) in
     let parts : n * (laps + crossings) ≡ n * laps + n * crossings = times_sum n laps crossings in
-    let later : dep / MINUTES_PER_DAY ≤ (dep + busy) / MINUTES_PER_DAY = omega arith in
-    let on : ready / MINUTES_PER_DAY ≤ (ready + wait) / MINUTES_PER_DAY = omega arith in
+    let later : day_of_minute dep ≤ day_of_minute (dep + busy) = omega arith in
+    let on : day_of_minute ready ≤ day_of_minute (ready + wait) = omega arith in
     omega (arith, flown, waited, parts, later, on)
   where
-    periods : (n laps ready : ℕ) → n * MINUTES_PER_DAY * laps + ready ≡ ready + n * laps * MINUTES_PER_DAY
+    periods : (n laps ready : ℕ) → minutes_of n * laps + ready ≡ ready + minutes_of (n * laps)
     periods n laps ready = grind arith
 
-    starts : (n crossings next : ℕ) → next + crossings * (n * MINUTES_PER_DAY) ≡ next + n * crossings * MINUTES_PER_DAY
+    starts : (n crossings next : ℕ) → next + crossings * minutes_of n ≡ next + minutes_of (n * crossings)
     starts n crossings next = grind arith
 
 module _ (t : Tables) (a : List ℕ) (f : ℕ) (turns : List Connection) (map : IsSuccessorMap t a f turns) where
-  turn_nights : (k : ℕ) → k < length turns
-      → nights_in t f (turn_at turns k) + departure t (leg_on (turn_at turns k).arriving f) / MINUTES_PER_DAY
-      ≡ days_in t * periods_in_turn t f (turn_at turns k) + departs_at t f (turn_at turns k) / MINUTES_PER_DAY
+  turn_nights : (k : ℕ) → k < length turns → TurnByDays t f (turn_at turns k)
   turn_nights k lt =
       let pair = leg_on (turn_at turns k).arriving f in
       let ready = ready_at t f (turn_at turns k) in
@@ -73,8 +71,8 @@ module _ (t : Tables) (a : List ℕ) (f : ℕ) (turns : List Connection) (map : 
       (wait_end (period_of t) ready departs (ready_within t a f turns map k) (departs_within t a f turns map k lt) ∙ ap (λ w. departs + bit (crosses t f (turn_at turns k)) * w) (days_are_period t))
 
   -- the days of the flights that arrive are those of the flights that depart
-  same_days : sum_below (λ k. departure t (leg_on (turn_at turns k).arriving f) / MINUTES_PER_DAY) (length turns) ≡ sum_below (λ k. departs_at t f (turn_at turns k) / MINUTES_PER_DAY) (length turns)
-  same_days = over_arrivals t a f turns map (λ l. departure t (leg_on l f) / MINUTES_PER_DAY) ∙ sym (over_departures t a f turns map (λ l. departure t (leg_on l f) / MINUTES_PER_DAY))
+  same_days : sum_below (λ k. day_of_minute (departure t (leg_on (turn_at turns k).arriving f))) (length turns) ≡ sum_below (λ k. day_of_minute (departs_at t f (turn_at turns k))) (length turns)
+  same_days = over_arrivals t a f turns map (λ l. day_of_minute (departure t (leg_on l f))) ∙ sym (over_departures t a f turns map (λ l. day_of_minute (departure t (leg_on l f))))
 
   pub all_periods : sum_below (λ k. periods_in_turn t f (turn_at turns k)) (length turns) ≡ periods_of t a f turns
   all_periods =
@@ -84,10 +82,10 @@ module _ (t : Tables) (a : List ℕ) (f : ℕ) (turns : List Connection) (map : 
 
   pub all_nights : sum_below (λ k. nights_in t f (turn_at turns k)) (length turns) ≡ days_in t * periods_of t a f turns
   all_nights =
-      let same = sum_below-agree (λ k. nights_in t f (turn_at turns k) + departure t (leg_on (turn_at turns k).arriving f) / MINUTES_PER_DAY)
-      (λ k. days_in t * periods_in_turn t f (turn_at turns k) + departs_at t f (turn_at turns k) / MINUTES_PER_DAY) (length turns) (record { each = turn_nights }) in
-      let left = sum_below-add (λ k. nights_in t f (turn_at turns k)) (λ k. departure t (leg_on (turn_at turns k).arriving f) / MINUTES_PER_DAY) (length turns) in
-      let right = sum_below-add (λ k. days_in t * periods_in_turn t f (turn_at turns k)) (λ k. departs_at t f (turn_at turns k) / MINUTES_PER_DAY) (length turns) in
+      let same = sum_below-agree (λ k. nights_in t f (turn_at turns k) + day_of_minute (departure t (leg_on (turn_at turns k).arriving f)))
+      (λ k. days_in t * periods_in_turn t f (turn_at turns k) + day_of_minute (departs_at t f (turn_at turns k))) (length turns) (record { each = turn_nights }) in
+      let left = sum_below-add (λ k. nights_in t f (turn_at turns k)) (λ k. day_of_minute (departure t (leg_on (turn_at turns k).arriving f))) (length turns) in
+      let right = sum_below-add (λ k. days_in t * periods_in_turn t f (turn_at turns k)) (λ k. day_of_minute (departs_at t f (turn_at turns k))) (length turns) in
       let times = sum_scaled (days_in t) (λ k. periods_in_turn t f (turn_at turns k)) (length turns) in
       let periods : days_in t * sum_below (λ k. periods_in_turn t f (turn_at turns k)) (length turns) ≡ days_in t * periods_of t a f turns = ap (λ n. days_in t * n) all_periods in
       omega (arith, same, left, right, times, periods, same_days)

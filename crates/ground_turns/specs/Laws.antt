@@ -1,7 +1,7 @@
 -- The laws of turns and successor maps, as statements.
-use Rattle.std.specs.Prelude.{◌≡◌, ◌≢◌, ◌+◌, ◌-◌, ◌*◌, ◌<◌, ◌≤◌, ◌==◌, ◌↔◌, [], ◌/◌, Bool, IsTrue, List, ℕ, if◌then◌else◌, length, slice_index, suc}
+use Rattle.std.specs.Prelude.{◌≡◌, ◌≢◌, ◌+◌, ◌-◌, ◌*◌, ◌<◌, ◌≤◌, ◌==◌, ◌↔◌, [], Bool, IsTrue, List, ℕ, if◌then◌else◌, length, slice_index, suc}
 use Rattle.sums.specs.Below.{sum_below}
-use Rattle.fleet_model.specs.declared.limits.TheConstants.{MINUTES_PER_DAY}
+use Rattle.fleet_model.specs.Period.{day_end, day_of_minute}
 use Rattle.fleet_model.specs.declared.parts.Connection.{Connection}
 use Rattle.fleet_model.specs.declared.tables.Tables.{Tables}
 use Rattle.fleet_model.specs.Counts.{weights_of}
@@ -54,7 +54,7 @@ nights_at t f turns s = sum_below (nights_there t f turns s) (length turns)
 
 -- what stands at a station at the ends of the period's days, added up
 abbrev pub stand_by_day : Tables → List ℕ → ℕ → ℕ → ℕ → ℕ
-stand_by_day t a f s d = stand_of t (weights_of a) f s (MINUTES_PER_DAY * suc d - 1)
+stand_by_day t a f s d = stand_of t (weights_of a) f s (day_end (suc d))
 
 abbrev pub stands_by_day : Tables → List ℕ → ℕ → ℕ → ℕ
 stands_by_day t a f s = sum_below (stand_by_day t a f s) (days_in t)
@@ -71,10 +71,11 @@ NightsAreNeed = (t : Tables) (a : List ℕ) (f : ℕ) (turns : List Connection) 
 
 -- the nights of a turn by days: from the day of the flight that arrives to that of the one that departs, in a later period
 -- by as many as start in the turn
+abbrev pub TurnByDays : Tables → ℕ → Connection → Type 0
+TurnByDays t f turn = nights_in t f turn + day_of_minute (departure t (leg_on turn.arriving f)) ≡ days_in t * periods_in_turn t f turn + day_of_minute (departs_at t f turn)
+
 abbrev pub NightsByDays : Type 0
-NightsByDays = (t : Tables) (a : List ℕ) (f : ℕ) (turns : List Connection) (k : ℕ) → IsSuccessorMap t a f turns → k < length turns
-    → nights_in t f (turn_at turns k) + departure t (leg_on (turn_at turns k).arriving f) / MINUTES_PER_DAY
-    ≡ days_in t * periods_in_turn t f (turn_at turns k) + departs_at t f (turn_at turns k) / MINUTES_PER_DAY
+NightsByDays = (t : Tables) (a : List ℕ) (f : ℕ) (turns : List Connection) (k : ℕ) → IsSuccessorMap t a f turns → k < length turns → TurnByDays t f (turn_at turns k)
 
 -- the nights of a fitting map, so of a tour, are the aircraft that the fleet uses times the days of the period
 abbrev pub NightsAreUse : Type 0

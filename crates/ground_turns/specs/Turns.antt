@@ -1,7 +1,7 @@
 -- Turns of a fleet's aircraft at a station: from a leg that lands there to one that departs. Minutes are those of the
 -- period, and time goes round from its last minute to its first.
-use Rattle.std.specs.Prelude.{◌≡◌, ◌≢◌, ℕ, ◌+◌, ◌-◌, ◌/◌, ◌%◌, ◌<◌, Bool, IsTrue, nat_lt, nat_le, List}
-use Rattle.fleet_model.specs.declared.limits.TheConstants.{MINUTES_PER_DAY}
+use Rattle.std.specs.Prelude.{◌≡◌, ◌≢◌, ℕ, ◌+◌, ◌-◌, ◌%◌, ◌<◌, Bool, IsTrue, nat_lt, nat_le, List}
+use Rattle.fleet_model.specs.Period.{day_of_minute}
 use Rattle.fleet_model.specs.declared.parts.Connection.{Connection}
 use Rattle.fleet_model.specs.declared.tables.Tables.{Tables}
 use Rattle.fleet_model.specs.Counts.{choice_at, weights_of}
@@ -46,7 +46,7 @@ crosses t f turn = nat_lt (departs_at t f turn) (ready_at t f turn)
 
 -- day starts in the wait: the nights that the aircraft stands at the station
 abbrev pub nights_waited : Tables → ℕ → Connection → ℕ
-nights_waited t f turn = (ready_at t f turn + wait_of t f turn) / MINUTES_PER_DAY - ready_at t f turn / MINUTES_PER_DAY
+nights_waited t f turn = day_of_minute (ready_at t f turn + wait_of t f turn) - day_of_minute (ready_at t f turn)
 
 -- two legs that the fleet flies by the assignment, the second from where the first lands
 pub record IsTurn (t : Tables) (a : List ℕ) (f : ℕ) (pair : Connection) : Type 0 where

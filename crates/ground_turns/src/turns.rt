@@ -2,7 +2,7 @@ ghost use Rattle.std.specs.Prelude.{◌≡◌, ◌<◌, ◌≤◌, ◌^◌};
 ghost use Rattle.fleet_model.specs.Schedule.{IsPair, days_in, fleets_in, leg_on, legs_in, period_of};
 ghost use Rattle.ground_turns.specs.Turns.{crosses, minutes_round, nights_waited, wait_of};
 
-use fleet_model::limits::MINUTES_PER_DAY;
+use fleet_model::period::day_of_minute;
 use fleet_model::{Connection, Pair, Tables};
 
 /// A leg with the choice that has a fleet's number, by which the fleet flies it on plain tables. Takes no memory.
@@ -61,5 +61,5 @@ pub fn nights_waited(tables: &Tables, fleet: u32, turn: Connection) -> u32
 {
     let ready = tables.ready(flight(tables, turn.arriving, fleet));
     let wait = wait(tables, fleet, turn);
-    u32::from((ready + wait) / MINUTES_PER_DAY - ready / MINUTES_PER_DAY)
+    u32::from(day_of_minute(ready + wait) - day_of_minute(ready))
 }

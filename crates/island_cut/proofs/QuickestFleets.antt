@@ -1,9 +1,11 @@
 -- Where each leg has a pair, the first of its quickest fleets is one.
-use Rattle.std.proofs.Common.{◌≡◌, ℕ, zero, suc, ◌<◌, ◌==◌, true, false, Option, Some, None, IsSome, is_some, ℤ, refl, ◌∙◌, ap, inl, inr, arith}
+use Rattle.std.proofs.Common.{◌≡◌, ℕ, zero, suc, ◌+◌, ◌<◌, ◌==◌, true, false, Option, Some, None, IsSome, is_some, ℤ, List, [], ◌∷◌, ◌++◌, length, refl, sym, ◌∙◌, ap, subst, inl, inr, arith}
 use Rattle.std.proofs.lemmas.Bool.{cases_lt}
 use Rattle.std.proofs.lemmas.Bool.Decides.{nat_tests}
+use Rattle.std.proofs.lemmas.List.{get_or_append_left, get_or_push, length_push}
 use Rattle.sums.proofs.Tests.{both_true, never_passes, no_both, parts_true}
 use Rattle.fleet_model.specs.declared.tables.Tables.{Tables}
+use Rattle.fleet_model.specs.Counts.{choice_at}
 use Rattle.fleet_model.specs.Kept.{all_pairs}
 use Rattle.fleet_model.specs.Legal.{cost_of}
 use Rattle.fleet_model.specs.Schedule.{fleets_in, legs_in}
@@ -129,3 +131,16 @@ quickest_are t pairs = record {
       let first = first_passes (is_quickest t l) (fleets_in t) one.0 one.1.known (quickest_passes t l one.0 one.1) in
       passes_quickest t l (quickest_of t l) first.0 first.1;
 }
+
+-- one leg more
+pub one_quickest_more : (t : Tables) (n : ℕ) (plan more : List ℕ) (q : ℕ) → more ≡ plan ++ q ∷ [] → length plan ≡ n → ((k : ℕ) → k < n → IsQuickest t k (fleets_in t) (choice_at plan k)) → IsQuickest t n (fleets_in t) q
+    → (length more ≡ n + 1) × ((k : ℕ) → k < n + 1 → IsQuickest t k (fleets_in t) (choice_at more k))
+one_quickest_more t n plan more q pushed long each here = (
+  omega (arith, ap length pushed, length_push plan q, long),
+  (λ k below. elim (cases_lt k n) [
+    | inl before ↦ subst (IsQuickest t k (fleets_in t)) (sym (ap (λ a. choice_at a k) pushed ∙ get_or_append_left plan (q ∷ []) 0 k (omega (arith, long, before)))) (each k before)
+    | inr last ↦
+        let same : n ≡ k = omega (arith, last, below) in
+        subst (λ l. IsQuickest t l (fleets_in t) (choice_at more l)) same (subst (IsQuickest t n (fleets_in t)) (sym (ap (λ a. choice_at a n) pushed ∙ get_or_push plan q 0 n long)) here)
+  ]),
+)

@@ -1,10 +1,10 @@
 -- Rounds, in which rents and prices grow so that no price rises at a moment.
-use Rattle.std.specs.Prelude.{◌≡◌, ℕ, zero, suc, ◌*◌, ◌<◌, ◌≤◌, ◌==◌, ◌&&◌, nat_le, nat_lt, Bool, if◌then◌else◌, List, [], length, filter, slice_index_or, ℤ, pos, int_lt}
+use Rattle.std.specs.Prelude.{◌≡◌, ℕ, zero, suc, ◌<◌, ◌≤◌, ◌==◌, ◌&&◌, nat_le, nat_lt, Bool, if◌then◌else◌, List, [], length, filter, slice_index_or, ℤ, pos, int_lt}
 use Rattle.std.specs.Int.{int_max}
 use Rattle.sums.specs.Below.{max_below, sum_below_ℤ}
 use Rattle.sums.specs.Places.{list_below}
 use Rattle.fleet_model.specs.Schedule.{period_of, stations_in}
-use Rattle.fleet_model.specs.declared.limits.TheConstants.{MINUTES_PER_DAY}
+use Rattle.fleet_model.specs.Period.{minutes_of}
 use Rattle.fleet_model.specs.declared.tables.Tables.{Tables}
 use Rattle.dual_bound.specs.Sizes.{IsUpTo}
 use Rattle.island_prices.specs.Rises.{rise_in}
@@ -84,6 +84,6 @@ price_grown rounds s m n = sum_below_ℤ (grown_in rounds s m) n
 
 -- no more rounds than a week has minutes, none with a greater number than a rise, and a least idle minute of each station
 pub record AreSmall (rounds : Rounds) : Type 0 where
-  pub few : length rounds.numbers ≤ 7 * MINUTES_PER_DAY
+  pub few : length rounds.numbers ≤ minutes_of 7
   pub each : (j : ℕ) → j < length rounds.numbers → IsUpTo 3 (number_in rounds j)
   pub stations : length rounds.least ≡ length rounds.moments

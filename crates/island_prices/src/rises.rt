@@ -6,11 +6,11 @@ ghost use Rattle.island_prices.specs.Rises.{AreRises, IsAmount, IsRise, is_of, r
 ghost use Rattle.island_prices.specs.Rounds.{greatest_rise, rise_where};
 
 use fleet_model::Tables;
-use fleet_model::limits::{MAX_FLEETS, MAX_STATIONS, MINUTES_PER_DAY};
+use fleet_model::limits::MAX_DAY_ARCS;
 
 /// The most rises that there are: one of each fleet at each station at each minute of the day. Arcs go where the period is one day
 /// alone.
-pub const MAX_RISES: usize = MAX_FLEETS * MAX_STATIONS * MINUTES_PER_DAY as usize;
+pub const MAX_RISES: usize = MAX_DAY_ARCS;
 
 /// Which minutes take another price where a rise goes to its moment.
 #[derive(Clone, Copy, Debug, PartialEq, Eq)]

@@ -4,3 +4,5 @@ pub mod FreeNeed
 pub mod AllSuccessors
 pub mod TourLines
 pub mod WholeTours
+pub mod FoundNext
+pub mod Pushed

@@ -1,5 +1,5 @@
 -- The lines of a tour that begins after a period's start, one after another, are the tour.
-use Rattle.std.proofs.Common.{◌≡◌, ◌+◌, ◌-◌, ◌<◌, ◌≤◌, [], ◌∷◌, ◌++◌, ◌∙◌, ◌*◌, ◌/◌, ◌%◌, List, ℕ, add-one, ap, append_assoc, arith, length, refl, slice_index, subst, suc, sym, take, take_all, zero}
+use Rattle.std.proofs.Common.{◌≡◌, ◌+◌, ◌-◌, ◌<◌, ◌≤◌, [], ◌∷◌, ◌++◌, ◌∙◌, ◌*◌, ◌%◌, List, ℕ, add-one, ap, append_assoc, arith, length, refl, slice_index, subst, suc, sym, take, take_all, zero}
 use Rattle.std.specs.List.{concat}
 use Rattle.std.proofs.Math.Seq.{take-suc}
 use Rattle.std.proofs.lemmas.List.{append-nil}
@@ -11,14 +11,14 @@ use Rattle.sums.proofs.Rounds.{all_round}
 use Rattle.sums.proofs.SumBounds.{sum_below-le}
 use Rattle.sums.specs.Below.{sum_below}
 use Rattle.fleet_model.specs.declared.tables.Tables.{Tables}
-use Rattle.fleet_model.specs.declared.parts.Connection.{Connection}
-use Rattle.fleet_model.specs.declared.limits.TheConstants.{MINUTES_PER_DAY}
+use Rattle.fleet_model.specs.Period.{day_of_minute, minutes_of}
 use Rattle.fleet_model.specs.Schedule.{days_in, leg_on, period_of}
 use Rattle.fleet_model.specs.Times.{departure}
 use Rattle.fleet_model.proofs.PeriodMinutes.{days_are_period}
 use Rattle.fleet_model.proofs.PlainTables.{plain_departs}
 use Rattle.lines_of_flying.specs.Lines.{BeginsAfterStart, day_of, days_of_tour, first_day, lines_of, nights_after, periods_after}
 use Rattle.lines_of_flying.proofs.TourLines.{first_on, its_day, known_legs, later_day, other_early_day}
+use Rattle.ground_turns.specs.Laws.{TurnByDays}
 use Rattle.ground_turns.specs.Maps.{IsTour, no_turn, periods_in_turn, turn_after, turn_at, turns_round}
 use Rattle.ground_turns.specs.Nights.{nights_in}
 use Rattle.ground_turns.specs.Turns.{departs_at}
@@ -40,16 +40,12 @@ joined_all f n (suc more) none =
     ∙ ap (λ xs. concat (list_below f (n + more)) ++ xs) (none more (omega arith))
     ∙ append-nil (concat (list_below f (n + more))) ∙ joined_all f n more (λ k below. none k (omega arith))
 
--- what the law of nights by days says of a turn
-abbrev TurnByDays : Tables → ℕ → Connection → Type 0
-TurnByDays t f turn = nights_in t f turn + departure t (leg_on turn.arriving f) / MINUTES_PER_DAY ≡ days_in t * periods_in_turn t f turn + departs_at t f turn / MINUTES_PER_DAY
-
-early_enough : (nights dep next first days minutes periods : ℕ) → nights + dep / MINUTES_PER_DAY ≡ days * periods + next / MINUTES_PER_DAY → next ≡ first
-    → minutes ≡ days * MINUTES_PER_DAY → dep < minutes → 0 < periods → first / MINUTES_PER_DAY < nights
+early_enough : (nights dep next first days minutes periods : ℕ) → nights + day_of_minute dep ≡ days * periods + day_of_minute next → next ≡ first
+    → minutes ≡ minutes_of days → dep < minutes → 0 < periods → day_of_minute first < nights
 early_enough nights dep next first days minutes periods law same whole within some =
-    let low : dep / MINUTES_PER_DAY < days = omega (arith, whole, within) in
+    let low : day_of_minute dep < days = omega (arith, whole, within) in
     let rows : days * 1 ≤ days * periods = mul-le-mul_left days some in
-    let day : next / MINUTES_PER_DAY ≡ first / MINUTES_PER_DAY = ap (λ n. n / MINUTES_PER_DAY) same in
+    let day : day_of_minute next ≡ day_of_minute first = ap (λ n. day_of_minute n) same in
     omega (arith, law, low, rows, day)
 
 all_but_one : (n : ℕ) → 0 < n → suc (n - 1) ≡ n

@@ -1,11 +1,11 @@
 -- The lines of a tour: the legs of each of its days, cut at day starts.
-use Rattle.std.specs.Prelude.{◌+◌, ◌-◌, ◌<◌, ◌==◌, [], ◌∷◌, ◌++◌, ◌/◌, List, ℕ, if◌then◌else◌, length, slice_index, suc, zero}
+use Rattle.std.specs.Prelude.{◌+◌, ◌-◌, ◌<◌, ◌==◌, [], ◌∷◌, ◌++◌, List, ℕ, if◌then◌else◌, length, slice_index, suc, zero}
 use Rattle.sums.specs.Below.{sum_below}
 use Rattle.sums.specs.Places.{list_below}
 use Rattle.fleet_model.specs.declared.tables.Tables.{Tables}
 use Rattle.fleet_model.specs.Schedule.{leg_on, legs_in}
 use Rattle.fleet_model.specs.Times.{departure, nights_of}
-use Rattle.fleet_model.specs.declared.limits.TheConstants.{MINUTES_PER_DAY}
+use Rattle.fleet_model.specs.Period.{day_of_minute}
 use Rattle.ground_turns.specs.Maps.{periods_in_turn, turn_after}
 use Rattle.ground_turns.specs.Turns.{nights_waited}
 
@@ -19,7 +19,7 @@ periods_after t f tour k = periods_in_turn t f (turn_after tour k)
 
 -- the day of the period on which the tour's first leg departs
 abbrev pub first_day : Tables → ℕ → List ℕ → ℕ
-first_day t f tour = departure t (leg_on (slice_index tour 0) f) / MINUTES_PER_DAY
+first_day t f tour = day_of_minute (departure t (leg_on (slice_index tour 0) f))
 
 -- the day of a leg, counted from the period's start before the first leg
 abbrev pub day_of : Tables → ℕ → List ℕ → ℕ → ℕ

@@ -8,7 +8,7 @@ ghost use Rattle.ground_turns.specs.Maps.{IsTour, turn_after};
 ghost use Rattle.lines_of_flying.specs.Lines.{AreLegs, BeginsAfterStart, first_day, line_after, lines_ended, lines_of, nights_after, periods_after};
 
 use entries::{Entries, NoMemory};
-use fleet_model::limits::MINUTES_PER_DAY;
+use fleet_model::period::day_of_minute;
 use fleet_model::{Assignment, Connection, Tables};
 use ground_turns::{crosses, flight, nights_waited};
 use std::alloc::Global;
@@ -124,5 +124,5 @@ pub fn first_day(tables: &Tables, fleet: u32, tour: &[u32]) -> u32
     ensures value { result ≡ first_day tables.now fleet tour.now }
     ensures few { result ≤ 7 }
 {
-    u32::from(tables.departure(flight(tables, tour[0], fleet)) / MINUTES_PER_DAY)
+    u32::from(day_of_minute(tables.departure(flight(tables, tour[0], fleet))))
 }

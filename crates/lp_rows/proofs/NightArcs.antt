@@ -1,11 +1,11 @@
 -- The arc of a fleet that passes the end of a day: one, where the fleet has nodes at the station.
-use Rattle.std.proofs.Common.{◌≡◌, ℕ, zero, suc, ◌+◌, ◌-◌, ◌*◌, ◌<◌, ◌≤◌, Bool, true, false, if◌then◌else◌, ◌==◌, length, get_or, is_some, refl, sym, ◌∙◌, ap, subst, inl, inr, arith, add-one}
+use Rattle.std.proofs.Common.{◌≡◌, ℕ, zero, suc, ◌+◌, ◌-◌, ◌<◌, ◌≤◌, Bool, true, false, if◌then◌else◌, ◌==◌, length, get_or, is_some, refl, sym, ◌∙◌, ap, subst, inl, inr, arith, add-one}
 use Rattle.std.proofs.lemmas.Bool.{cases_lt, cases_order, eqb-true}
 use Rattle.sums.specs.Below.{sum_below}
 use Rattle.sums.proofs.Naturals.{equal_number}
 use Rattle.sums.proofs.Sums.{sum_below-agree, sum_below-at}
 use Rattle.sums.proofs.Tests.{same_tests}
-use Rattle.fleet_model.specs.declared.limits.TheConstants.{MINUTES_PER_DAY}
+use Rattle.fleet_model.specs.Period.{minutes_of}
 use Rattle.fleet_model.specs.declared.tables.Tables.{Tables}
 use Rattle.fleet_model.specs.Kept.{Domains}
 use Rattle.fleet_model.specs.Schedule.{day_end, days_in, parking_of}
@@ -74,18 +74,18 @@ module _ (t : Tables) (keeps : Domains) (f s d : ℕ) (starts : Starts) (at : Ar
   before_next_day before =
       let holds = node_that_holds (starts f s) (day_end d) at.nodes.first some in
       let days : days_at t s ≡ days_in t = all_cut (is_some (parking_of t s)) (days_in t) d first within in
-      let cut : IsDayStart (days_at t s) (get_or (starts f s) holds.0 0) (d * MINUTES_PER_DAY) = record { day = d; within = omega (arith, before, days); at = refl; later = omega (arith, first, holds.1.started) } in
+      let cut : IsDayStart (days_at t s) (get_or (starts f s) holds.0 0) (minutes_of d) = record { day = d; within = omega (arith, before, days); at = refl; later = omega (arith, first, holds.1.started) } in
       elim (cases_lt (holds.0 + 1) (length (starts f s))) [
         | inl next ↦ (
           holds.0,
           record {
             there = holds.1.within;
-            ends = omega (arith, end_next t (starts f s) holds.0 next, (at.nodes.next holds.0 next).first (d * MINUTES_PER_DAY) (inr cut), holds.1.before next);
+            ends = omega (arith, end_next t (starts f s) holds.0 next, (at.nodes.next holds.0 next).first (minutes_of d) (inr cut), holds.1.before next);
           },
         )
         | inr last ↦
             let place : holds.0 ≡ length (starts f s) - 1 = omega (arith, holds.1.within) in
-            absurd (at.nodes.last some (d * MINUTES_PER_DAY) (subst (λ k. MayFollow at.events (days_at t s) (get_or (starts f s) k 0) (d * MINUTES_PER_DAY)) place (inr cut)))
+            absurd (at.nodes.last some (minutes_of d) (subst (λ k. MayFollow at.events (days_at t s) (get_or (starts f s) k 0) (minutes_of d)) place (inr cut)))
       ]
 
   pub night_node : (k : ℕ) × IsNightNode k

@@ -6,7 +6,7 @@ ghost use Rattle.lp_rows.specs.Layout.{AreByStation, starts_in};
 
 use crate::kinds::{Column, Line, Node, Park};
 use crate::network::Network;
-use fleet_model::limits::MINUTES_PER_DAY;
+use fleet_model::period::day_end;
 use fleet_model::{Pair, Tables};
 use node_aggregate::node_end;
 
@@ -203,16 +203,7 @@ fn passes_day_end(tables: &Tables, network: &Network, park: Park, arc: Node) -> 
         return false;
     }
     let starts = network.starts(tables, arc.fleet, arc.station);
-    u32::from(node_end(tables, starts, arc.place as usize)) == day_end(park.day)
-}
-
-// The last minute of a day.
-fn day_end(day: u32) -> u32
-    requires some { 0 < day }
-    requires week { day ≤ 7 }
-    ensures { result ≡ day_end day }
-{
-    day * u32::from(MINUTES_PER_DAY) - 1
+    node_end(tables, starts, arc.place as usize) == day_end(park.day)
 }
 
 // A minute lies in a node.

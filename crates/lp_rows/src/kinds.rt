@@ -2,7 +2,7 @@ use fleet_model::Pair;
 
 /// A node of the time-line network: of a fleet at a station, all by number, in the order of the minutes. The arc
 /// from it to the next node goes by the same numbers.
-#[derive(Clone, Copy, Debug, PartialEq, Eq)]
+#[derive(Clone, Copy)]
 pub struct Node {
     pub fleet: u32,
     pub station: u32,
@@ -10,14 +10,14 @@ pub struct Node {
 }
 
 /// The end of a day at a station that has a limit: aircraft of all fleets on the ground are counted there. Days count from 1.
-#[derive(Clone, Copy, Debug, PartialEq, Eq)]
+#[derive(Clone, Copy)]
 pub struct Park {
     pub station: u32,
     pub day: u32,
 }
 
 /// What a column stands for.
-#[derive(Clone, Copy, Debug, PartialEq, Eq)]
+#[derive(Clone, Copy)]
 pub enum Column {
     /// How much of a leg is flown by one of its choices.
     Flight(Pair),
@@ -30,7 +30,7 @@ pub enum Column {
 }
 
 /// What a line asks for.
-#[derive(Clone, Copy, Debug, PartialEq, Eq)]
+#[derive(Clone, Copy)]
 pub enum Line {
     /// Each leg is flown once.
     Cover { leg: u32 },

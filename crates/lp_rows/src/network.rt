@@ -13,7 +13,7 @@ use timeline_net::events;
 
 /// The time-line network of a subproblem: the starts of the nodes of each fleet at each station. Contracts see them
 /// in lists, by fleet, then station.
-#[derive(Debug, Drop)]
+#[derive(Drop)]
 pub struct Network {
     starts: Entries<Entries<Entries<u16>>>,
 }

@@ -9,7 +9,7 @@ use fleet_model::Pair;
 /// What stands where in the linear program of a subproblem: its time-line network, its kept pairs, which ground arcs
 /// stay, which days of stations have a limit, and how many legs and fleets there are. Columns and lines are asked for by their
 /// methods, and their places are counted nowhere else.
-#[derive(Debug, Drop)]
+#[derive(Drop)]
 pub struct Outline {
     pub network: Network,
     /// The kept pairs, by leg, then choice.

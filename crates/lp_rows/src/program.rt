@@ -23,7 +23,7 @@ use std::alloc::Global;
 /// The linear program of a subproblem: what stands where, and the lines over its kept pairs, the ground arcs of its
 /// network, a slack for each fleet and a room for each day of a station with a limit, with their right sides, and what the
 /// columns cost.
-#[derive(Debug, Drop)]
+#[derive(Drop)]
 pub struct Program {
     pub outline: Outline,
     pub rows: Rows,

@@ -1,7 +1,7 @@
 -- Nodes: the minutes of a period, cut where the aircraft on the ground at a station have to be counted, and where a day starts
 -- at a station with a limit.
-use Rattle.std.specs.Prelude.{◌≡◌, ◌≢◌, ℕ, ◌+◌, ◌-◌, ◌*◌, ◌<◌, ◌≤◌, ◌⊎◌, Bool, true, false, nat_lt, nat_le, if◌then◌else◌, List, [], Option, Some, None, is_some, length, slice_index, Contains}
-use Rattle.fleet_model.specs.declared.limits.TheConstants.{MINUTES_PER_DAY}
+use Rattle.std.specs.Prelude.{◌≡◌, ◌≢◌, ℕ, ◌+◌, ◌-◌, ◌<◌, ◌≤◌, ◌⊎◌, Bool, true, false, nat_lt, nat_le, if◌then◌else◌, List, [], Option, Some, None, is_some, length, slice_index, Contains}
+use Rattle.fleet_model.specs.Period.{minutes_of}
 use Rattle.fleet_model.specs.declared.tables.Tables.{Tables}
 use Rattle.fleet_model.specs.Kept.{Domains}
 use Rattle.fleet_model.specs.Schedule.{days_in, last_of, parking_of}
@@ -36,7 +36,7 @@ pub record MayStart (events : List Event) (start minute : ℕ) : Type 0 where
 pub record IsDayStart (days start minute : ℕ) : Type 0 where
   pub day : ℕ
   pub within : day < days
-  pub at : minute ≡ day * MINUTES_PER_DAY
+  pub at : minute ≡ minutes_of day
   pub later : start < minute
 
 -- the next node may start with this minute

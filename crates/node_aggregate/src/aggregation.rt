@@ -4,7 +4,7 @@ ghost use Rattle.node_aggregate.specs.Nodes.{AreNodes, HappensAt, IsDayStart, Is
 
 use entries::NoMemory;
 use fleet_model::Tables;
-use fleet_model::limits::MINUTES_PER_DAY;
+use fleet_model::period::{day_of_minute, minutes_of};
 use std::alloc::Global;
 use timeline_net::Event;
 
@@ -63,9 +63,9 @@ fn next_day(days: u32, start: u16) -> Option<u16>
     requires { days ≤ 7 }
     ensures { MatchOption result ((m : ℕ) → ¬ (IsDayStart days start m)) (IsFirst (IsDayStart days start)) }
 {
-    let day = start / MINUTES_PER_DAY + 1;
+    let day = day_of_minute(start) + 1;
     if u32::from(day) < days {
-        Some(day * MINUTES_PER_DAY)
+        Some(minutes_of(day))
     } else {
         None
     }

@@ -6,7 +6,7 @@ ghost use Rattle.fleet_model.specs.Schedule.{fleets_in, stations_in};
 ghost use Rattle.fleet_model.specs.Use.{parked, stand_of};
 ghost use Rattle.plan_judge.specs.Crowds.{HasRoomAt, IsFirstCrowded, IsFirstDay};
 
-use fleet_model::limits::MINUTES_PER_DAY;
+use fleet_model::period::day_end;
 use fleet_model::{Assignment, Tables};
 use stand_counts::{Planned, need, stand};
 
@@ -63,10 +63,10 @@ fn parked(tables: &Tables, plan: &Assignment, station: u32, day: u32) -> u32
     requires week { day ≤ 7 }
     ensures { result ≡ parked tables.now (weights_of plan.now) station day }
 {
-    let minute = day * u32::from(MINUTES_PER_DAY) - 1;
+    let minute = day_end(day);
     let mut sum = 0;
     for fleet in 0..tables.fleet_count() {
-        sum += standing(tables, plan, fleet, station, minute as u16);
+        sum += standing(tables, plan, fleet, station, minute);
     }
     sum
 }

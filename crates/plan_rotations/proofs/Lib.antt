@@ -2,3 +2,4 @@ pub mod Best
 pub mod Flown
 pub mod Listed
 pub mod Pushed
+pub mod Seconds

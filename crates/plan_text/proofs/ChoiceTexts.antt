@@ -1,5 +1,5 @@
 -- The texts of a leg's choices: no two choices have the same, so a choice is found by its texts.
-use Rattle.std.proofs.Common.{◌≡◌, ℕ, zero, suc, ◌+◌, ◌*◌, ◌<◌, ◌≤◌, Bool, true, false, if◌then◌else◌, List, length, slice_index_or, bytes_eq, codes, Option, Some, None, ℤ, pos, negsuc, neg_ℤ, ◌^◌, AllPairs, refl, sym, ◌∙◌, ap, subst, add-one, inl, inr, arith}
+use Rattle.std.proofs.Common.{◌≡◌, ℕ, zero, suc, ◌+◌, ◌*◌, ◌<◌, ◌≤◌, Bool, true, false, if◌then◌else◌, List, length, slice_index_or, bytes_eq, codes, Option, Some, None, ℤ, pos, negsuc, neg_ℤ, ◌^◌, AllPairs, refl, sym, ◌∙◌, ap, subst, inl, inr, arith}
 use Rattle.std.specs.Fmt.{signed_decimal}
 use Rattle.std.specs.Prelude.{◌⊎◌, ◌<ℤ◌, ◌≤ℤ◌}
 use Rattle.std.proofs.lemmas.Bool.{cases_Bool, cases_lt, le-ltb, lt-ltb}
@@ -171,9 +171,6 @@ module _ (t : Tables) (l : ℕ) (leg : l < legs_in t) where
     pub no_choice : ((c : ℕ) → AreTextsOf c → ⊥) → choice_with t l fleet shift ≡ None
     unfolding choice_with
     no_choice others = none_passes (has_texts t l fleet shift) (choices_in t l) (λ c known. not_tested c known (others c))
-
-pub front_fails : (p : ℕ → Bool) (k : ℕ) → first_below (λ k. if p k then Some k else None) k ≡ None → p k ≡ false → first_below (λ k. if p k then Some k else None) (k + 1) ≡ None
-front_fails p k none fails = rw add-one (ap (λ o. or_else o (if p k then Some k else None)) none ∙ ap (λ b. if b then Some k else None) fails)
 
 pub front_found : (p : ℕ → Bool) (k n : ℕ) → first_below (λ k. if p k then Some k else None) k ≡ None → p k ≡ true → k < n → Some k ≡ first_below (λ k. if p k then Some k else None) n
 front_found p k n none passes within = sym (first_found (λ k. if p k then Some k else None) k n k none (ap (λ b. if b then Some k else None) passes) within)

@@ -8,7 +8,8 @@ use Rattle.sums.proofs.Sums.{sum_below-bound}
 use Rattle.sums.proofs.Sizes.{above_tested}
 use Rattle.fleet_model.specs.Schedule.{days_in, fleets_in, period_of, stations_in}
 use Rattle.fleet_model.proofs.PeriodMinutes.{days_are_period}
-use Rattle.fleet_model.specs.declared.limits.TheConstants.{MAX_STATIONS, MINUTES_PER_DAY}
+use Rattle.fleet_model.specs.declared.limits.TheConstants.{MAX_STATIONS}
+use Rattle.fleet_model.specs.Period.{minutes_of}
 use Rattle.fleet_model.specs.declared.tables.Tables.{Tables}
 use Rattle.lp_rows.specs.Layout.{Starts, all_nodes, node_at, node_of_number}
 use Rattle.lp_rows.specs.Points.{node_count}
@@ -27,18 +28,18 @@ use Rattle.price_lift.proofs.OptionalEntries.{few_there, number_at, rank, stands
 few_nodes : (t : Tables) (starts : Starts) → days_in t ≡ 1 → ((f s : ℕ) → f < fleets_in t → s < stations_in t → length (starts f s) ≤ period_of t) → node_count t starts ≤ MAX_RISES
 few_nodes t starts one few = omega (
   arith,
-  sum_below-bound (nodes_in t starts) (MAX_STATIONS * MINUTES_PER_DAY) (fleets_in t) (record { each = in_fleet }),
-  mul-le-mul_right (MAX_STATIONS * MINUTES_PER_DAY) t.in_range.fleets_fit.few,
+  sum_below-bound (nodes_in t starts) (MAX_STATIONS * minutes_of 1) (fleets_in t) (record { each = in_fleet }),
+  mul-le-mul_right (MAX_STATIONS * minutes_of 1) t.in_range.fleets_fit.few,
 )
   where
-    one_day : period_of t ≡ MINUTES_PER_DAY
+    one_day : period_of t ≡ minutes_of 1
     one_day = omega (arith, days_are_period t, one)
 
-    in_fleet : (f : ℕ) → f < fleets_in t → nodes_in t starts f ≤ MAX_STATIONS * MINUTES_PER_DAY
+    in_fleet : (f : ℕ) → f < fleets_in t → nodes_in t starts f ≤ MAX_STATIONS * minutes_of 1
     in_fleet f known = omega (
       arith,
-      sum_below-bound (λ s. length (starts f s)) MINUTES_PER_DAY (stations_in t) (record { each = λ s within. omega (arith, few f s known within, one_day) }),
-      mul-le-mul_right MINUTES_PER_DAY t.in_range.stations_fit.few,
+      sum_below-bound (λ s. length (starts f s)) (minutes_of 1) (stations_in t) (record { each = λ s within. omega (arith, few f s known within, one_day) }),
+      mul-le-mul_right (minutes_of 1) t.in_range.stations_fit.few,
     )
 
 -- ---- where a price rises over an arc

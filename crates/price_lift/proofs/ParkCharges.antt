@@ -1,5 +1,5 @@
 -- Charges by the values of parking lines: what an arc is charged that passes the end of a day, and what the limits are charged.
-use Rattle.std.proofs.Common.{◌≡◌, ℕ, ◌+◌, ◌/◌, ◌%◌, ◌<◌, Bool, true, false, ◌==◌, None, ℤ, pos, neg_ℤ, ◌*ℤ◌, refl, sym, ◌∙◌, ap, inl, inr, arith}
+use Rattle.std.proofs.Common.{◌≡◌, ℕ, ◌+◌, ◌<◌, Bool, true, false, ◌==◌, None, ℤ, pos, neg_ℤ, ◌*ℤ◌, refl, sym, ◌∙◌, ap, inl, inr, arith}
 use mathlib.Core.Bool.{false≢true}
 use Rattle.std.proofs.lemmas.Bool.{cases_lt, eqb-true}
 use Rattle.std.proofs.lemmas.Int.{ints}
@@ -10,7 +10,7 @@ use Rattle.sums.proofs.Naturals.{equal_number}
 use Rattle.sums.proofs.Tests.{both_true, by_test, parts_true}
 use Rattle.sums.proofs.WholeSums.{*ℤ-sum_below_ℤ, sum_below_ℤ-same}
 use Rattle.sums.proofs.WholeSwaps.{where_true}
-use Rattle.fleet_model.specs.declared.limits.TheConstants.{MINUTES_PER_DAY}
+use Rattle.fleet_model.specs.Period.{days_ended, ends_day, minute_of_day}
 use Rattle.fleet_model.specs.declared.tables.Tables.{Tables}
 use Rattle.fleet_model.specs.Schedule.{day_end, days_in, fleets_in, legs_in, parking_of, period_of, stations_in}
 use Rattle.node_aggregate.specs.Nodes.{end_in}
@@ -39,19 +39,19 @@ factor_out h r a = neg_ℤ-*ℤ (h *ℤ r) a ∙ ap neg_ℤ (*ℤ_assoc h r a) �
 -- where there is no limit, nothing is charged
 pub none_after : (t : Tables) (prices : Prices) → AreCharges t prices → (s m : ℕ) → s < stations_in t → m < period_of t → parking_of t s ≡ None → charge_after prices s m ≡ pos 0
 unfolding charge_after
-none_after t prices charges s m within period no_limit = by_case ((m + 1) % MINUTES_PER_DAY == 0)
-    (λ e. (charges s ((m + 1) / MINUTES_PER_DAY) within (some_day m (eqb-true _ _ e)) (day_within t m period (eqb-true _ _ e))).only_limited no_limit)
+none_after t prices charges s m within period no_limit = by_case (ends_day m)
+    (λ e. (charges s (days_ended m) within (some_day m (eqb-true _ _ e)) (day_within t m period (eqb-true _ _ e))).only_limited no_limit)
   where
-    by_case : (b : Bool) → (b ≡ true → charge_of prices s ((m + 1) / MINUTES_PER_DAY) ≡ pos 0) → where_true b (charge_of prices s ((m + 1) / MINUTES_PER_DAY)) ≡ pos 0
+    by_case : (b : Bool) → (b ≡ true → charge_of prices s (days_ended m) ≡ pos 0) → where_true b (charge_of prices s (days_ended m)) ≡ pos 0
     by_case true none = none refl
     by_case false none = refl
 
 -- the day of a minute that ends it, and no minute ends a day that isn't the last of one
-day_of : (m d : ℕ) → 0 < d → m ≡ day_end d → d ≡ (m + 1) / MINUTES_PER_DAY
-day_of m d some is = omega (arith, is)
+ended_day : (m d : ℕ) → 0 < d → m ≡ day_end d → d ≡ days_ended m
+ended_day m d some is = omega (arith, is)
 
-ends_day : (m d : ℕ) → 0 < d → m ≡ day_end d → (m + 1) % MINUTES_PER_DAY ≡ 0
-ends_day m d some is = omega (arith, is)
+ends_with : (m d : ℕ) → 0 < d → m ≡ day_end d → minute_of_day (m + 1) ≡ 0
+ends_with m d some is = omega (arith, is)
 
 module _ (t : Tables) (starts : Starts) (prices : Prices) (value : ℕ → ℤ) (by : AreByLines t starts value prices) (h : ℤ) (y : ℕ → ℤ)
     (scaled : (j : ℕ) → j < priced_count t starts → y (legs_in t + j) ≡ h *ℤ value (legs_in t + j)) where
@@ -78,7 +78,7 @@ module _ (t : Tables) (starts : Starts) (prices : Prices) (value : ℕ → ℤ) 
 
     -- the day that the minute ends, where it ends one
     abbrev day_there : Park
-    day_there = record { station = n.station; day = (m + 1) / MINUTES_PER_DAY }
+    day_there = record { station = n.station; day = days_ended m }
 
     abbrev passes : Park → Bool
     passes q = passes_day_end t starts q n
@@ -89,11 +89,11 @@ module _ (t : Tables) (starts : Starts) (prices : Prices) (value : ℕ → ℤ) 
     none_passed : ((q : Park) → IsPark t q → q.station ≡ n.station → m ≡ day_end q.day → ⊥) → of_passed t starts y n ≡ pos 0
     none_passed never = no_park t passes (of_park t starts y) (λ q known. by_test (passes q) (λ e. let at = passed q e in absurd (never q known at.0 at.1)) (λ e. e))
 
-    at_limit : (m + 1) % MINUTES_PER_DAY ≡ 0 → 0 < parking_days t n.station → of_passed t starts y n ≡ neg_ℤ (h *ℤ charge_of prices n.station ((m + 1) / MINUTES_PER_DAY))
+    at_limit : minute_of_day (m + 1) ≡ 0 → 0 < parking_days t n.station → of_passed t starts y n ≡ neg_ℤ (h *ℤ charge_of prices n.station (days_ended m))
     at_limit ends limited =
         let known : IsPark t day_there = record { station = within; some = some_day m ends; day = omega (arith, day_within t m period ends, limited_days t n.station limited) } in
-        pick_park t passes (of_park t starts y) day_there known (both_true (n.station == n.station) (m == day_end ((m + 1) / MINUTES_PER_DAY)) (equal_number n.station n.station refl) (equal_number m (day_end ((m + 1) / MINUTES_PER_DAY)) (last_of_day m ends)))
-        (λ q is e. let at = passed q e in same_as q day_there (both_true (q.station == n.station) (q.day == (m + 1) / MINUTES_PER_DAY) (equal_number q.station n.station at.0) (equal_number q.day ((m + 1) / MINUTES_PER_DAY) (day_of m q.day is.some at.1))))
+        pick_park t passes (of_park t starts y) day_there known (both_true (n.station == n.station) (m == day_end (days_ended m)) (equal_number n.station n.station refl) (equal_number m (day_end (days_ended m)) (last_of_day m ends)))
+        (λ q is e. let at = passed q e in same_as q day_there (both_true (q.station == n.station) (q.day == days_ended m) (equal_number q.station n.station at.0) (equal_number q.day (days_ended m) (ended_day m q.day is.some at.1))))
         ∙ number_is day_there known
 
     no_limit : parking_days t n.station ≡ 0 → (d : ℕ) → charge_of prices n.station d ≡ pos 0
@@ -101,18 +101,18 @@ module _ (t : Tables) (starts : Starts) (prices : Prices) (value : ℕ → ℤ) 
 
     pub passed_charge : of_passed t starts y n ≡ neg_ℤ (h *ℤ charge_after prices n.station (end_in t (starts n.fleet n.station) n.place))
     unfolding charge_after
-    passed_charge = by_test ((m + 1) % MINUTES_PER_DAY == 0)
+    passed_charge = by_test (ends_day m)
         (λ e. elim (cases_lt 0 (parking_days t n.station)) [
-          | inl limited ↦ at_limit (eqb-true _ _ e) limited ∙ ap (λ b. neg_ℤ (h *ℤ where_true b (charge_of prices n.station ((m + 1) / MINUTES_PER_DAY)))) (sym e)
+          | inl limited ↦ at_limit (eqb-true _ _ e) limited ∙ ap (λ b. neg_ℤ (h *ℤ where_true b (charge_of prices n.station (days_ended m)))) (sym e)
           | inr free ↦
               let none : parking_days t n.station ≡ 0 = omega arith in
               none_passed (λ q known station ends. omega (arith, known.some, known.day, ap (parking_days t) station, none))
-              ∙ nothing (where_true ((m + 1) % MINUTES_PER_DAY == 0) (charge_of prices n.station ((m + 1) / MINUTES_PER_DAY)))
-              (ap (where_true ((m + 1) % MINUTES_PER_DAY == 0)) (no_limit none ((m + 1) / MINUTES_PER_DAY)) ∙ masked_zero ((m + 1) % MINUTES_PER_DAY == 0))
+              ∙ nothing (where_true (ends_day m) (charge_of prices n.station (days_ended m)))
+              (ap (where_true (ends_day m)) (no_limit none (days_ended m)) ∙ masked_zero (ends_day m))
         ])
         (λ e.
-        none_passed (λ q known station ends. false≢true (sym e ∙ equal_number _ _ (ends_day m q.day known.some ends)))
-        ∙ nothing (where_true ((m + 1) % MINUTES_PER_DAY == 0) (charge_of prices n.station ((m + 1) / MINUTES_PER_DAY))) (ap (λ b. where_true b (charge_of prices n.station ((m + 1) / MINUTES_PER_DAY))) e))
+        none_passed (λ q known station ends. false≢true (sym e ∙ equal_number _ _ (ends_with m q.day known.some ends)))
+        ∙ nothing (where_true (ends_day m) (charge_of prices n.station (days_ended m))) (ap (λ b. where_true b (charge_of prices n.station (days_ended m))) e))
       where
         nothing : (z : ℤ) → z ≡ pos 0 → pos 0 ≡ neg_ℤ (h *ℤ z)
         nothing z none = sym (ap (λ w. neg_ℤ (h *ℤ w)) none ∙ ap neg_ℤ (*ℤ-zero h))

@@ -7,7 +7,7 @@ use crate::line::Version;
 use crate::words::stands;
 
 /// The form of a line: what its first words say.
-#[derive(Clone, Copy, Debug, PartialEq, Eq)]
+#[derive(Clone, Copy)]
 pub enum Form {
     Head,
     PlanYes,

@@ -4,7 +4,7 @@ ghost use Rattle.proof_lines.specs.Forms.{form_of, has_form};
 use crate::forms::Form;
 
 /// A version of the text of a proof.
-#[derive(Clone, Copy, Debug, PartialEq, Eq)]
+#[derive(Clone, Copy)]
 pub enum Version {
     /// `1`: without charges.
     One,
@@ -27,7 +27,7 @@ impl Version {
 }
 
 /// What a line of the text of a proof says.
-#[derive(Clone, Copy, Debug, PartialEq, Eq)]
+#[derive(Clone, Copy)]
 pub enum Line {
     /// `fleet proof V`: the first line, with the version of the text.
     Head(Version),

@@ -1,5 +1,5 @@
 -- Settled tables keep what tables keep.
-use Rattle.std.proofs.Common.{◌≡◌, ℕ, ◌<◌, ◌≤◌, nat_lt, Bool, true, false, List, length, map, slice_index_or, All, ℤ, pos, negsuc, ◌+ℤ◌, to_z, of_z, refl, sym, ap, subst, ◌∙◌, arith}
+use Rattle.std.proofs.Common.{◌≡◌, ℕ, ◌<◌, ◌≤◌, nat_lt, Bool, true, false, List, length, map, slice_index_or, ℤ, pos, negsuc, ◌+ℤ◌, to_z, of_z, refl, sym, ap, subst, ◌∙◌, arith}
 use Rattle.std.proofs.lemmas.Int.{ints, to_z-of_z}
 use mir.Syntax.{w128}
 use mir.Val.{SFits}
@@ -27,8 +27,6 @@ use Rattle.fleet_model.specs.declared.tables.Tables.{Tables}
 use Rattle.fleet_model.proofs.Departures.{slot_within}
 use Rattle.fleet_model.proofs.NotAsked.{once_few, own_alone}
 use Rattle.fleet_model.proofs.PeriodMinutes.{departs_always}
-use Rattle.retime_windows.specs.Times.{HaveWindows}
-use Rattle.retime_windows.specs.declared.window.Window.{Window}
 use Rattle.retime_windows.specs.Settled.{CanSettle, settled_cost, settled_leg, time_of}
 
 -- the time at which a pair is flown is one of its leg
@@ -159,10 +157,6 @@ module _ (t : Tables) (a : List ℕ) where
   settled_fit s f l c h d can s_is f_is l_is c_is h_is d_is =
       let listed : d ≡ departures_of settled_legs = d_is ∙ ap departures_of l_is in
       rw (s_is, f_is, listed, l_is, c_is, h_is) (fit can)
-
--- tables with windows whose costs are such as a table names
-pub named_can_settle : (t u : Tables) (windows : List Window) → All (λ entry. IsCostUpTo 1 entry.cost) t.costs → HaveWindows t windows u → CanSettle u
-named_can_settle t u windows named have asked = subst (All (λ entry. IsCostUpTo 1 entry.cost)) (sym have.costs) named
 
 pub settled_few : (t : Tables) (a : List ℕ) (now : List Leg) → now ≡ settled_legs t a → length now ≤ MAX_LEGS
 settled_few t a now is = omega (arith, ap length is, as_many t a, t.in_range.legs_fit.few)

@@ -8,6 +8,7 @@ use Rattle.sums.proofs.Tests.{by_test}
 use Rattle.fleet_model.specs.Costs.{cost_in, is_of}
 use Rattle.fleet_model.specs.Counts.{choice_at, pair_at}
 use Rattle.fleet_model.specs.Legal.{IsAssignment, cost_of, flown_cost, raised}
+use Rattle.fleet_model.specs.Period.{minutes_of}
 use Rattle.fleet_model.specs.Plain.{IsPlain}
 use Rattle.fleet_model.specs.Schedule.{IsPair, choices_in, fleet_by, fleet_of, fleets_in, left_out, leg_of, legs_in, no_fleet, no_leg, no_station, period_of, shift_by, shifts_in, station_of}
 use Rattle.fleet_model.specs.Times.{busy_minutes, departure, laps_of, ready_minute}
@@ -49,7 +50,7 @@ module _ (t u : Tables) (a b : List ℕ) (assignment : IsAssignment t a) (settle
 
   pub same_period : period_of u ≡ period_of t
   unfolding period_of
-  same_period = ap (λ (settings : Settings). settings.period * 1440) settled.tables.settings
+  same_period = ap (λ (settings : Settings). minutes_of settings.period) settled.tables.settings
 
   pub choice_is : (l : ℕ) → l < legs_in t → choice_at b l ≡ fleet_by t (pair_at a l)
   choice_is l below = ap (λ plan. choice_at plan l) settled.plan ∙ get_or-list_below (λ k. fleet_by t (pair_at a k)) (legs_in t) l 0 below

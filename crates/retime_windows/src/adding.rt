@@ -1,6 +1,7 @@
 //! Tables whose legs depart at several times.
 ghost use Rattle.std.specs.Prelude.{◌≡◌, ◌<◌, ◌≤◌, All, IfOk, MatchResult, length, slice_index_or};
 ghost use Rattle.csv_fields.specs.Record.{records_of};
+ghost use Rattle.fleet_model.specs.Period.{minutes_of};
 ghost use Rattle.fleet_model.specs.Windows.{no_leg};
 ghost use Rattle.fleet_model.specs.declared.limits.TheConstants.{MAX_LEGS};
 ghost use Rattle.fleet_model.specs.declared.refusals.TableFile.TheVariants as file;
@@ -53,7 +54,7 @@ fn give_times(legs: &mut Vec<Leg>, windows: &[Window], period: u16)
     requires windows { AreMoves windows.now }
     requires few { length legs.old.items ≤ MAX_LEGS }
     requires each { All (λ leg. leg.dep < period) legs.old.items }
-    requires some_minutes { 1440 ≤ period }
+    requires some_minutes { minutes_of 1 ≤ period }
     requires few_minutes { period ≤ 10080 }
     ensures { legs.new.items ≡ list_below (λ l. leg_with period windows.now l (slice_index_or legs.old.items l no_leg)) (length legs.old.items) }
 {

@@ -5,8 +5,7 @@ use Rattle.std.proofs.Math.Nat.{mod-lt, mul-le-mul_left}
 use Rattle.std.proofs.lemmas.Bool.{cases_Bool, cases_lt, eqb-true}
 use Rattle.std.proofs.lemmas.List.Elements.{filter-append}
 use Rattle.std.proofs.lemmas.Nat.{div-add-mod', mod-mul-add}
-use Rattle.fleet_model.specs.declared.limits.TheConstants.{MINUTES_PER_DAY}
-use Rattle.fleet_model.specs.declared.parts.Connection.{Connection}
+use Rattle.fleet_model.specs.Period.{day_of_minute, minutes_of}
 use Rattle.fleet_model.specs.declared.tables.Tables.{Tables}
 use Rattle.fleet_model.specs.Counts.{weights_of}
 use Rattle.fleet_model.specs.Schedule.{days_in, leg_on, period_of}
@@ -14,6 +13,7 @@ use Rattle.fleet_model.specs.Times.{departure}
 use Rattle.fleet_model.specs.Use.{used_of}
 use Rattle.fleet_model.proofs.PeriodMinutes.{days_are_period, some_days}
 use Rattle.fleet_model.proofs.PlainTables.{plain_departs}
+use Rattle.ground_turns.specs.Laws.{TurnByDays}
 use Rattle.ground_turns.specs.Maps.{IsTour, no_turn, periods_in_turn, turn_after, turn_at, turns_round}
 use Rattle.ground_turns.specs.Nights.{nights_in}
 use Rattle.ground_turns.specs.Turns.{departs_at}
@@ -113,14 +113,10 @@ turned_block blocks size place x within some =
 
 -- ---- the days of a tour's legs
 
--- what the law of nights by days says of a turn
-abbrev TurnByDays : Tables → ℕ → Connection → Type 0
-TurnByDays t f turn = nights_in t f turn + departure t (leg_on turn.arriving f) / MINUTES_PER_DAY ≡ days_in t * periods_in_turn t f turn + departs_at t f turn / MINUTES_PER_DAY
-
 stepped : (days day dep nights periods next before : ℕ) → day ≡ dep + days * before → nights + dep ≡ days * periods + next → day + nights ≡ next + days * (before + periods)
 stepped days day dep nights periods next before is law = grind arith
 
-in_days : (dep minutes days : ℕ) → minutes ≡ days * MINUTES_PER_DAY → dep < minutes → dep / MINUTES_PER_DAY < days
+in_days : (dep minutes days : ℕ) → minutes ≡ minutes_of days → dep < minutes → day_of_minute dep < days
 in_days dep minutes days whole within = omega (arith, whole, within)
 
 module _ (t : Tables) (a : List ℕ) (f : ℕ) (tour : List ℕ) (is : IsTour t a f tour) (begins : BeginsAfterStart t f tour) where
@@ -132,7 +128,7 @@ module _ (t : Tables) (a : List ℕ) (f : ℕ) (tour : List ℕ) (is : IsTour t 
 
   -- the day of the period on which a leg departs
   own_day : ℕ → ℕ
-  own_day k = departure t (leg_on (slice_index tour k) f) / MINUTES_PER_DAY
+  own_day k = day_of_minute (departure t (leg_on (slice_index tour k) f))
 
   own_day_within : (k : ℕ) → k < length tour → own_day k < days
   unfolding days own_day
@@ -149,7 +145,7 @@ module _ (t : Tables) (a : List ℕ) (f : ℕ) (tour : List ℕ) (is : IsTour t 
       let there : turn_at (turns_round tour) k ≡ turn_after tour k = get_or-list_below (turn_after tour) (length tour) k no_turn (omega (arith, below)) in
       let law = subst (TurnByDays t f) there (nights_by_days t a f (turns_round tour) k is.fitting.map within) in
       let next : departs_at t f (turn_after tour k) ≡ departure t (leg_on (slice_index tour (suc k)) f) = ap (λ n. departure t (leg_on (slice_index tour n) f)) (mod-eq_of_lt below) in
-      let turned = law ∙ ap (λ dep. days_in t * periods_in_turn t f (turn_after tour k) + dep / MINUTES_PER_DAY) next in
+      let turned = law ∙ ap (λ dep. days_in t * periods_in_turn t f (turn_after tour k) + day_of_minute dep) next in
       after k ∙ stepped (days_in t) (day_of t f tour k) (own_day k) (nights_in t f (turn_after tour k)) (periods_in_turn t f (turn_after tour k)) (own_day (suc k))
       (sum_below (periods_after t f tour) k) (day_is k (omega (arith, below))) turned
     where

@@ -4,3 +4,4 @@ pub mod PlainText
 pub mod RoundLines
 pub mod RowWriting
 pub mod TourLegs
+pub mod ToldWords

@@ -1,12 +1,12 @@
 -- What the lines of tails come to: which legs are flown on a date, and which by an aircraft.
-use Rattle.std.specs.Prelude.{ℕ, suc, ◌+◌, ◌*◌, ◌/◌, ◌%◌, ◌<◌, ◌≡◌, ◌==◌, Bool, IsPermutation, List, [], length, slice_index_or}
+use Rattle.std.specs.Prelude.{ℕ, suc, ◌+◌, ◌*◌, ◌%◌, ◌<◌, ◌≡◌, ◌==◌, Bool, IsPermutation, List, [], length, slice_index_or}
 use Rattle.std.specs.List.{concat, filter}
 use Rattle.fleet_model.specs.declared.tables.Tables.{Tables}
 use Rattle.fleet_model.specs.Counts.{weights_of}
 use Rattle.fleet_model.specs.Use.{used_of}
 use Rattle.fleet_model.specs.Schedule.{days_in, leg_on}
 use Rattle.fleet_model.specs.Times.{departure}
-use Rattle.fleet_model.specs.declared.limits.TheConstants.{MINUTES_PER_DAY}
+use Rattle.fleet_model.specs.Period.{day_of_minute}
 use Rattle.ground_turns.specs.Maps.{IsTour}
 use Rattle.lines_of_flying.specs.Lines.{BeginsAfterStart, lines_of}
 use Rattle.rotation_report.specs.Tails.{line_on, lines_by}
@@ -23,7 +23,7 @@ flown_by t flown k days = concat (list_below (λ d. line_on t flown d k) days)
 
 -- a leg departs on this day of the period, days counted from 0
 abbrev pub departs_on : Tables → ℕ → ℕ → ℕ → Bool
-departs_on t f day l = departure t (leg_on l f) / MINUTES_PER_DAY == day
+departs_on t f day l = day_of_minute (departure t (leg_on l f)) == day
 
 -- the first date is the period's first day: on each date those legs of a fleet's tour are flown that depart on its day of the
 -- period, each by one aircraft

@@ -1,7 +1,7 @@
 use entries::Entries;
 
 /// The lines of a fleet's tour, and the aircraft that fly them.
-#[derive(Debug, Drop)]
+#[derive(Drop)]
 pub struct FleetLines {
     pub fleet: u32,
     /// How many aircraft fly the tour.

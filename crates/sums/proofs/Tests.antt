@@ -46,6 +46,10 @@ pub by_either : {X : Type 0} (b c : Bool) → (b || c) ≡ true → (b ≡ true 
 by_either true c e p q = p refl
 by_either false c e p q = q e
 
+pub or_false : (b : Bool) → (b || false) ≡ b
+or_false true = refl
+or_false false = refl
+
 pub other_true : (a b : Bool) → (a || b) ≡ true → a ≡ false → b ≡ true
 other_true true b e off = unlike off
 other_true false b e off = e

@@ -14,6 +14,7 @@ use Rattle.retime_windows.specs.Times.{ReadsWindows, leg_with}
 use Rattle.sched_read.proofs.OtherSettings.{bad_by_day, reads_by_day, with_settings}
 use Rattle.sums.specs.Places.{list_below}
 use Rattle.table_files.specs.Files.{AllBytes, FilesBad, FilesRead, MovedRead, WhereAsked}
+use Rattle.table_files.proofs.Steps.{kept_by_step}
 
 -- ---- one further file
 module _ (settings : Settings) (fit : AreSettings settings) where
@@ -67,20 +68,14 @@ module _ (settings : Settings) (fit : AreSettings settings) where
   step_by true reads keeps t u bytes first then_too read = keeps t u bytes first then_too read
   step_by false reads keeps t u bytes first then_too same = same_by t u first then_too same
 
--- a step keeps the days
-days_kept : (asked : Bool) (reads : Tables → List ℕ → Tables → Type 0) → ((t u : Tables) (bytes : List ℕ) → reads t bytes u → u.settings ≡ t.settings)
-    → (t u : Tables) (bytes : List ℕ) → WhereAsked asked reads t bytes u → u.settings ≡ t.settings
-days_kept true reads kept t u bytes read = kept t u bytes read
-days_kept false reads kept t u bytes same = ap (λ (v : Tables). v.settings) same
-
 moved_settings : (bytes : AllBytes) (options : TableOptions) (t : Tables) → MovedRead bytes options t → t.settings ≡ options.settings
 moved_settings bytes options t read =
-    days_kept options.windows ReadsWindows (λ t u bytes reads. reads.have.settings) read.first t bytes.windows read.windows ∙ read.five.settings_are
+    kept_by_step (λ (v : Tables). v.settings) options.windows ReadsWindows (λ t u bytes reads. reads.have.settings) read.first t bytes.windows read.windows ∙ read.five.settings_are
 
 -- the settings of tables that read
 pub settings_read : (bytes : AllBytes) (options : TableOptions) (t : Tables) → FilesRead bytes options t → t.settings ≡ options.settings
 settings_read bytes options t read =
-    days_kept options.optional ReadsOptional (λ t u bytes reads. reads.have.settings) read.moved t bytes.optional read.optional ∙ moved_settings bytes options read.moved read.before
+    kept_by_step (λ (v : Tables). v.settings) options.optional ReadsOptional (λ t u bytes reads. reads.have.settings) read.moved t bytes.optional read.optional ∙ moved_settings bytes options read.moved read.before
 
 -- ---- all files
 -- the same tables are asked for, and minutes are counted alike

@@ -1,5 +1,5 @@
 -- What a further file comes to, where it is asked for and where it isn't.
-use Rattle.std.proofs.Common.{◌≡◌, true, false, Result, Ok, Err, MatchResult, refl, sym, subst}
+use Rattle.std.proofs.Common.{◌≡◌, ℕ, Bool, true, false, List, Result, Ok, Err, MatchResult, refl, sym, ap, subst}
 use Rattle.csv_fields.specs.Record.{records_of}
 use Rattle.fleet_model.specs.declared.options.TableOptions.{TableOptions}
 use Rattle.fleet_model.specs.declared.refusals.LoadError.{LoadError}
@@ -13,6 +13,12 @@ use Rattle.retime_windows.specs.Windows.{WindowsBad}
 use Rattle.sched_read.specs.Reading.{Reads}
 use Rattle.table_files.specs.Files.{AllBytes, FilesBad, FilesRead, IsFirstBad, MovedRead, WhereAsked}
 use Rattle.table_rows.specs.Outcome.{IsFirstFault}
+
+-- what a step keeps where it is asked for, it always keeps
+pub kept_by_step : {X : Type 0} (part : Tables → X) (asked : Bool) (reads : Tables → List ℕ → Tables → Type 0) → ((t u : Tables) (bytes : List ℕ) → reads t bytes u → part u ≡ part t)
+    → (t u : Tables) (bytes : List ℕ) → WhereAsked asked reads t bytes u → part u ≡ part t
+kept_by_step part true reads kept t u bytes read = kept t u bytes read
+kept_by_step part false reads kept t u bytes same = ap part same
 
 module _ (bytes : AllBytes) (options : TableOptions) where
   pub windows_asked : (first : Tables) (r : Result Tables LoadError) → options.windows ≡ true → Reads bytes.five options.settings first

@@ -11,7 +11,7 @@ use Rattle.fleet_model.specs.Plain.{IsPlain}
 use Rattle.fleet_model.specs.Schedule.{days_in, fleet_of, last_of, leg_of, leg_on, legs_in, no_leg, no_station, parking_of, shifts_in, station_of, stations_in}
 use Rattle.fleet_model.specs.Times.{busy_minutes, departure, laps_of}
 use Rattle.fleet_model.specs.Use.{laps_flown, used_of}
-use Rattle.fleet_model.specs.declared.limits.TheConstants.{MINUTES_PER_DAY}
+use Rattle.fleet_model.specs.Period.{day_of_minute, minute_of_day, minutes_of}
 use Rattle.fleet_model.specs.declared.parts.Connection.{Connection}
 use Rattle.fleet_model.specs.declared.parts.Leg.{Leg}
 use Rattle.fleet_model.specs.declared.parts.Settings.{Settings}
@@ -49,11 +49,11 @@ meet true other trip same way is = rw way (ap (λ (one : RoundTrip). suc one.spo
 meet false other trip same way is = rw way refl
 
 -- two legs of a round trip by what is said of each: one period passes
-adds : (out back next first busy_out busy_back dep block stay : ℕ) → out ≡ dep → first ≡ out → back ≡ (dep + (block + stay)) % MINUTES_PER_DAY → next ≡ back
+adds : (out back next first busy_out busy_back dep block stay : ℕ) → out ≡ dep → first ≡ out → back ≡ minute_of_day (dep + (block + stay)) → next ≡ back
     → busy_out ≡ block + 30 → busy_back ≡ block + 30
-    → dep < MINUTES_PER_DAY → block ≤ 180 → 60 ≤ stay → stay ≤ 120
-    → ((out + busy_out) / MINUTES_PER_DAY + (if nat_lt next ((out + busy_out) % MINUTES_PER_DAY) then 1 else 0))
-    + ((back + busy_back) / MINUTES_PER_DAY + (if nat_lt first ((back + busy_back) % MINUTES_PER_DAY) then 1 else 0)) ≡ 1
+    → dep < minutes_of 1 → block ≤ 180 → 60 ≤ stay → stay ≤ 120
+    → (day_of_minute (out + busy_out) + (if nat_lt next (minute_of_day (out + busy_out)) then 1 else 0))
+    + (day_of_minute (back + busy_back) + (if nat_lt first (minute_of_day (back + busy_back)) then 1 else 0)) ≡ 1
 adds out back next first busy_out busy_back dep block stay out_is first_is back_is next_is busy_is busy_too within short least most =
     rw (next_is, first_is, busy_is, busy_too, back_is, out_is) (one_period dep block stay within short least most)
 
@@ -174,27 +174,27 @@ module _ (trips : List RoundTrip) (settings : Settings) (one : settings.period �
   adding : ℕ → ℕ → ℕ → ℕ → ℕ
   adding out next busy minutes = (out + busy) / minutes + (if nat_lt next ((out + busy) % minutes) then 1 else 0)
 
-  adds_by_day : (l : ℕ) → add l ≡ adding (leg_of t l).dep (leg_of t (partner l)).dep (busy_minutes t (leg_on l 0)) MINUTES_PER_DAY
+  adds_by_day : (l : ℕ) → add l ≡ adding (leg_of t l).dep (leg_of t (partner l)).dep (busy_minutes t (leg_on l 0)) (minutes_of 1)
   unfolding adding
   adds_by_day l =
       ap (λ minutes. adding (departure t (leg_on l 0)) (departure t (leg_on (partner l) 0)) (busy_minutes t (leg_on l 0)) minutes) (period_is_day t one_day)
-      ∙ ap (λ out. adding out (departure t (leg_on (partner l) 0)) (busy_minutes t (leg_on l 0)) MINUTES_PER_DAY) (plain_departure t l 0 plain)
-      ∙ ap (λ next. adding (leg_of t l).dep next (busy_minutes t (leg_on l 0)) MINUTES_PER_DAY) (plain_departure t (partner l) 0 plain)
+      ∙ ap (λ out. adding out (departure t (leg_on (partner l) 0)) (busy_minutes t (leg_on l 0)) (minutes_of 1)) (plain_departure t l 0 plain)
+      ∙ ap (λ next. adding (leg_of t l).dep next (busy_minutes t (leg_on l 0)) (minutes_of 1)) (plain_departure t (partner l) 0 plain)
 
   trip_adds : (i : ℕ) → i < n → add (2 * i) + add (2 * i + 1) ≡ 1
   unfolding adding
   trip_adds i within =
       let trip = trip_of trips i in
       let fits = are.each i within in
-      let dep = from_day_start settings (trip.departs % MINUTES_PER_DAY) in
-      let returns : (leg_of t (2 * i + 1)).dep ≡ (dep + (trip.block + trip.stay)) % MINUTES_PER_DAY =
+      let dep = from_day_start settings (minute_of_day trip.departs) in
+      let returns : (leg_of t (2 * i + 1)).dep ≡ minute_of_day (dep + (trip.block + trip.stay)) =
       ap (λ (leg : Leg). leg.dep) (back_is i within)
-      ∙ ap (λ m. from_day_start settings (m % MINUTES_PER_DAY)) (omega arith)
+      ∙ ap (λ m. from_day_start settings (minute_of_day m)) (omega arith)
       ∙ later trip.departs (trip.block + trip.stay) settings.day_start settings_fit.day_start in
       let busy_out : busy_minutes t (leg_on (2 * i) 0) ≡ trip.block + 30 = busy_is (2 * i) (omega arith) ∙ ap (λ (leg : Leg). leg.block + 30) (out_is i within) in
       let busy_back : busy_minutes t (leg_on (2 * i + 1) 0) ≡ trip.block + 30 = busy_is (2 * i + 1) (omega arith) ∙ ap (λ (leg : Leg). leg.block + 30) (back_is i within) in
       ap (λ x. x + add (2 * i + 1)) (adds_by_day (2 * i))
-      ∙ ap (λ x. adding (leg_of t (2 * i)).dep (leg_of t (partner (2 * i))).dep (busy_minutes t (leg_on (2 * i) 0)) MINUTES_PER_DAY + x) (adds_by_day (2 * i + 1))
+      ∙ ap (λ x. adding (leg_of t (2 * i)).dep (leg_of t (partner (2 * i))).dep (busy_minutes t (leg_on (2 * i) 0)) (minutes_of 1) + x) (adds_by_day (2 * i + 1))
       ∙ adds (leg_of t (2 * i)).dep (leg_of t (2 * i + 1)).dep (leg_of t (partner (2 * i))).dep (leg_of t (partner (2 * i + 1))).dep
       (busy_minutes t (leg_on (2 * i) 0)) (busy_minutes t (leg_on (2 * i + 1) 0)) dep trip.block trip.stay
       (ap (λ (leg : Leg). leg.dep) (out_is i within)) (ap (λ l. (leg_of t l).dep) (back_partner i)) returns (ap (λ l. (leg_of t l).dep) (out_partner i)) busy_out busy_back

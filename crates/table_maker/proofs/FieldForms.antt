@@ -20,7 +20,7 @@ use Rattle.csv_fields.specs.Number.{WritesWhole, whole_of}
 use Rattle.csv_fields.specs.Time.{clock_time_of, colon, two_digits_of}
 use Rattle.csv_fields.proofs.WholeForm.{answer_form}
 use Rattle.entries.specs.Names.{IsName, IsNameByte, IsStationCode, is_name_byte}
-use Rattle.fleet_model.specs.declared.limits.TheConstants.{MINUTES_PER_DAY}
+use Rattle.fleet_model.specs.Period.{minute_of_day}
 use Rattle.plan_text.proofs.NameText.{name_is_plain, name_is_text}
 use Rattle.table_rows.specs.Fields.{as_natural, natural_of}
 use Rattle.table_rows.proofs.ReadParts.{uppercase_decides}
@@ -117,9 +117,9 @@ clock_reads_parts : (h m : ℕ) → h < 24 → m < 60 → clock_time_of (two_dig
 unfolding clock_time_of
 clock_reads_parts h m few less = grind (arith, nat_tests)
 
-pub clock_reads : (minute : ℕ) → clock_time_of (clock_text minute) ≡ Ok (minute % MINUTES_PER_DAY)
+pub clock_reads : (minute : ℕ) → clock_time_of (clock_text minute) ≡ Ok (minute_of_day minute)
 clock_reads minute =
-    let of_day = minute % MINUTES_PER_DAY in
+    let of_day = minute_of_day minute in
     clock_reads_parts (of_day / 60) (of_day % 60) (omega arith) (omega arith) ∙ ap Ok (omega arith)
 
 two_text : (h m : ℕ) → h < 24 → m < 60 → is_utf8 (two_digits_of h ++ colon ∷ two_digits_of m) ≡ true
@@ -130,7 +130,7 @@ two_text h m few less =
 
 pub clock_kept : (minute : ℕ) → IsKept (clock_text minute)
 clock_kept minute =
-    let of_day = minute % MINUTES_PER_DAY in
+    let of_day = minute_of_day minute in
     record {
       plain = two_plain (of_day / 60) (of_day % 60) (omega arith) (omega arith);
       text = two_text (of_day / 60) (of_day % 60) (omega arith) (omega arith);

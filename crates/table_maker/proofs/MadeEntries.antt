@@ -4,7 +4,7 @@ use Rattle.std.specs.Prelude.{if◌then◌else◌}
 use Rattle.std.specs.Fmt.{digits}
 use Rattle.std.proofs.lemmas.Bool.Decides.{nat_tests}
 use Rattle.std.proofs.lemmas.List.Folds.{list_any_none}
-use Rattle.fleet_model.specs.declared.limits.TheConstants.{MINUTES_PER_DAY}
+use Rattle.fleet_model.specs.Period.{minute_of_day, minutes_of}
 use Rattle.fleet_model.specs.declared.parts.Fleet.{Fleet}
 use Rattle.fleet_model.specs.declared.parts.Leg.{Leg}
 use Rattle.fleet_model.specs.declared.parts.PairCost.{PairCost}
@@ -32,7 +32,7 @@ use Rattle.table_maker.proofs.RecordsRead.{cost_one, fleet_one, leg_one, station
 -- a round trip to one of so many spokes, in the ranges of its draws
 pub record IsRoundTrip (spokes : ℕ) (trip : RoundTrip) : Type 0 where
   pub there : trip.spoke < spokes
-  pub departs_fit : trip.departs < MINUTES_PER_DAY
+  pub departs_fit : trip.departs < minutes_of 1
   pub block_least : 60 ≤ trip.block
   pub block_most : trip.block ≤ 180
   pub stay_least : 60 ≤ trip.stay
@@ -56,7 +56,7 @@ fleet_entry trips (suc fleet) = record { name = fleet_name 1; aircraft = trips /
 abbrev pub flown : Settings → List ℕ → Bool → RoundTrip → Leg
 flown settings flight out trip =
     leg_between flight (if out then 0 else suc trip.spoke) (if out then suc trip.spoke else 0)
-    (from_day_start settings ((if out then trip.departs else trip.departs + trip.block + trip.stay) % MINUTES_PER_DAY)) trip.block
+    (from_day_start settings (minute_of_day (if out then trip.departs else trip.departs + trip.block + trip.stay))) trip.block
 
 abbrev pub leg_entry : Settings → List RoundTrip → ℕ → Leg
 leg_entry settings trips leg = flown settings (flight_name leg) (is_out leg) (trip_of trips (leg / 2))
@@ -79,7 +79,7 @@ fleet_reads trips (suc zero) few within = fleet_one (codes "F1" ∷ []) (codes "
 fleet_reads trips (suc (suc k)) few within = absurd (omega arith)
 
 -- the minutes of a flight are those between what the clock shows
-between : (leaves lands block : ℕ) → lands ≡ leaves + block → block < MINUTES_PER_DAY → block_between (leaves % MINUTES_PER_DAY) (lands % MINUTES_PER_DAY) ≡ block
+between : (leaves lands block : ℕ) → lands ≡ leaves + block → block < minutes_of 1 → block_between (minute_of_day leaves) (minute_of_day lands) ≡ block
 between leaves lands block is short = omega (arith, is)
 
 some_minutes : (block : ℕ) → 60 ≤ block → (block == 0) ≡ false

@@ -1,11 +1,12 @@
 -- A record whose fields have their forms reads as its entry, below entries with other names.
-use Rattle.std.proofs.Common.{◌≡◌, ◌==◌, ℕ, ◌%◌, ◌<◌, ◌≤◌, pos, neg_ℤ, Bool, false, List, [], ◌∷◌, length, codes, Some, None, Ok, refl, ap, arith}
+use Rattle.std.proofs.Common.{◌≡◌, ◌==◌, ℕ, ◌<◌, ◌≤◌, pos, neg_ℤ, Bool, false, List, [], ◌∷◌, length, codes, Some, None, Ok, refl, ap, arith}
 use Rattle.std.specs.Fmt.{decimal, digits}
 use Rattle.std.proofs.lemmas.Int.{ints}
 use Rattle.std.proofs.lemmas.Bool.{lt-leb}
 use Rattle.csv_fields.specs.Flag.{flag_text}
 use Rattle.entries.specs.Names.{IsName, IsStationCode}
-use Rattle.fleet_model.specs.declared.limits.TheConstants.{MAX_AIRCRAFT, MAX_COST, MAX_FLEETS, MAX_GROUND_MINUTES, MAX_LEGS, MAX_STATIONS, MAX_THROUGHS, MINUTES_PER_DAY}
+use Rattle.fleet_model.specs.declared.limits.TheConstants.{MAX_AIRCRAFT, MAX_COST, MAX_FLEETS, MAX_GROUND_MINUTES, MAX_LEGS, MAX_STATIONS, MAX_THROUGHS}
+use Rattle.fleet_model.specs.Period.{minute_of_day}
 use Rattle.fleet_model.specs.declared.parts.Settings.{Settings}
 use Rattle.fleet_tables.specs.Costs.{cost_read}
 use Rattle.fleet_tables.specs.Fleets.{fleet_read}
@@ -46,9 +47,9 @@ first_day settings one = ap as_natural (whole_reads 1 (pos 1) (pos settings.peri
 
 pub leg_one : (stations : List (List ℕ)) (settings : Settings) (earlier : List (List ℕ)) (flight from to : List ℕ) (a b leaves lands block : ℕ) → settings.period ≡ 1
     → IsName flight → IsStationCode from → IsStationCode to → number_of from stations ≡ Some a → number_of to stations ≡ Some b → (a == b) ≡ false
-    → is_among flight earlier ≡ false → length earlier < 1000 → block_between (leaves % MINUTES_PER_DAY) (lands % MINUTES_PER_DAY) ≡ block → (block == 0) ≡ false
+    → is_among flight earlier ≡ false → length earlier < 1000 → block_between (minute_of_day leaves) (minute_of_day lands) ≡ block → (block == 0) ≡ false
     → leg_read stations settings form.Old earlier (flight ∷ from ∷ clock_text leaves ∷ to ∷ clock_text lands ∷ [])
-    ≡ Ok (leg_between flight a b (from_day_start settings (leaves % MINUTES_PER_DAY)) block)
+    ≡ Ok (leg_between flight a b (from_day_start settings (minute_of_day leaves)) block)
 unfolding leg_read digits
 leg_one stations settings earlier flight from to a b leaves lands block one form from_form to_form from_is to_is away fresh few is some =
     let text = (name_kept flight form).text in
@@ -56,7 +57,7 @@ leg_one stations settings earlier flight from to a b leaves lands block one form
     let to_text = (name_kept to (code_is_name to to_form)).text in
     rw (text, from_text, (clock_kept leaves).text, to_text, (clock_kept lands).text)
     (rw (name_reads flight form, first_day settings one, code_reads from from_form, clock_reads leaves, code_reads to to_form, clock_reads lands)
-    (rw (fresh, from_is, to_is, is, some, away, lt-leb MAX_LEGS (length earlier) few, one_day settings (leaves % MINUTES_PER_DAY) one) refl))
+    (rw (fresh, from_is, to_is, is, some, away, lt-leb MAX_LEGS (length earlier) few, one_day settings (minute_of_day leaves) one) refl))
 
 pub cost_one : (flights fleets earlier : List (List ℕ)) (flight fleet : List ℕ) (l f cost : ℕ) → IsName flight → IsName fleet
     → number_of flight flights ≡ Some l → number_of fleet fleets ≡ Some f → cost < 10000 → is_among (l ∷ f ∷ []) earlier ≡ false

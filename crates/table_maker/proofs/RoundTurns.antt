@@ -1,8 +1,8 @@
 -- A leg and the other leg of its round trip: numbers, and the sum of what two such legs add.
-use Rattle.std.proofs.Common.{◌≡◌, ℕ, ◌+◌, ◌-◌, ◌*◌, ◌/◌, ◌%◌, ◌<◌, ◌≤◌, true, false, not, nat_lt, arith}
+use Rattle.std.proofs.Common.{◌≡◌, ℕ, ◌+◌, ◌-◌, ◌*◌, ◌/◌, ◌<◌, ◌≤◌, true, false, not, nat_lt, arith}
 use Rattle.std.specs.Prelude.{if◌then◌else◌}
 use Rattle.std.proofs.lemmas.Bool.Decides.{nat_tests}
-use Rattle.fleet_model.specs.declared.limits.TheConstants.{MINUTES_PER_DAY}
+use Rattle.fleet_model.specs.Period.{day_of_minute, minute_of_day, minutes_of}
 use Rattle.table_maker.specs.Fields.{is_out}
 
 -- the other leg of the round trip
@@ -41,13 +41,13 @@ pub back_partner : (i : ℕ) → partner (2 * i + 1) ≡ 2 * i
 back_partner i = grind (arith, nat_tests)
 
 -- a minute so many after another, both counted from the day start
-pub later : (leaves more day_start : ℕ) → day_start < MINUTES_PER_DAY → ((leaves + more) % MINUTES_PER_DAY + MINUTES_PER_DAY - day_start) % MINUTES_PER_DAY
-    ≡ ((leaves % MINUTES_PER_DAY + MINUTES_PER_DAY - day_start) % MINUTES_PER_DAY + more) % MINUTES_PER_DAY
+pub later : (leaves more day_start : ℕ) → day_start < minutes_of 1 → minute_of_day (minute_of_day (leaves + more) + minutes_of 1 - day_start)
+    ≡ minute_of_day (minute_of_day (minute_of_day leaves + minutes_of 1 - day_start) + more)
 later leaves more day_start within = omega (arith, within)
 
 -- One period passes from a departure from the hub to the same departure in the next period, where both flights, two turns
 -- of 30 minutes and a stay of at least 60 take less than that: it starts in a flight or in a wait.
-pub one_period : (departs block stay : ℕ) → departs < MINUTES_PER_DAY → block ≤ 180 → 60 ≤ stay → stay ≤ 120
-    → ((departs + (block + 30)) / MINUTES_PER_DAY + (if nat_lt ((departs + (block + stay)) % MINUTES_PER_DAY) ((departs + (block + 30)) % MINUTES_PER_DAY) then 1 else 0))
-    + (((departs + (block + stay)) % MINUTES_PER_DAY + (block + 30)) / MINUTES_PER_DAY + (if nat_lt departs (((departs + (block + stay)) % MINUTES_PER_DAY + (block + 30)) % MINUTES_PER_DAY) then 1 else 0)) ≡ 1
+pub one_period : (departs block stay : ℕ) → departs < minutes_of 1 → block ≤ 180 → 60 ≤ stay → stay ≤ 120
+    → (day_of_minute (departs + (block + 30)) + (if nat_lt (minute_of_day (departs + (block + stay))) (minute_of_day (departs + (block + 30))) then 1 else 0))
+    + (day_of_minute (minute_of_day (departs + (block + stay)) + (block + 30)) + (if nat_lt departs (minute_of_day (minute_of_day (departs + (block + stay)) + (block + 30))) then 1 else 0)) ≡ 1
 one_period departs block stay within short least most = grind (arith, nat_tests)

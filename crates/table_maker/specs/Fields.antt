@@ -3,7 +3,7 @@
 use Rattle.std.specs.Prelude.{ℕ, zero, suc, ◌+◌, ◌/◌, ◌%◌, ◌==◌, Bool, true, if◌then◌else◌, List, [], ◌∷◌, ◌++◌, codes}
 use Rattle.std.specs.Fmt.{decimal}
 use Rattle.csv_fields.specs.Time.{colon, two_digits_of}
-use Rattle.fleet_model.specs.declared.limits.TheConstants.{MINUTES_PER_DAY}
+use Rattle.fleet_model.specs.Period.{minute_of_day}
 
 abbrev pub hub_code : List ℕ
 hub_code = codes "HUB"
@@ -34,4 +34,4 @@ flight_name leg = (if is_out leg then codes "O" else codes "R") ++ decimal (leg 
 
 -- a minute from some midnight on, as the clock shows it
 abbrev pub clock_text : ℕ → List ℕ
-clock_text minute = two_digits_of (minute % MINUTES_PER_DAY / 60) ++ colon ∷ two_digits_of (minute % MINUTES_PER_DAY % 60)
+clock_text minute = two_digits_of (minute_of_day minute / 60) ++ colon ∷ two_digits_of (minute_of_day minute % 60)

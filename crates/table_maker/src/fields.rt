@@ -5,7 +5,7 @@ ghost use Rattle.plan_text.specs.Text.{line_of};
 ghost use Rattle.table_maker.specs.Fields.{clock_text, fleet_name, flight_name, is_out, spoke_code};
 
 use entries::NoMemory;
-use fleet_model::limits::MINUTES_PER_DAY;
+use fleet_model::period::minute_of_day;
 use std::alloc::Global;
 
 /// The code of the hub.
@@ -47,7 +47,7 @@ pub fn flight_name(alloc: Global, leg: usize) -> Result<String, NoMemory>
 pub fn clock_text(minute: u32) -> [u8; 5]
     ensures { result ≡ clock_text minute }
 {
-    let of_day = minute % u32::from(MINUTES_PER_DAY);
+    let of_day = minute_of_day(minute);
     let hours = (of_day / 60) as u8;
     let minutes = (of_day % 60) as u8;
     [

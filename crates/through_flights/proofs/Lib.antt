@@ -10,3 +10,4 @@ pub mod ListedTurns
 pub mod Numbers
 pub mod Choices
 pub mod NoneMore
+pub mod PushedTurns

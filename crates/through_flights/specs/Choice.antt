@@ -8,6 +8,7 @@ use Rattle.fleet_model.specs.Schedule.{legs_in}
 use Rattle.ground_turns.specs.Maps.{turn_at}
 use Rattle.ground_turns.specs.Throughs.{IsThroughSet, IsThroughTurn, value_of, value_of_set, worth_at}
 use Rattle.ground_turns.specs.Turns.{IsClean, IsTurn}
+use Rattle.through_flights.specs.declared.choosing.Throughs.{Throughs}
 use Rattle.through_flights.specs.Worths.{pair_of}
 
 -- a number of a leg
@@ -32,6 +33,14 @@ pub record AreListed (t : Tables) (pairs : List Connection) : Type 0 where
 -- all numbers of the legs, summed
 abbrev pub sum_of : List ℤ → ℕ → ℤ
 sum_of numbers legs = sum_below_ℤ (number_at numbers) legs
+
+-- pairs, their value and numbers that show that none is worth more
+pub record IsChoice (t : Tables) (a : List ℕ) (f : ℕ) (chosen : Throughs) : Type 0 where
+  pub through_set : IsThroughSet t a f chosen.pairs
+  pub listed : AreListed t chosen.pairs
+  pub value : chosen.value ≡ value_of_set t chosen.pairs
+  pub reach : ReachTurns t a f chosen.u chosen.v
+  pub sums : (sum_of chosen.u (legs_in t) +ℤ sum_of chosen.v (legs_in t)) ≡ chosen.value
 
 -- no through set is worth more than numbers that reach all turns sum to
 abbrev pub NoneIsWorthMore : Type 0

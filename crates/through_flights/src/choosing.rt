@@ -8,7 +8,7 @@ ghost use Rattle.fleet_model.specs.Legal.{IsLegal};
 ghost use Rattle.fleet_model.specs.Schedule.{fleets_in, legs_in};
 ghost use Rattle.fleet_model.specs.Plain.{IsPlain};
 ghost use Rattle.ground_turns.specs.Throughs.{IsThroughSet, value_of_set};
-ghost use Rattle.through_flights.specs.Choice.{AreListed, ReachTurns, sum_of, turns_below};
+ghost use Rattle.through_flights.specs.Choice.{AreListed, IsChoice, ReachTurns, sum_of, turns_below};
 ghost use Rattle.through_flights.specs.Chosen.{chosen_value, is_chosen, own_number};
 ghost use Rattle.through_flights.specs.Worths.{AreTurnWorths};
 ghost use Rattle.through_flights.specs.declared.worths.TheConstants.{CLEAN_WORTH, MAX_VALUE};
@@ -21,7 +21,7 @@ use fleet_model::{Assignment, Connection, Tables};
 use std::alloc::Global;
 
 /// The through pairs of a fleet, with numbers which show that no choice is worth more.
-#[derive(Debug, Drop)]
+#[derive(Drop)]
 pub struct Throughs {
     /// The pairs, by the leg that arrives.
     pub pairs: Entries<Connection>,
@@ -58,14 +58,34 @@ pub fn choose(
         longest: longest_waits(alloc, tables, plan, fleet)?,
     };
     let table = turn_worths(alloc, &turns)?;
-    let worths = table.as_slice();
+    matched(alloc, &turns, table.as_slice())
+}
+
+/// The through pairs of a matching that is worth most, with numbers of its duals.
+fn matched(
+    alloc: Global,
+    turns: &FleetTurns<'_>,
+    worths: &[Entries<u64>],
+) -> Result<Throughs, NoMemory>
+    requires plain { IsPlain turns.now.tables.now }
+    requires plan { IsLegal turns.now.tables.now turns.now.plan.now }
+    requires fleet { turns.now.fleet < fleets_in turns.now.tables.now }
+    requires worths { AreTurnWorths turns.now.tables.now turns.now.plan.now turns.now.fleet worths.now }
+    ensures { IfOk result (IsChoice turns.now.tables.now turns.now.plan.now turns.now.fleet) }
+{
     let matching = best_matching(alloc, worths)?;
     let columns = &matching.columns;
     Ok(Throughs {
         pairs: chosen_pairs(alloc, worths, columns)?,
         value: chosen_value(worths, columns),
-        u: own_numbers(alloc, plan, fleet, &matching.row_duals, CLEAN_WORTH)?,
-        v: own_numbers(alloc, plan, fleet, &matching.column_duals, 0)?,
+        u: own_numbers(
+            alloc,
+            turns.plan,
+            turns.fleet,
+            &matching.row_duals,
+            CLEAN_WORTH,
+        )?,
+        v: own_numbers(alloc, turns.plan, turns.fleet, &matching.column_duals, 0)?,
     })
 }
 

@@ -18,7 +18,7 @@ pub const MAX_VALUE: u64 = 1_000_000_000_000;
 pub const CLEAN_WORTH: u64 = 1_000_000_000_000_001;
 
 /// A fleet's part of a plan, with the longest wait of a clean turn from each leg.
-#[derive(Debug, Drop)]
+#[derive(Drop)]
 pub struct FleetTurns<'a> {
     pub tables: &'a Tables,
     pub plan: &'a Assignment,

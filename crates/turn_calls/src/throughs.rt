@@ -1,6 +1,6 @@
 //! The choice of through pairs.
 ghost use Rattle.std.specs.Prelude.{◌<◌, IfSome};
-ghost use Rattle.fleet_model.specs.declared.limits.TheConstants.{MINUTES_PER_DAY};
+ghost use Rattle.fleet_model.specs.Period.{minutes_of};
 ghost use Rattle.fleet_model.specs.Legal.{IsLegal};
 
 use crate::assertions::assert_same;
@@ -38,7 +38,7 @@ const TWO_VISITS: Files = Files {
 
 /// The tables of five files, with the day start at midnight and this longest wait of a through pair.
 fn read(alloc: Global, files: &Files, through_max: u16) -> Result<Tables, LoadError>
-    requires { through_max < MINUTES_PER_DAY }
+    requires { through_max < minutes_of 1 }
 {
     let settings = Settings {
         through_max,
@@ -74,7 +74,7 @@ fn chosen(
     fleets: &[u32],
     fleet: u32,
 ) -> Result<Option<Throughs>, LoadError>
-    requires { through_max < MINUTES_PER_DAY }
+    requires { through_max < minutes_of 1 }
 {
     let tables = read(alloc, files, through_max)?;
     Ok(chosen_in(alloc, &tables, fleets, fleet)?)

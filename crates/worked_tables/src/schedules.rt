@@ -1,7 +1,8 @@
 //! Sets of tables, as the bytes of their files.
 ghost use Rattle.std.specs.Prelude.{◌<◌, ◌≤◌};
 ghost use Rattle.fleet_model.specs.Limits.{AreSettings};
-ghost use Rattle.fleet_model.specs.declared.limits.TheConstants.{MAX_PERIOD, MINUTES_PER_DAY};
+ghost use Rattle.fleet_model.specs.Period.{minutes_of};
+ghost use Rattle.fleet_model.specs.declared.limits.TheConstants.{MAX_PERIOD};
 
 use fleet_model::{LoadError, Settings, Tables};
 use sched_read::load;
@@ -127,7 +128,7 @@ pub const NO_LEGS: Files = Files {
 
 /// Settings with this day start and a period of one day.
 pub fn starting(day_start: u16) -> Settings
-    requires { day_start < MINUTES_PER_DAY }
+    requires { day_start < minutes_of 1 }
     ensures { AreSettings result }
 {
     repeating(day_start, 1)
@@ -135,7 +136,7 @@ pub fn starting(day_start: u16) -> Settings
 
 /// Settings with this day start and a period of so many days.
 pub fn repeating(day_start: u16, period: u16) -> Settings
-    requires day_start { day_start < MINUTES_PER_DAY }
+    requires day_start { day_start < minutes_of 1 }
     requires some_days { 1 ≤ period }
     requires few_days { period ≤ MAX_PERIOD }
     ensures { AreSettings result }
@@ -154,7 +155,7 @@ pub fn read(alloc: Global, files: &Files) -> Result<Tables, LoadError> {
 
 /// The tables of five files, with this day start and a period of one day.
 pub fn read_from(alloc: Global, files: &Files, day_start: u16) -> Result<Tables, LoadError>
-    requires { day_start < MINUTES_PER_DAY }
+    requires { day_start < minutes_of 1 }
 {
     read_by(alloc, files, starting(day_start))
 }

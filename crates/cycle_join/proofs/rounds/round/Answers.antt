@@ -1,7 +1,7 @@
-use Rattle.std.proofs.Common.{◌≡◌, sym, subst, arith}
+use Rattle.std.proofs.Common.{◌≡◌, [], ◌∷◌, ◌++◌, length, sym, ◌∙◌, ap, subst, arith}
 use Rattle.ground_turns.specs.Maps.{HasTurn, arrivals_of}
-use Rattle.cycle_join.specs.Rounds.{turn_between}
-use Rattle.cycle_join.proofs.Paths.{last_arrives_once, not_round, path_on}
+use Rattle.cycle_join.specs.Rounds.{IsPath, turn_between}
+use Rattle.cycle_join.proofs.Paths.{come_round, last_arrives_once, not_round, one_leg, path_on}
 use Rattle.cycle_join.proofs.rounds.round.Goals as goal
 
 pub follower-leg-requires : goal.follower-leg-requires
@@ -17,6 +17,18 @@ loop-preserved c = record {
       (subst (λ turns. HasTurn turns (turn_between c.loop.leg c.follower-leg.result)) c.deref.ensures.value c.follower-leg.ensures) c.if-leg-first.false;
   long = let items = c.in_ok-push.ensures.len in omega (arith, items, c.loop.invariant.long);
 }
+
+pub loop-init : goal.loop-init
+loop-init c = record {
+  path = subst (λ legs. IsPath c.args.cycles.now.turns.items c.args.first (legs ++ c.args.first ∷ [])) (sym c.new-legs.ensures.items) (one_leg c.args.cycles.now.turns.items c.args.first);
+  long = ap length c.new-legs.ensures.items;
+}
+
+pub returns-then-leg-first : goal.returns-then-leg-first
+returns-then-leg-first c =
+    come_round c.args.ground.now.tables.now c.args.ground.now.plan.now c.args.ground.now.fleet c.args.cycles.now.turns.items c.requires.cycles.fitting.map c.args.first c.loop.leg c.loop.legs.items
+    c.from_vec.result c.follower-leg.result (c.from_vec.ensures ∙ c.in_ok-push.ensures.items) c.loop.invariant.path
+    (subst (λ turns. HasTurn turns (turn_between c.loop.leg c.follower-leg.result)) c.deref.ensures.value c.follower-leg.ensures) c.if-leg-first.true
 
 pub unreachable-requires : goal.unreachable-requires
 unreachable-requires c =

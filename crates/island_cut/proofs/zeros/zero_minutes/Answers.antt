@@ -1,6 +1,7 @@
-use Rattle.std.proofs.Common.{List, ℕ, false, sym, ◌∙◌, subst, arith}
+use Rattle.std.proofs.Common.{◌≡◌, List, ℕ, false, sym, ◌∙◌, ap, subst, arith}
 use Rattle.fleet_model.specs.Counts.{weights_of}
-use Rattle.island_cut.specs.Zeros.{StaysSo}
+use Rattle.fleet_model.specs.Schedule.{period_of}
+use Rattle.island_cut.specs.Zeros.{StaysSo, zeros_below}
 use Rattle.island_cut.proofs.QuietMinutes.{IsWalked, begun, not_counted, one_more}
 use Rattle.island_cut.proofs.zeros.zero_minutes.Goals as goal
 use Rattle.island_cut.proofs.zeros.zero_minutes.Goals.{then-minute-next, else-minute-next}
@@ -23,3 +24,8 @@ loop-minute-preserved c =
           next (w.zero-is ∙ as_before.0) (omega (arith, w.next-is, as_before.1.0))
           (subst (StaysSo c.args.tables.now (weights_of c.args.plan.now) c.args.fleet c.args.station c.loop-minute.minute) (sym w.next-is) as_before.1.1)
     ]
+
+pub returns : goal.returns
+returns c =
+    let all : c.loop-minute.minute ≡ period_of c.args.tables.now = omega (arith, c.loop-minute-test.false, c.loop-minute.auto.minute-end, c.period-minute-end.ensures.value) in
+    c.from_vec.ensures ∙ c.loop-minute.invariant.found ∙ ap (zeros_below c.args.tables.now (weights_of c.args.plan.now) c.args.fleet c.args.station) all

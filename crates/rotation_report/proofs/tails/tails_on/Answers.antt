@@ -30,3 +30,8 @@ push_tails-requires-clause-tour c =
     let within : n < length c.args.rotations.now = omega arith in
     let same : c.index-rotations-fleet.result ≡ rotation_of c.args.rotations.now n = c.index-rotations-fleet.is ∙ get_or_default c.args.rotations.now n c.index-rotations-fleet.result no_rotation within in
     subst (λ made. IsFlown c.args.tables.now c.args.plan.now n (last_made made)) (sym same) (c.requires.tours.each n within)
+
+pub returns : goal.returns
+returns c =
+    let all : c.loop-fleet.fleet ≡ length c.args.rotations.now = omega arith in
+    c.loop-fleet.invariant ∙ ap (fleets_tails c.args.tables.now c.args.plan.now c.args.rotations.now (map day_on c.args.dates.now)) all

@@ -1,5 +1,6 @@
+//! A plan with a bound, that there is none, or a bound alone.
 ghost use Rattle.std.specs.Prelude.{◌≡◌};
-ghost use Rattle.branch_bound.specs.Solved.{tree_of};
+ghost use Rattle.solutions.specs.Solved.{tree_of};
 
 use dual_bound::Tree;
 use fleet_model::Assignment;

@@ -1,0 +1,155 @@
+"""Other times and legs that may be left out beside the tables, legs that a planner adds or changes there, and a plan that brings a
+flight to one date twice."""
+
+from schedule_lines import leg
+from ssim_tests.features import DATE, back, out
+from ssim_tests.plans import file_of, planned
+from ssim_tests.trying import call, records, scratch, standing
+
+FLEETS = "fleet,aircraft,turn\n320,9,30\n"
+TWO = [out(), back(), out(7, "ZRH 0700 +0100 GVA 0745 +0100"), out(7, "GVA 0830 +0100 LIS 1010 +0000", sequence=2)]
+# Of each case the option of the dates, the caller's file of other times and of legs that may be left out, or None, and the records of
+# tables by file.
+GIVEN = {
+    "other times of a leg": ("--date", "flight,shift,extra\nZZ2,-5,100\nZZ2,010,250\nZZ7B,5,-1\n", None, {
+        "windows.csv": ["ZZ7B,5,-1", "ZZ2,-5,100", "ZZ2,010,250"],
+        "plan.csv": ["ZZ7A,320,0", "ZZ1,320,0", "ZZ7B,320,0", "ZZ2,320,0"],
+    }),
+    "other times of each leg, but of one that has its own": ("--date", "flight,shift,extra\n*,-5,100\n*,5,100\nZZ1,10,0\n", None, {
+        "windows.csv": ["ZZ7A,-5,100", "ZZ7A,5,100", "ZZ1,10,0", "ZZ7B,-5,100", "ZZ7B,5,100", "ZZ2,-5,100", "ZZ2,5,100"],
+    }),
+    "legs that may be left out": ("--date", None, "flight,skip\nZZ2,0\nZZ1,8000\n", {
+        "optional.csv": ["ZZ1,8000", "ZZ2,0"],
+        "plan.csv": ["ZZ7A,320", "ZZ1,320", "ZZ7B,320", "ZZ2,320"],
+    }),
+    "both of a week, one leg's on a day of its own": ("--week", "flight,shift,extra\nZZ1,5,1\nZZ1D3,-5,2\n", "flight,skip\nZZ7BD6,3\nZZ2D7,4\n", {
+        "windows.csv": ["ZZ1D1,5,1", "ZZ1D2,5,1", "ZZ1D3,-5,2", "ZZ1D4,5,1", "ZZ1D5,5,1", "ZZ1D6,5,1", "ZZ1D7,5,1"],
+        "optional.csv": ["ZZ7BD6,3", "ZZ2D7,4"],
+    }),
+    "neither": ("--date", "flight,shift,extra\n", "flight,skip\n", {"windows.csv": [], "optional.csv": [], "plan.csv": [
+        "ZZ7A,320,0", "ZZ1,320,0", "ZZ7B,320,0", "ZZ2,320,0",
+    ]}),
+}  # fmt: skip
+# Of each caller's file of other times what is told of it.
+REFUSED = {
+    "flight,minutes,extra\n": "record 1: flight,minutes,extra, it should be flight,shift,extra",
+    "flight,shift,extra\nZZ1,0,5\n": 'record 2: shift is "0": each leg may depart at its own time anyway',
+    "flight,shift,extra\nZZ1,721,5\n": 'record 2: shift is "721": it may be -720 to 720',
+    "flight,shift,extra\nzz1,5,5\n": 'record 2: flight is "zz1": capital letters are wanted (write ZZ1)',
+    "flight,shift,extra\nZZ1,5,5\nZZ1,05,6\n": "record 3: ZZ1 5 stands twice, it should stand once",
+    "flight,shift,extra\n" + "".join(f"*,{it},0\n" for it in range(1, 10)): "9 records of *, it should have 8 at most",
+}
+# Of each change of legs.csv and plan.csv, a text there and what it becomes, the status and what is told.
+FERRY = "FF1,LHR,10:00,ZRH,11:40"
+CHANGED = {
+    "a leg that is added and flown": (
+        (("ZZ2,LHR", f"{FERRY}\nZZ2,LHR"), ("ZZ2,320", "FF1,320\nZZ2,320")), 0,
+        "0 legs have another aircraft type, and 0 records are new\nssim: 1 legs of legs.csv aren't in the file, and aren't written into it: FF1 by 320",
+    ),
+    "a leg that is added and left out": (
+        (("ZZ2,LHR", f"{FERRY}\nZZ2,LHR"), ("ZZ2,320", "FF1,-\nZZ2,320")), 0, "0 legs have another aircraft type, and 0 records are new",
+    ),
+    "a leg of the plan that no table has": (
+        (("", ""), ("ZZ2,320", "FF1,320\nZZ2,320")), 6, "day/plan.csv record 3: the flight is FF1, it should be ZZ2 as in names.csv",
+    ),
+    "a departure that is changed in legs.csv": (
+        (("ZZ2,LHR,11:00", "ZZ2,LHR,11:10"), ("", "")), 6,
+        "day/names.csv record 3: ZZ2 is LHR 11:00 ZRH 11:50 by line 4 of season, it should be LHR 11:10 ZRH 11:50 as in legs.csv, in the file that "
+        "the tables are of",
+    ),
+    "a day that is changed in legs.csv": (
+        (("ZZ1D2,2,", "ZZ1D2,3,"), ("", "")), 6,
+        "day/names.csv record 4: ZZ1D2 is 2 ZRH 07:00 LHR 09:50 by line 3 of season, it should be 3 ZRH 07:00 LHR 09:50 as in legs.csv, in the file "
+        "that the tables are of",
+    ),
+    "a leg that is taken out of legs.csv": (
+        (("ZZ2,LHR,11:00,ZRH,11:50\n", ""), ("", "")), 6, "day/names.csv record 3: ZZ2 is LHR 11:00 ZRH 11:50 by line 4 of season, it should be in legs.csv",
+    ),
+}  # fmt: skip
+
+
+def given(folder, lines, option, windows, optional):
+    """Calls `tables` with a caller's files, and returns its status and what was told."""
+    files = {"season": lines, "fleets": FLEETS, "windows": windows, "optional": optional}
+    for name, data in files.items():
+        (folder / name).write_text(data or "", encoding="ascii")
+    words = [it for name in ("windows", "optional") if files[name] for it in (f"--{name}", folder / name)]
+    status, told = call("tables", folder / "season", folder / "day", option, DATE, "--fleets", folder / "fleets", *words)
+    return status, told.replace(f"{folder}/", "")
+
+
+def try_given(tally):
+    season = "".join(f"{it}\n" for it in file_of(*TWO))
+    for name, (option, windows, optional, wanted) in GIVEN.items():
+        with scratch() as folder:
+            status, told = given(folder, season, option, windows, optional)
+            came = {it: records(folder / "day", it) for it in wanted} if not status else told
+            tally.equal(name, wanted, came)
+            status, told = call("plan", folder / "season", folder / "day", folder / "new")
+            is_same = not status and (folder / "new").read_bytes() == (folder / "season").read_bytes()
+            tally.equal(f"{name}, as filed", (True, told), (is_same, told))
+    for windows, line in REFUSED.items():
+        with scratch() as folder:
+            came = given(folder, season, "--date", windows, None)
+            says = "windows has" if line.endswith("at most") else "windows"
+            tally.equal(f"other times {line}", (6, f"ssim: {says} {line}\n", None), (*came, standing(folder / "day")))
+
+
+def try_told(tally):
+    """What is told of such tables, and of those that stand there already."""
+    season = "".join(f"{it}\n" for it in file_of(*TWO))
+    with scratch() as folder:
+        _, first = given(folder, season, "--date", "flight,shift,extra\nZZ1,5,0\nZZ3,5,0\n", "flight,skip\n*,0\n")
+        told = "4 legs depart on 2026-11-30 in UTC: 4 stations, 1 aircraft types\n"
+        both = "windows.csv has 1 records, for calls with --windows\n1 flights of windows aren't among these legs: ZZ3\n"
+        wanted = f"{told}{both}optional.csv has 4 records, for calls with --optional\n"
+        tally.equal("what is told of other times", wanted, first.replace("ssim: ", ""))
+        held = (folder / "day" / "optional.csv").read_bytes()
+        _, then = given(folder, season, "--date", "flight,shift,extra\n*,5,0\n", None)
+        wanted = f"{told}windows.csv has 4 records, for calls with --windows\noptional.csv stays in day as it was\n"
+        tally.equal("what is told of a table that stays", (wanted, held), (then.replace("ssim: ", ""), (folder / "day" / "optional.csv").read_bytes()))
+    legs = [out(it, kind="320") for it in range(1, 301)]
+    with scratch() as folder:
+        (folder / "costs").write_text("fleet,departure,minute,longest,closed\n" + "".join(f"3{it},1,1,,\n" for it in range(20, 29)), encoding="ascii")
+        (folder / "many").write_text("fleet,aircraft,turn\n" + "".join(f"3{it},9,30\n" for it in range(20, 29)), encoding="ascii")
+        (folder / "windows").write_text("flight,shift,extra\n" + "".join(f"*,{it},0\n" for it in range(1, 9)), encoding="ascii")
+        (folder / "season").write_text("".join(f"{it}\n" for it in file_of(*legs)), encoding="ascii")
+        words = [it for name, file in (("fleets", "many"), ("costs", "costs"), ("windows", "windows")) for it in (f"--{name}", folder / file)]
+        status, told = call("tables", folder / "season", folder / "day", "--date", DATE, *words)
+        line = "24,300 pairs of a leg and a fleet at their times, and tables have 20,000 at most: ask for fewer legs, or give fewer times or fleets"
+        tally.equal("too many times", (6, f"ssim: {folder}/windows: {line}\n", None), (status, told, standing(folder / "day")))
+
+
+def try_changed(tally):
+    """Legs that a planner adds to legs.csv or changes there."""
+    for name, (changes, status, line) in CHANGED.items():
+        with scratch() as folder:
+            lines = file_of(out(), back())
+            planned(folder, lines, {}, option="--week" if "a day" in name else "--date")
+            for table, (old, new) in zip(("legs.csv", "plan.csv"), changes):
+                path = folder / "day" / table
+                path.write_text(path.read_text(encoding="ascii").replace(old, new, 1), encoding="ascii")
+            (folder / "new").unlink()
+            came, told = call("plan", folder / "season", folder / "day", folder / "new")
+            is_written = (folder / "new").exists() and (folder / "new").read_bytes() == (folder / "season").read_bytes()
+            tally.equal(name, (status, f"ssim: {line}\n", status == 0), (came, told.replace(f"{folder}/", ""), is_written))
+
+
+def try_doubled(tally):
+    """At 00:05 a leg arrives on the day before, over the date line. Twelve hours earlier no date variation says when it arrives, so its
+    dates of operation are moved: to those of Mondays, where it has them."""
+    line = "1 flights have a date of operation twice, which date variations can't say otherwise: ZZ 1 on 2026-11-30"
+    for days, words, wanted in (("12", (), [line]), ("2", (), []), ("12", ("--whole-season",), [line.replace("11-30", "10-26")])):
+        with scratch() as folder:
+            one = leg("ZZ", 1, "AKL 0005 +1300 HNL 0835 -1000", "320", days, shifts="0A")
+            planned(folder, file_of(one, out(2)), {}, shifts={"ZZ1": -720})
+            _, told = call("plan", folder / "season", folder / "day", folder / "new", *words)
+            came = [it[6:] for it in told.splitlines() if "twice" in it]
+            tally.equal(f"a flight twice on a date, of {days} {words}", wanted, came)
+
+
+def try_all(tally):
+    try_given(tally)
+    try_told(tally)
+    try_changed(tally)
+    try_doubled(tally)

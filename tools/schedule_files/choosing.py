@@ -1,0 +1,61 @@
+"""Other times of legs, and legs that may be left out, as files of the caller's say."""
+
+from hints.forms import FIELDS, name
+from hints.records import ASKED, HEADERS, Unread
+from hints.refused_tables import MOST_TRIPLES, MOST_WINDOWS
+from schedule_files.files import judged
+
+# What stands for each leg that has no record of its own.
+EACH = "*"
+
+
+class Asked:
+    """A table that an option of the program has read, by a caller's file with its header: the records of the legs, and the flights there
+    that no leg has. A flight there is a leg's name, or that without the day, or `*` for each other leg."""
+
+    def __init__(self, option, path, flown, costs):
+        self.option, self.table, self.path = option, ASKED[option], path
+        _, *forms = FIELDS[self.table]
+        found = {}
+        for flight, *rest in judged(path, HEADERS[self.table], (flight_or_each, *forms), pair if option == "windows" else None):
+            found.setdefault(flight, []).append(rest)
+        self.records = [(it.name, *rest) for it in flown for rest in own_of(it, found)]
+        self.unknown = sorted(set(found) - {EACH} - {key for it in flown for key in keys_of(it)})
+        if option == "windows":
+            self.check_count(found)
+            self.check_times(costs)
+
+    def check_count(self, found):
+        """Refuses more records of a flight than a leg may have."""
+        most = max(found, key=lambda it: len(found[it]), default=None)
+        if most and len(found[most]) > MOST_WINDOWS:
+            raise Unread(f"{self.path} has {len(found[most])} records of {most}, it should have {MOST_WINDOWS} at most")
+
+    def check_times(self, costs):
+        """Refuses more pairs of a leg and a fleet, each as often as the leg has times, than tables may have."""
+        own = {}
+        for flight, *_ in self.records:
+            own[flight] = own.get(flight, 1) + 1
+        count = sum(own.get(flight, 1) for flight, *_ in costs)
+        if self.records and count > MOST_TRIPLES:
+            ways = "ask for fewer legs, or give fewer times or fleets"
+            raise Unread(f"{self.path}: {count:,} pairs of a leg and a fleet at their times, and tables have {MOST_TRIPLES:,} at most: {ways}")
+
+
+def keys_of(flown):
+    """Returns what may stand for a leg, the first one that does being taken."""
+    return flown.name, flown.plain, EACH
+
+
+def own_of(flown, found):
+    """Returns the records of a leg."""
+    return next((found[it] for it in keys_of(flown) if it in found), [])
+
+
+def flight_or_each(text):
+    return None if text == EACH else name(text)
+
+
+def pair(row):
+    """Returns what stands once in a table of other times: a flight and its shift."""
+    return row[0], int(row[1])
