@@ -71,17 +71,13 @@ fn outcome_of(alloc: Global, command: &Command<'_>, contents: &Contents) -> Resu
 {
     match command {
         Command::Judge { reading, .. } => {
-            let answer = judge_contents(alloc, *reading, contents)?;
-            Ok(Opened::Answered(answer))
+            Ok(Opened::Answered(judge_contents(alloc, *reading, contents)?))
         }
         Command::Solve {
             reading,
             options,
             ..
-        } => {
-            let answer = solve_contents(alloc, *reading, *options, contents)?;
-            Ok(Opened::Answered(answer))
-        }
+        } => { Ok(Opened::Answered(solve_contents(alloc, *reading, *options, contents)?)) }
         Command::Check { reading, .. } => open_check(alloc, *reading, contents),
         Command::Tails {
             reading,
@@ -89,8 +85,7 @@ fn outcome_of(alloc: Global, command: &Command<'_>, contents: &Contents) -> Resu
             dates,
             ..
         } => {
-            let answer = tails_of_contents(alloc, *reading, *rotations, dates, contents)?;
-            Ok(Opened::Answered(answer))
+            Ok(Opened::Answered(tails_of_contents(alloc, *reading, *rotations, dates, contents)?))
         }
         Command::Due {
             reading,
@@ -98,12 +93,10 @@ fn outcome_of(alloc: Global, command: &Command<'_>, contents: &Contents) -> Resu
             dates,
             ..
         } => {
-            let answer = due_of_contents(alloc, *reading, *rotations, dates, contents)?;
-            Ok(Opened::Answered(answer))
+            Ok(Opened::Answered(due_of_contents(alloc, *reading, *rotations, dates, contents)?))
         }
         Command::Make { number, legs, .. } => {
-            let answer = make_and_solve(alloc, *number, *legs)?;
-            Ok(Opened::Answered(answer))
+            Ok(Opened::Answered(make_and_solve(alloc, *number, *legs)?))
         }
         Command::Whatif {
             reading,

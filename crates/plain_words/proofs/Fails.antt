@@ -2,7 +2,8 @@
 use Rattle.std.proofs.Common.{◌≡◌, ◌∙◌, not, Bool, true, false, List, [], ◌∷◌, ◌++◌, Option, Some, None, is_some, refl, sym, ap, subst, codes, bytes_eq, if◌then◌else◌, find}
 use Rattle.std.specs.Prelude.{⊤, option_and_then}
 use Rattle.std.specs.List.{list_all}
-use Rattle.std.proofs.lemmas.Bool.{and_parts, cond_both, or_from, or_parts, true≢false}
+use Rattle.std.proofs.lemmas.Bool.{and_parts, cond_both, or_from, or_parts}
+use Rattle.sums.proofs.Tests.{not_true}
 use Rattle.clap.specs.Faults.{flag_word_fault, other_fault, step_fault, turn_fault, walk_fault, word_fault}
 use Rattle.clap.specs.Kinds.{Kinds, or_else}
 use Rattle.clap.specs.Lexer.{long_of, short_of}
@@ -29,10 +30,6 @@ second_fails (fault ∷ more) after fails = tt
 pub asks_nothing : (fault : Kinds) (named : Option (Text × List Row)) → Fails fault → option_and_then command_in (without_fault fault named) ≡ None
 asks_nothing [] named fails = absurd fails
 asks_nothing (fault ∷ more) named fails = refl
-
-pub not_false : (b : Bool) → not b ≡ true → b ≡ false
-not_false true e = absurd (true≢false (sym e))
-not_false false e = refl
 
 -- ---- words before `--`
 
@@ -79,7 +76,7 @@ none_trails : (test : Rule → Bool) (c : List Rule) → is_untrailed c ≡ true
 none_trails test [] untrailed = refl
 none_trails test (a ∷ c) untrailed =
     let parts = and_parts (not a.trailing_var_arg) (is_untrailed c) untrailed in
-    cond_both (test a) (Some a) (find test c) (λ arg. trails arg ≡ false) (λ e. not_false a.trailing_var_arg parts.0) (λ e. none_trails test c parts.1)
+    cond_both (test a) (Some a) (find test c) (λ arg. trails arg ≡ false) (λ e. not_true a.trailing_var_arg parts.0) (λ e. none_trails test c parts.1)
 
 argument_on : (c : List Rule) (arg : Option Rule) (word : Text) (w : Walk) (h : Held) → trails arg ≡ false → GoesOn w → GoesOn (to_positional c arg word w h)
 argument_on c None word w h untrailed goes = record { no_dashes = goes.no_dashes; on = goes.on }

@@ -12,9 +12,10 @@ use Rattle.clap.specs.Simple.{Shape, filled, filled_from, help_rule}
 use Rattle.clap.specs.Walk.{Held, Rule, Text, arg_by_long, has_long, nothing_held, walk_from}
 use Rattle.command_line.specs.Program.{check_app, due_app, judge_app, make_app, our_app, solve_app, tails_app, whatif_app}
 use Rattle.command_words.specs.Words.{asked}
+use Rattle.sums.proofs.Tests.{not_true}
 use Rattle.plain_words.specs.Refusals.{TakeOwnOptions, TakesOnly, ends_name, has_dashes, is_one_of, is_option_name, solve_flags, solve_options, table_flags, table_options, tails_options}
 use Rattle.plain_words.proofs.Entered.{IsEntered, check_entered, due_entered, fails_within, judge_entered, make_entered, solve_entered, tails_entered, whatif_entered}
-use Rattle.plain_words.proofs.Fails.{Fails, GoesOn, is_untrailed, not_false, reaches, second_fails, stays_on, word_refused}
+use Rattle.plain_words.proofs.Fails.{Fails, GoesOn, is_untrailed, reaches, second_fails, stays_on, word_refused}
 use Rattle.plain_words.proofs.PlainFolder.{built_command}
 
 -- ---- the option's name
@@ -49,7 +50,7 @@ value_is name text none =
 pub option_reads : (name text : Text) → is_option_name name ≡ true → long_of (option_word name text) ≡ Some (name, Some text)
 option_reads [] text named = absurd (true≢false (sym named))
 option_reads (first ∷ rest) text named =
-    let none : list_any (λ x. x == 61) (first ∷ rest) ≡ false = not_false _ named in
+    let none : list_any (λ x. x == 61) (first ∷ rest) ≡ false = not_true _ named in
     let whole : option_word (first ∷ rest) text ≡ codes "--" ++ (first ∷ rest) ++ 61 ∷ text = ap (λ more. codes "--" ++ more) (append_assoc (first ∷ rest) (61 ∷ []) text) in
     ap long_of whole ∙ long_is first rest (61 ∷ text) none refl ∙ ap (λ value. Some (first ∷ rest, value)) (value_is (first ∷ rest) text none)
 
@@ -64,7 +65,7 @@ flag_word name = codes "--" ++ name
 pub flag_reads : (name : Text) → is_option_name name ≡ true → long_of (flag_word name) ≡ Some (name, None)
 flag_reads [] named = absurd (true≢false (sym named))
 flag_reads (first ∷ rest) named =
-    let none : list_any (λ x. x == 61) (first ∷ rest) ≡ false = not_false _ named in
+    let none : list_any (λ x. x == 61) (first ∷ rest) ≡ false = not_true _ named in
     ap (λ name. Some (name, value_behind (first ∷ rest))) (before_first-Lacks 61 (first ∷ rest) (lacks (first ∷ rest) none))
     ∙ ap (λ has. Some (first ∷ rest, if has then Some (after_first (λ x. x == 61) (first ∷ rest)) else None)) none
 
@@ -140,7 +141,7 @@ takes_only : (command : Text) (names : List Text) (shape : Shape) → IsEntered 
 takes_only command names shape entered has program [] ending before after plain none ends no_dashes = absurd (true≢false (sym plain))
 takes_only command names shape entered has program (first ∷ rest) ending before after plain none ends no_dashes =
     let word : Text = codes "--" ++ (first ∷ rest) ++ ending in
-    let long : long_of word ≡ Some (first ∷ rest, value_behind ((first ∷ rest) ++ ending)) = long_is first rest ending (not_false _ plain) ends in
+    let long : long_of word ≡ Some (first ∷ rest, value_behind ((first ∷ rest) ++ ending)) = long_is first rest ending (not_true _ plain) ends in
     let refuses : (h : Held) → Fails (flag_word_fault shape.rules shape.args_override_self (long_of word) word h) = λ h.
     subst (λ found. Fails (flag_word_fault shape.rules shape.args_override_self found word h)) (sym long)
     (other_fails names shape (first ∷ rest) (value_behind ((first ∷ rest) ++ ending)) word h has none) in

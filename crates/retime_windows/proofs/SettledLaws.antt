@@ -43,18 +43,18 @@ module _ (t u : Tables) (a b : List ℕ) (assignment : IsAssignment t a) (settle
   leaves : (f s m l : ℕ) → f < fleets_in t → l < legs_in t → ((fleet_by u (pair_at b l) == f) && has_left u (pair_at b l) s m) ≡ ((fleet_by t (pair_at a l) == f) && has_left t (pair_at a l) s m)
   leaves f s m l known below =
       both_alike (fleet_by u (pair_at b l) == f) (has_left u (pair_at b l) s m) (fleet_by t (pair_at a l) == f) (has_left t (pair_at a l) s m) (by_fleet f l below) (λ here.
-      ap (λ (leg : Leg). (leg.from == s) && nat_le (departure u (pair_at b l)) m) (leg_is t u a b assignment settled l below)
+      ap (λ (leg : Leg). (leg.from == s) && nat_le (departure u (pair_at b l)) m) (leg_is t u a b settled l below)
       ∙ ap (λ n. ((leg_of t l).from == s) && nat_le n m) (departs t u a b assignment settled l below (is_flown f l known here)))
 
   comes : (f s m l : ℕ) → f < fleets_in t → l < legs_in t → ((fleet_by u (pair_at b l) == f) && has_come u (pair_at b l) s m) ≡ ((fleet_by t (pair_at a l) == f) && has_come t (pair_at a l) s m)
   comes f s m l known below =
       both_alike (fleet_by u (pair_at b l) == f) (has_come u (pair_at b l) s m) (fleet_by t (pair_at a l) == f) (has_come t (pair_at a l) s m) (by_fleet f l below) (λ here.
-      ap (λ (leg : Leg). (leg.to == s) && nat_le (ready_minute u (pair_at b l)) m) (leg_is t u a b assignment settled l below)
+      ap (λ (leg : Leg). (leg.to == s) && nat_le (ready_minute u (pair_at b l)) m) (leg_is t u a b settled l below)
       ∙ ap (λ n. ((leg_of t l).to == s) && nat_le n m) (readies t u a b assignment settled l below (is_flown f l known here)))
 
   counted : (p q : ℕ → Bool) → ((l : ℕ) → l < legs_in t → p l ≡ q l) → count_below p (legs_in u) ≡ count_below q (legs_in t)
   counted p q same =
-      ap (count_below p) (same_legs t u a b assignment settled)
+      ap (count_below p) (same_legs t u a b settled)
       ∙ sum_below-agree (λ l. if p l then 1 else 0) (λ l. if q l then 1 else 0) (legs_in t) (record { each = λ l below. ap (λ c. if c then 1 else 0) (same l below) })
 
   departed_alike : (f s m : ℕ) → f < fleets_in t → departed u (weights_of b) f s m ≡ departed t (weights_of a) f s m
@@ -78,7 +78,7 @@ module _ (t u : Tables) (a b : List ℕ) (assignment : IsAssignment t a) (settle
   unfolding laps_flown
   laps_alike f known =
       planned u b f of_u (known_too f known) (laps_of u)
-      ∙ ap (sum_below (λ l. if fleet_by u (pair_at b l) == f then laps_of u (pair_at b l) else 0)) (same_legs t u a b assignment settled)
+      ∙ ap (sum_below (λ l. if fleet_by u (pair_at b l) == f then laps_of u (pair_at b l) else 0)) (same_legs t u a b settled)
       ∙ sum_below-agree (λ l. if fleet_by u (pair_at b l) == f then laps_of u (pair_at b l) else 0) (λ l. if fleet_by t (pair_at a l) == f then laps_of t (pair_at a l) else 0) (legs_in t) (record { each = λ l below. laps_where f l known below })
       ∙ sym (planned t a f assignment known (laps_of t))
 
@@ -143,7 +143,7 @@ module _ (t u : Tables) (a b : List ℕ) (assignment : IsAssignment t a) (settle
     assignment = of_u;
     allowed = record {
       each = λ l within.
-          let below : l < legs_in t = subst (λ n. l < n) (same_legs t u a b assignment settled) within in
+          let below : l < legs_in t = subst (λ n. l < n) (same_legs t u a b settled) within in
           subst IsSome (sym (same_cost t u a b assignment settled l below)) (legal.allowed.each l below);
     };
     balanced = record {
@@ -168,7 +168,7 @@ module _ (t u : Tables) (a b : List ℕ) (assignment : IsAssignment t a) (settle
   back legal = record {
     assignment = assignment;
     allowed = record {
-      each = λ l below. subst IsSome (same_cost t u a b assignment settled l below) (legal.allowed.each l (subst (λ n. l < n) (sym (same_legs t u a b assignment settled)) below));
+      each = λ l below. subst IsSome (same_cost t u a b assignment settled l below) (legal.allowed.each l (subst (λ n. l < n) (sym (same_legs t u a b settled)) below));
     };
     balanced = record {
       each = λ f s known station.
@@ -185,7 +185,7 @@ module _ (t u : Tables) (a b : List ℕ) (assignment : IsAssignment t a) (settle
   costs_alike : total_cost u b ≡ total_cost t a
   unfolding total_cost
   costs_alike =
-      ap (sum_below_ℤ (leg_cost u b)) (same_legs t u a b assignment settled)
+      ap (sum_below_ℤ (leg_cost u b)) (same_legs t u a b settled)
       ∙ sum_below_ℤ-same (leg_cost u b) (leg_cost t a) (legs_in t) (λ l below. ap (λ o. unwrap_or o (pos 0)) (same_cost t u a b assignment settled l below))
 
 pub settled_counts_alike : SettledCountsAlike

@@ -3,6 +3,7 @@ use Rattle.std.proofs.Common.{◌≡◌, ◌==◌, ℕ, ◌+◌, ◌*◌, ◌/�
 use Rattle.std.proofs.lemmas.Bool.{cases_lt, lt-ltb}
 use Rattle.std.proofs.lemmas.Bool.Decides.{nat_tests}
 use Rattle.std.proofs.lemmas.Int.{ints}
+use Rattle.sums.proofs.Naturals.{equal_number}
 use Rattle.sums.proofs.Places.{get_or-list_below, length-list_below}
 use Rattle.sums.proofs.Tests.{by_test}
 use Rattle.fleet_model.specs.Costs.{cost_in, is_of}
@@ -35,15 +36,19 @@ cost_raised t a (entry ∷ costs) l f = by_test (is_of l f entry) (λ here.
     let leg : entry.leg ≡ l = grind (arith, nat_tests) in
     rw here (ap (λ k. Some (entry.cost +ℤ (time_of t (pair_at a k)).extra)) leg)) (λ other. rw other (cost_raised t a costs l f))
 
-module _ (t u : Tables) (a b : List ℕ) (assignment : IsAssignment t a) (settled : IsSettled t a u b) where
+pub no_more : (n : ℤ) → n +ℤ pos 0 ≡ n
+no_more n = omega (arith, ints)
+
+module _ (t u : Tables) (a b : List ℕ) (settled : IsSettled t a u b) where
   pub same_legs : legs_in u ≡ legs_in t
   same_legs = ap length settled.tables.legs ∙ length-list_below (settled_leg t a) (legs_in t)
 
-  pub same_fleets : fleets_in u ≡ fleets_in t
-  same_fleets = ap length settled.tables.fleets
-
   pub leg_is : (l : ℕ) → l < legs_in t → leg_of u l ≡ settled_leg t a l
   leg_is l below = ap (λ (legs : List Leg). slice_index_or legs l no_leg) settled.tables.legs ∙ settled_at t a l no_leg below
+
+module _ (t u : Tables) (a b : List ℕ) (assignment : IsAssignment t a) (settled : IsSettled t a u b) where
+  pub same_fleets : fleets_in u ≡ fleets_in t
+  same_fleets = ap length settled.tables.fleets
 
   pub plain : IsPlain u
   plain = plain_where_not_asked u settled.tables.windows
@@ -77,9 +82,9 @@ module _ (t u : Tables) (a b : List ℕ) (assignment : IsAssignment t a) (settle
   pub assigned : IsAssignment u b
   unfolding choices_in
   assigned = record {
-    each_leg = ap length settled.plan ∙ length-list_below (λ k. fleet_by t (pair_at a k)) (legs_in t) ∙ sym same_legs;
+    each_leg = ap length settled.plan ∙ length-list_below (λ k. fleet_by t (pair_at a k)) (legs_in t) ∙ sym (same_legs t u a b settled);
     known = λ l within.
-        let below : l < legs_in t = subst (λ n. l < n) same_legs within in
+        let below : l < legs_in t = subst (λ n. l < n) (same_legs t u a b settled) within in
         let most = bounded t.optional (fleet_by t (pair_at a l)) (fleets_in t) (flown_where_not_asked l below) (few_fleets t (pair_at a l) (is_pair l below)) in
         let choices : fleets_in u * shifts_in u l + (if u.optional then 1 else 0) ≡ fleets_in t * 1 + (if t.optional then 1 else 0) =
         ap (λ n. n * shifts_in u l + (if u.optional then 1 else 0)) same_fleets ∙ ap (λ n. fleets_in t * n + (if u.optional then 1 else 0)) (one_time u plain l)
@@ -94,11 +99,11 @@ module _ (t u : Tables) (a b : List ℕ) (assignment : IsAssignment t a) (settle
   pub departs : (l : ℕ) → l < legs_in t → fleet_by t (pair_at a l) < fleets_in t → departure u (pair_at b l) ≡ departure t (pair_at a l)
   unfolding departure
   departs l below flown =
-      plain_departure u l (choice_at b l) plain ∙ ap (λ (leg : Leg). leg.dep) (leg_is l below) ∙ ap (λ (time : Shift). time.dep) (flown_time l flown)
+      plain_departure u l (choice_at b l) plain ∙ ap (λ (leg : Leg). leg.dep) (leg_is t u a b settled l below) ∙ ap (λ (time : Shift). time.dep) (flown_time l flown)
 
   pub busy : (l : ℕ) → l < legs_in t → busy_minutes u (pair_at b l) ≡ busy_minutes t (pair_at a l)
   busy l below =
-      ap (λ (leg : Leg). leg.block + (fleet_of u (fleet_by u (pair_at b l))).turn + (station_of u leg.to).extra) (leg_is l below)
+      ap (λ (leg : Leg). leg.block + (fleet_of u (fleet_by u (pair_at b l))).turn + (station_of u leg.to).extra) (leg_is t u a b settled l below)
       ∙ ap (λ f. (leg_of t l).block + (fleet_of u f).turn + (station_of u (leg_of t l).to).extra) (same_fleet l below)
       ∙ ap (λ (fleets : List Fleet). (leg_of t l).block + (slice_index_or fleets (fleet_by t (pair_at a l)) no_fleet).turn + (station_of u (leg_of t l).to).extra) settled.tables.fleets
       ∙ ap (λ (stations : List Station). (leg_of t l).block + (fleet_of t (fleet_by t (pair_at a l))).turn + (slice_index_or stations (leg_of t l).to no_station).extra) settled.tables.stations
@@ -118,15 +123,12 @@ module _ (t u : Tables) (a b : List ℕ) (assignment : IsAssignment t a) (settle
   -- ---- each pair costs as much
   own_time : (l : ℕ) → l < legs_in t → fleet_by u (pair_at b l) < fleets_in u → shift_by u (pair_at b l) ≡ own_shift (leg_of u l).dep
   own_time l below flown =
-      let within : l < legs_in u = subst (λ n. l < n) (sym same_legs) below in
+      let within : l < legs_in u = subst (λ n. l < n) (sym (same_legs t u a b settled)) below in
       sym (ap (λ c. if c then shift_by u (pair_at b l) else own_shift (leg_of u l).dep) (lt-ltb (fleet_by u (pair_at b l)) (fleets_in u) flown)) ∙ plain_time u (pair_at b l) within settled.tables.windows
 
   raised_once : (o : Option ℤ) (more : ℤ) → raised (raised o more) (pos 0) ≡ raised o more
   raised_once None more = refl
   raised_once (Some cost) more = ap Some (no_more (cost +ℤ more))
-    where
-      no_more : (n : ℤ) → n +ℤ pos 0 ≡ n
-      no_more n = omega (arith, ints)
 
   flown_alike : (l : ℕ) → l < legs_in t → fleet_by t (pair_at a l) < fleets_in t → flown_cost u (pair_at b l) ≡ flown_cost t (pair_at a l)
   flown_alike l below flown =
@@ -150,9 +152,9 @@ module _ (t u : Tables) (a b : List ℕ) (assignment : IsAssignment t a) (settle
         let out : choice_at b l ≡ left_out u l = choice_is l below ∙ all ∙ sym (ap (λ n. fleets_in u * n) (one_time u plain l) ∙ one_times (fleets_in u) ∙ same_fleets) in
         let gone : nat_lt (fleet_by t (pair_at a l)) (fleets_in t) ≡ false = not_below (fleet_by t (pair_at a l)) (fleets_in t) past in
         let gone_too : nat_lt (fleet_by u (pair_at b l)) (fleets_in u) ≡ false = not_below (fleet_by u (pair_at b l)) (fleets_in u) (omega (arith, past, same_fleet l below, same_fleets)) in
-        let here : (choice_at a l == left_out t l) ≡ true = equal (choice_at a l) (left_out t l) last in
-        let here_too : (choice_at b l == left_out u l) ≡ true = equal (choice_at b l) (left_out u l) out in
-        rw (gone, gone_too, here, here_too) (ap (λ (leg : Leg). leg.skip) (leg_is l below))
+        let here : (choice_at a l == left_out t l) ≡ true = equal_number (choice_at a l) (left_out t l) last in
+        let here_too : (choice_at b l == left_out u l) ≡ true = equal_number (choice_at b l) (left_out u l) out in
+        rw (gone, gone_too, here, here_too) (ap (λ (leg : Leg). leg.skip) (leg_is t u a b settled l below))
   ]
     where
       one_times : (n : ℕ) → n * 1 ≡ n
@@ -160,6 +162,3 @@ module _ (t u : Tables) (a b : List ℕ) (assignment : IsAssignment t a) (settle
 
       not_below : (m n : ℕ) → n ≤ m → nat_lt m n ≡ false
       not_below m n past = grind (arith, nat_tests)
-
-      equal : (m n : ℕ) → m ≡ n → (m == n) ≡ true
-      equal m n same = grind (arith, nat_tests)

@@ -7,6 +7,7 @@ use crate::assertions::assert_same;
 use crate::turns::is_plain;
 use best_matching::best_matching;
 use entries::{Entries, NoMemory};
+use fleet_model::period::minutes_of;
 use fleet_model::{Assignment, Connection, LoadError, Settings, Tables};
 use plan_judge::{Verdict, judge};
 use sched_read::load;
@@ -126,7 +127,7 @@ fn are_chosen(pairs: &[(u32, u32)], chosen: &Throughs) -> bool {
 fn assert_chosen<R: Abort + Alloc<A = Global>>(rt: &R, cases: &[Case]) -> Result<(), Fail> {
     for (files, through_max, fleets, fleet, pairs, value) in cases {
         let through_max = *through_max;
-        assert!(rt; through_max < 1440);
+        assert!(rt; through_max < minutes_of(1));
         let found = chosen(rt.alloc(), files, through_max, *fleets, *fleet)?.ok_or("no choice")?;
         assert!(rt; are_chosen(*pairs, &found));
         let sums = sum(found.u.as_slice()).wrapping_add(sum(found.v.as_slice()));

@@ -3,7 +3,7 @@ use Rattle.retime_windows.proofs.SettledPairs.{same_fleets, same_legs}
 use Rattle.fleet_cli.proofs.solving.show_planned.Goals as goal
 
 pub show_rotated-requires-clause-legs : goal.show_rotated-requires-clause-legs
-show_rotated-requires-clause-legs c = same_legs _ _ _ _ c.requires.legal.assignment c.in_ok-shown.ensures.settled
+show_rotated-requires-clause-legs c = same_legs _ _ _ _ c.in_ok-shown.ensures.settled
 
 pub show_rotated-requires-clause-fleets : goal.show_rotated-requires-clause-fleets
 show_rotated-requires-clause-fleets c = same_fleets _ _ _ _ c.requires.legal.assignment c.in_ok-shown.ensures.settled
