@@ -57,6 +57,11 @@ impl<N: Number> PivotColumn<N> {
         );
         frame.start.forward(self.sums.as_mut_slice());
         let sizes = self.gather(kernel, beside)?;
+        self.cross(kernel, sizes)
+    }
+
+    // Lays what each row comes to in the column and in the other sum, where sizes in the slots are these, and answers whether all fit.
+    fn cross(&mut self, kernel: &Kernel<N>, sizes: N) -> Result<bool, NoMemory> {
         self.products.clear();
         self.crossings.clear();
         for other in &kernel.rows {

@@ -64,17 +64,9 @@ impl<N: Number> Values<N> {
         for place in 0..numbers.len() {
             let line = at(lines, place, N::of(0));
             if !line.is_zero() {
-                let product = line.times(times);
-                let less = if den.is_one() {
-                    product
-                } else {
-                    product.over(den)
-                };
-                if line.bits().wrapping_add(times.bits()) > N::room()
-                    || !less.times(den).minus(product).is_zero()
-                {
+                let Some(less) = whole_part(line, times, den) else {
                     return false;
-                }
+                };
                 numbers[place] = numbers[place].minus(less);
             }
         }
@@ -122,6 +114,24 @@ impl<N: Number> Values<N> {
             }
         }
         true
+    }
+}
+
+// A number so many times over a denominator, where that is whole and fits.
+#[inline(always)]
+fn whole_part<N: Number>(number: N, times: N, den: N) -> Option<N> {
+    if number.bits().wrapping_add(times.bits()) > N::room() {
+        return None;
+    }
+    let product = number.times(times);
+    if den.is_one() {
+        return Some(product);
+    }
+    let part = product.over(den);
+    if part.times(den).minus(product).is_zero() {
+        Some(part)
+    } else {
+        None
     }
 }
 

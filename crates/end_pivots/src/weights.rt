@@ -4,7 +4,7 @@ use crate::pivot_row::PivotRow;
 use crate::pricing::{LEAST_WEIGHT, MOST_WEIGHT, PART_BITS, WHOLE, quotient};
 use end_kernel::lists::fill;
 use end_kernel::start::take_column;
-use end_kernel::{Kernel, NONE, Number, at, filled, put};
+use end_kernel::{Kernel, NONE, Number, Row, at, filled, put};
 use entries::NoMemory;
 use std::alloc::Global;
 
@@ -84,18 +84,21 @@ impl Weights {
     ) {
         let rows = kernel.rows.as_mut_slice();
         for place in 0..rows.len() {
-            let row = &rows[place];
-            let crossing = at(&column.crossings, place, N::of(0)).wide();
-            let cross = quotient(crossing, row.den.wide());
-            if cross != 0 {
-                let more = self.more.as_mut_slice();
-                take_column(&frame.columns, row.column, i64::narrowed(cross), more);
-            }
-            let number = at(&column.products, place, N::of(0));
-            if !number.is_zero() {
-                let weight = changed(row.weight, number, row.den, cross, self.entered);
-                rows[place].weight = weight;
-            }
+            let crossing = at(&column.crossings, place, N::of(0));
+            let product = at(&column.products, place, N::of(0));
+            self.change_row(frame, &mut rows[place], crossing, product);
+        }
+    }
+
+    // The weight of one of them, which the column meets in a product.
+    fn change_row<N: Number>(&mut self, frame: &Frame, row: &mut Row<N>, crossing: N, product: N) {
+        let cross = quotient(crossing.wide(), row.den.wide());
+        if cross != 0 {
+            let more = self.more.as_mut_slice();
+            take_column(&frame.columns, row.column, i64::narrowed(cross), more);
+        }
+        if !product.is_zero() {
+            row.weight = changed(row.weight, product, row.den, cross, self.entered);
         }
     }
 

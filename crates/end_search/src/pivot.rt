@@ -1,6 +1,6 @@
 use crate::progress::{Progress, Workspace};
 use end_kernel::{Kernel, NONE, Number, Row, at, common_divisor, put};
-use end_pivots::{Frame, Leaving, PivotRow};
+use end_pivots::{CostStep, Frame, Leaving, PivotRow};
 use entries::NoMemory;
 use std::alloc::Global;
 
@@ -30,34 +30,56 @@ pub(crate) fn pivot<N: Number>(
     leaves: Leaving,
     column: u32,
 ) -> Result<bool, NoMemory> {
-    progress.weights.take(frame, &workspace.row, column);
-    if !workspace.column.take(
-        frame,
-        kernel,
-        &workspace.row,
-        progress.weights.crosses(),
-        column,
-    )? || !workspace.column.fits(kernel, &workspace.row)
-    {
-        return Ok(false);
-    }
-    let Some(step) = progress.costs.step(&workspace.row, column) else {
+    let Some(step) = step_of(frame, kernel, progress, workspace, column)? else {
         return Ok(false);
     };
     let scale = change_weights(frame, kernel, progress, workspace);
-    let place = open(kernel, leaves)?;
+    let weight = progress.weights.entered();
+    let place = let_in(alloc, kernel, progress, workspace, leaves, column, weight)?;
     progress.costs.open_slots(kernel.lines.len())?;
     progress.costs.change(&workspace.row, step);
     put(progress.basic.as_mut_slice(), column as usize, true);
-    progress.work = change_rows(kernel, workspace, place, progress.work)?;
-    let weight = progress.weights.entered();
-    lay_entered(alloc, kernel, &workspace.row, column, weight, place)?;
     advance_values(kernel, workspace, scale);
     if come_back(frame, kernel, progress, place)? {
         workspace.values.forget();
     }
     progress.made = progress.made.wrapping_add(1);
     Ok(true)
+}
+
+// Takes the column, and answers what it does to the costs, where all fits.
+fn step_of<N: Number>(
+    frame: &Frame,
+    kernel: &Kernel<N>,
+    progress: &mut Progress,
+    workspace: &mut Workspace<N>,
+    column: u32,
+) -> Result<Option<CostStep>, NoMemory> {
+    progress.weights.take(frame, &workspace.row, column);
+    let crosses = progress.weights.crosses();
+    let row = &workspace.row;
+    if !workspace.column.take(frame, kernel, row, crosses, column)?
+        || !workspace.column.fits(kernel, row)
+    {
+        return Ok(None);
+    }
+    Ok(progress.costs.step(row, column))
+}
+
+/// Changes the kernel's rows for a column that comes in, lays its row with a weight, and answers where that is.
+pub(crate) fn let_in<N: Number>(
+    alloc: Global,
+    kernel: &mut Kernel<N>,
+    progress: &mut Progress,
+    workspace: &mut Workspace<N>,
+    leaves: Leaving,
+    column: u32,
+    weight: i64,
+) -> Result<usize, NoMemory> {
+    let place = open(kernel, leaves)?;
+    progress.work = change_rows(kernel, workspace, place, progress.work)?;
+    lay_entered(alloc, kernel, &workspace.row, column, weight, place)?;
+    Ok(place)
 }
 
 // Lays the column's numbers in the lines, changes all weights by them, and answers their scale, where they fit.
@@ -90,8 +112,8 @@ fn advance_values<N: Number>(kernel: &Kernel<N>, workspace: &mut Workspace<N>, s
     }
 }
 
-/// The place of the row that enters, with a slot for a line that leaves.
-pub(crate) fn open<N: Number>(kernel: &mut Kernel<N>, leaves: Leaving) -> Result<usize, NoMemory> {
+// The place of the row that enters, with a slot for a line that leaves.
+fn open<N: Number>(kernel: &mut Kernel<N>, leaves: Leaving) -> Result<usize, NoMemory> {
     match leaves {
         Leaving::Row(place) => Ok(place),
         Leaving::Line(line) => {
@@ -101,10 +123,10 @@ pub(crate) fn open<N: Number>(kernel: &mut Kernel<N>, leaves: Leaving) -> Result
     }
 }
 
-/// Takes the pivot row from all rows that the column meets but that of what leaves. Answers the work that was done before with that
-/// of the pivot: the numbers of the pivot row by lines and columns, the parts of all rows, in which the column is looked for, and
-/// twice those of each row that changed and of the pivot row. Wide numbers count twice.
-pub(crate) fn change_rows<N: Number>(
+// Takes the pivot row from all rows that the column meets but that of what leaves. Answers the work that was done before with that
+// of the pivot: the numbers of the pivot row by lines and columns, the parts of all rows, in which the column is looked for, and
+// twice those of each row that changed and of the pivot row. Wide numbers count twice.
+fn change_rows<N: Number>(
     kernel: &mut Kernel<N>,
     workspace: &mut Workspace<N>,
     leaves: usize,
@@ -114,36 +136,41 @@ pub(crate) fn change_rows<N: Number>(
     let row = &workspace.row;
     let column = &workspace.column;
     let seen = workspace.seen.as_mut_slice();
+    let rows = kernel.rows.as_mut_slice();
     let mut work = before.wrapping_add(row.work());
-    for place in 0..kernel.rows.len() {
+    for place in 0..rows.len() {
         let product = at(&column.products, place, N::of(0));
         work = work
-            .wrapping_add(parts_at(&kernel.rows, place))
+            .wrapping_add(rows[place].parts.len() as u64)
             .wrapping_add(1);
-        if !product.is_zero() && place != leaves && place < kernel.rows.len() {
-            let divisor = common_divisor(product, column.size);
-            let factor = column.size.over(divisor);
-            let times = product.over(divisor);
-            kernel.rows[place].combine(row.taken(), factor, times, seen, work)?;
-            let parts = parts_at(&kernel.rows, place).wrapping_add(row.parts.len() as u64);
-            work = work.wrapping_add(parts.wrapping_mul(2));
+        if !product.is_zero() && place != leaves {
+            work = change_row(&mut rows[place], row, column.size, product, seen, work)?;
         }
     }
     let done = work.wrapping_sub(before);
     Ok(before.wrapping_add(done.wrapping_mul(u64::from(N::room() / 62))))
 }
 
-// How many parts a row has, or 0 where there is none.
-fn parts_at<N: Number>(rows: &[Row<N>], place: usize) -> u64 {
-    if place < rows.len() {
-        rows[place].parts.len() as u64
-    } else {
-        0
-    }
+// Takes the pivot row from a row in which the column has a product, by its size in the pivot row, and answers the work before with
+// that of the change.
+fn change_row<N: Number>(
+    row: &mut Row<N>,
+    pivot: &PivotRow<N>,
+    size: N,
+    product: N,
+    seen: &mut [u64],
+    work: u64,
+) -> Result<u64, NoMemory> {
+    let divisor = common_divisor(product, size);
+    let factor = size.over(divisor);
+    let times = product.over(divisor);
+    row.combine(pivot.taken(), factor, times, seen, work)?;
+    let parts = (row.parts.len() as u64).wrapping_add(pivot.parts.len() as u64);
+    Ok(work.wrapping_add(parts.wrapping_mul(2)))
 }
 
-/// Lays the row of the column that enters at its place.
-pub(crate) fn lay_entered<N: Number>(
+// Lays the row of the column that enters at its place.
+fn lay_entered<N: Number>(
     alloc: Global,
     kernel: &mut Kernel<N>,
     row: &PivotRow<N>,

@@ -25,6 +25,25 @@ pub(crate) struct Progress {
 }
 
 impl Progress {
+    /// That of the start, where no column costs less than it weighs.
+    pub(crate) fn new(
+        alloc: Global,
+        frame: &Frame,
+        costs: &[i128],
+    ) -> Result<Option<Progress>, NoMemory> {
+        let Some(costs) = Costs::new(alloc, frame, costs)? else {
+            return Ok(None);
+        };
+        Ok(Some(Progress {
+            costs,
+            weights: Weights::new(alloc, frame.columns.line_count())?,
+            basic: frame.start.basic_columns(alloc)?,
+            made: 0,
+            work: 0,
+            reinverted: 0,
+        }))
+    }
+
     /// Whether a column is out of the basis and may come in at no cost.
     pub(crate) fn is_free(&self, column: usize) -> bool {
         !at(&self.basic, column, true) && at(&self.costs.columns, column, 1) == 0

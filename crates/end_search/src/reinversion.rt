@@ -1,6 +1,6 @@
 use crate::answer::dual_values;
 use crate::basis::Basis;
-use crate::pivot::{change_rows, lay_entered, open};
+use crate::pivot::let_in;
 use crate::progress::{Progress, Workspace};
 use end_kernel::{Kernel, NONE, Number, Start, at, put, triangular_places};
 use end_pivots::{Frame, Leaving, Weights};
@@ -18,20 +18,33 @@ pub(crate) fn reinvert<N: Number>(
     progress: &mut Progress,
     workspace: &mut Workspace<N>,
 ) -> Result<(), NoMemory> {
-    let basis = Basis::new(alloc, frame, kernel, &progress.weights)?;
     let duals = dual_values(alloc, frame, costs, kernel, &progress.costs)?;
-    let start = start_of(alloc, frame, &basis)?;
-    let before = mem::replace(&mut frame.start, start);
-    match rebuilt(alloc, frame, &basis, progress, workspace)? {
-        Some(rebuilt) => {
-            progress.costs.lay_slots(&rebuilt.lines, &duals)?;
-            lay_weights(frame, &basis, &mut progress.weights);
-            *kernel = rebuilt;
-        }
-        None => frame.start = before,
-    }
+    exchange(alloc, frame, &duals, kernel, progress, workspace)?;
     workspace.values.forget();
     progress.reinverted = kernel.rows.len();
+    Ok(())
+}
+
+// Exchanges start and kernel for those of the same basis, where its dual values are these.
+fn exchange<N: Number>(
+    alloc: Global,
+    frame: &mut Frame,
+    duals: &[i128],
+    kernel: &mut Kernel<N>,
+    progress: &mut Progress,
+    workspace: &mut Workspace<N>,
+) -> Result<(), NoMemory> {
+    let basis = Basis::new(alloc, frame, kernel, &progress.weights)?;
+    let start = start_of(alloc, frame, &basis)?;
+    let before = mem::replace(&mut frame.start, start);
+    let mut new = Kernel::new(alloc, frame.columns.line_count())?;
+    if rebuild(alloc, frame, &basis, &mut new, progress, workspace)? {
+        progress.costs.lay_slots(&new.lines, duals)?;
+        lay_weights(frame, &basis, &mut progress.weights);
+        *kernel = new;
+    } else {
+        frame.start = before;
+    }
     Ok(())
 }
 
@@ -52,31 +65,29 @@ fn lay_weights(frame: &Frame, basis: &Basis, weights: &mut Weights) {
     }
 }
 
-// The kernel of the basic columns that aren't the start's, where all fits.
-fn rebuilt<N: Number>(
+// Brings the basic columns that aren't the start's into a kernel without rows, and answers whether all fits.
+fn rebuild<N: Number>(
     alloc: Global,
     frame: &Frame,
     basis: &Basis,
+    kernel: &mut Kernel<N>,
     progress: &mut Progress,
     workspace: &mut Workspace<N>,
-) -> Result<Option<Kernel<N>>, NoMemory> {
-    let mut kernel = Kernel::new(alloc, frame.columns.line_count())?;
+) -> Result<bool, NoMemory> {
     let mut basic = frame.start.basic_columns(alloc)?;
     workspace.seen.clear();
     for place in 0..basis.columns.len() {
         if at(&basis.columns, place, false) && !at(&basic, place, true) {
             let column = (place & 0xffff_ffff) as u32;
-            let Some(leaves) = take_pivot(frame, &kernel, basis, &basic, workspace, column)? else {
-                return Ok(None);
+            let Some(leaves) = take_pivot(frame, kernel, basis, &basic, workspace, column)? else {
+                return Ok(false);
             };
-            let row = open(&mut kernel, leaves)?;
-            progress.work = change_rows(&mut kernel, workspace, row, progress.work)?;
             let weight = basis.weight_of(column);
-            lay_entered(alloc, &mut kernel, &workspace.row, column, weight, row)?;
+            let_in(alloc, kernel, progress, workspace, leaves, column, weight)?;
             put(basic.as_mut_slice(), place, true);
         }
     }
-    Ok(Some(kernel))
+    Ok(true)
 }
 
 // Takes the row and the column of a pivot by which a column comes in, and answers what leaves for it, where all fits.

@@ -29,13 +29,25 @@ pub(crate) fn run<N: Number>(
     steps: u64,
 ) -> Result<Ended, NoMemory> {
     let mut workspace = Workspace::new(alloc, frame)?;
-    let end = last_turn(alloc, frame, costs, kernel, progress, &mut workspace, steps)?;
+    run_in(alloc, frame, costs, kernel, progress, &mut workspace, steps)
+}
+
+// The same in a workspace.
+fn run_in<N: Number>(
+    alloc: Global,
+    frame: &mut Frame,
+    costs: &[i128],
+    kernel: &mut Kernel<N>,
+    progress: &mut Progress,
+    workspace: &mut Workspace<N>,
+    steps: u64,
+) -> Result<Ended, NoMemory> {
+    let mut end = last_turn(alloc, frame, costs, kernel, progress, workspace, steps)?;
     if let Turn::Best = end {
-        make_whole(alloc, frame, kernel, progress, &mut workspace, steps)?;
-        let end = last_turn(alloc, frame, costs, kernel, progress, &mut workspace, steps)?;
-        return told(alloc, frame, costs, kernel, progress, &workspace, end);
+        make_whole(alloc, frame, kernel, progress, workspace, steps)?;
+        end = last_turn(alloc, frame, costs, kernel, progress, workspace, steps)?;
     }
-    told(alloc, frame, costs, kernel, progress, &workspace, end)
+    told(alloc, frame, costs, kernel, progress, workspace, end)
 }
 
 // The first turn that makes no pivot.

@@ -3,7 +3,7 @@ use crate::progress::Progress;
 use crate::run::{Ended, run};
 use end_check::Hint;
 use end_kernel::{Columns, Kernel, Start};
-use end_pivots::{Costs, Frame, Weights};
+use end_pivots::Frame;
 use entries::NoMemory;
 use lp_rows::Program;
 use std::alloc::Global;
@@ -34,21 +34,24 @@ fn search(
     costs: &[i128],
     steps: u64,
 ) -> Result<Option<Hint>, NoMemory> {
-    let Some(above) = Costs::new(alloc, frame, costs)? else {
-        return Ok(None);
-    };
-    let mut progress = Progress {
-        costs: above,
-        weights: Weights::new(alloc, frame.columns.line_count())?,
-        basic: frame.start.basic_columns(alloc)?,
-        made: 0,
-        work: 0,
-        reinverted: 0,
-    };
+    match Progress::new(alloc, frame, costs)? {
+        Some(mut progress) => begin(alloc, frame, costs, &mut progress, steps),
+        None => Ok(None),
+    }
+}
+
+// Begins in numbers of 64 bits.
+fn begin(
+    alloc: Global,
+    frame: &mut Frame,
+    costs: &[i128],
+    progress: &mut Progress,
+    steps: u64,
+) -> Result<Option<Hint>, NoMemory> {
     let mut kernel: Kernel<i64> = Kernel::new(alloc, frame.columns.line_count())?;
-    match run(alloc, frame, costs, &mut kernel, &mut progress, steps)? {
+    match run(alloc, frame, costs, &mut kernel, progress, steps)? {
         Ended::Answer(hint) => Ok(hint),
-        Ended::Outgrown => go_on(alloc, frame, costs, &kernel, &mut progress, steps),
+        Ended::Outgrown => go_on(alloc, frame, costs, &kernel, progress, steps),
     }
 }
 
