@@ -8,7 +8,7 @@ ghost use Rattle.euler_rotation.specs.Asked.{IsAsked, TellClean};
 
 use crate::asked::Asked;
 use crate::clean::{CleanTurns, may_turn};
-use crate::stays::{Stay, excess_of, is_known, is_overdue, stays_of};
+use crate::stays::{Round, Stay, excess_of, is_known, is_overdue, stay_between, stays_of};
 use entries::NoMemory;
 use std::alloc::Global;
 
@@ -60,7 +60,7 @@ fn better_than(
     let most = excess_of(stays, clean.asked.days);
     for place in 0..stays.len() {
         if is_overdue(stays, place, clean.asked.days) {
-            if let Some(next) = better_at(alloc, clean, legs, place, most, tries)? {
+            if let Some(next) = better_at(alloc, clean, legs, stays, place, most, tries)? {
                 return Ok(Some(next));
             }
         }
@@ -73,6 +73,7 @@ fn better_at(
     alloc: Global,
     clean: &CleanTurns<'_>,
     legs: &[u32],
+    stays: &[Stay],
     place: usize,
     most: u32,
     tries: &mut u32,
@@ -81,7 +82,8 @@ fn better_at(
 {
     for second in 0..legs.len() {
         if meets(clean, legs, place, second) {
-            if let Some(next) = better_with(alloc, clean, legs, (place, second), most, tries)? {
+            let places = (place, second);
+            if let Some(next) = better_with(alloc, clean, legs, stays, places, most, tries)? {
                 return Ok(Some(next));
             }
         }
@@ -94,6 +96,7 @@ fn better_with(
     alloc: Global,
     clean: &CleanTurns<'_>,
     legs: &[u32],
+    stays: &[Stay],
     places: (usize, usize),
     most: u32,
     tries: &mut u32,
@@ -105,8 +108,8 @@ fn better_with(
             let change = in_order(places.0, places.1, third);
             if may_change(clean, legs, change) {
                 *tries -= 1;
-                if let Some(next) = if_less(alloc, clean.asked, legs, change, most)? {
-                    return Ok(Some(next));
+                if overdue(clean.asked, legs, stays, change) < most {
+                    return Ok(Some(changed(alloc, legs, change)?));
                 }
             }
         }
@@ -114,30 +117,45 @@ fn better_with(
     Ok(None)
 }
 
-// The changed tour, where fewer nights are overdue than so many.
-fn if_less(
-    alloc: Global,
-    asked: &Asked<'_>,
-    legs: &[u32],
-    change: Change,
-    most: u32,
-) -> Result<Option<Vec<u32>>, NoMemory>
+// How many nights of the changed tour are overdue. All stays but three are those of the tour, so it isn't made for that.
+fn overdue(asked: &Asked<'_>, legs: &[u32], stays: &[Stay], change: Change) -> u32
     requires { IsAsked asked.now }
 {
-    let next = changed(alloc, legs, change)?;
-    if overdue(alloc, asked, &next)? < most {
-        Ok(Some(next))
-    } else {
-        Ok(None)
-    }
+    let new = NewStays {
+        first: stay_between(asked, legs, change.first, change.second),
+        second: stay_between(asked, legs, change.third, change.first),
+        third: stay_between(asked, legs, change.second, change.third),
+    };
+    let first = new.round(stays, change, asked.days, Round::begun(0));
+    new.round(stays, change, asked.days, Round::begun(first.since))
+        .overdue
 }
 
-// How many nights of a tour are overdue.
-fn overdue(alloc: Global, asked: &Asked<'_>, legs: &[u32]) -> Result<u32, NoMemory>
-    requires { IsAsked asked.now }
-{
-    let stays = stays_of(alloc, asked, legs)?;
-    Ok(excess_of(&stays, asked.days))
+// The stays of the three new turns of a changed tour, in their order there.
+#[derive(Clone, Copy)]
+struct NewStays {
+    first: Stay,
+    second: Stay,
+    third: Stay,
+}
+
+impl NewStays {
+    // A round over the changed tour.
+    fn round(self, stays: &[Stay], change: Change, days: u32, begun: Round) -> Round {
+        let Change {
+            first,
+            second,
+            third,
+        } = change;
+        begun
+            .behind_all(stays, 0, first, days)
+            .behind(self.first, days)
+            .behind_all(stays, second.saturating_add(1), third, days)
+            .behind(self.second, days)
+            .behind_all(stays, first.saturating_add(1), second, days)
+            .behind(self.third, days)
+            .behind_all(stays, third.saturating_add(1), stays.len(), days)
+    }
 }
 
 /// Three turns of a tour by their places, rising: what lies between the first two and what lies between the last two

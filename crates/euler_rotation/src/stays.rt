@@ -4,10 +4,9 @@ ghost use Rattle.fleet_model.specs.Schedule.{legs_in};
 ghost use Rattle.euler_rotation.specs.Asked.{IsAsked};
 
 use crate::asked::Asked;
-use crate::kept::turn_after;
 use crate::nights::{has_maintenance, nights_without};
 use entries::NoMemory;
-use fleet_model::Tables;
+use fleet_model::{Connection, Tables};
 use std::alloc::Global;
 
 /// The nights from a leg of a list to the next: so many without maintenance, and then perhaps one for it.
@@ -24,6 +23,14 @@ pub(crate) fn is_known(tables: &Tables, leg: u32) -> bool
     leg < tables.leg_count()
 }
 
+impl Stay {
+    // That of no legs.
+    const NONE: Stay = Stay {
+        nights: 0,
+        maintained: false,
+    };
+}
+
 /// Those of all legs of a list, going round.
 pub(crate) fn stays_of(
     alloc: Global,
@@ -34,46 +41,77 @@ pub(crate) fn stays_of(
 {
     let mut stays = Vec::new(alloc);
     for place in 0..legs.len() {
-        stays.push(stay_at(asked, legs, place))?;
+        stays.push(stay_between(asked, legs, place, place))?;
     }
     Ok(stays)
 }
 
-// The one behind a place.
-fn stay_at(asked: &Asked<'_>, legs: &[u32], place: usize) -> Stay
-    requires asked { IsAsked asked.now }
-    requires place { place < length legs.now }
+/// The one from the leg at a place to the leg behind another place, going round.
+pub(crate) fn stay_between(asked: &Asked<'_>, legs: &[u32], place: usize, other: usize) -> Stay
+    requires { IsAsked asked.now }
 {
-    let turn = turn_after(legs, place);
+    if place >= legs.len() || other >= legs.len() {
+        return Stay::NONE;
+    }
+    let turn = Connection {
+        arriving: legs[place],
+        departing: legs[(other + 1) % legs.len()],
+    };
     if is_known(asked.tables, turn.arriving) && is_known(asked.tables, turn.departing) {
         Stay {
             nights: nights_without(asked, turn),
             maintained: has_maintenance(asked, turn),
         }
     } else {
-        Stay {
-            nights: 0,
-            maintained: false,
+        Stay::NONE
+    }
+}
+
+/// What a round has come to.
+#[derive(Clone, Copy)]
+pub(crate) struct Round {
+    /// The nights since the last for maintenance.
+    pub(crate) since: u32,
+    /// How many nights were overdue: of those between two for maintenance all but the first days less one.
+    pub(crate) overdue: u32,
+}
+
+impl Round {
+    /// One that begins with so many nights since the last for maintenance.
+    pub(crate) fn begun(since: u32) -> Round {
+        Round { since, overdue: 0 }
+    }
+
+    /// The round behind one more stay.
+    #[inline(always)]
+    pub(crate) fn behind(self, stay: Stay, days: u32) -> Round {
+        let reached = self.since.saturating_add(stay.nights);
+        let more = beyond(reached, days).saturating_sub(beyond(self.since, days));
+        Round {
+            since: if stay.maintained { 0 } else { reached },
+            overdue: self.overdue.saturating_add(more),
         }
     }
-}
 
-/// How many nights are overdue, going round: of those between two for maintenance all but the first days less one.
-pub(crate) fn excess_of(stays: &[Stay], days: u32) -> u32 {
-    let since = after_round(stays, days, (0, 0)).0;
-    after_round(stays, days, (since, 0)).1
-}
-
-// The nights without maintenance and those overdue, after a round that begins with so many.
-fn after_round(stays: &[Stay], days: u32, before: (u32, u32)) -> (u32, u32) {
-    let (mut since, mut overdue) = before;
-    for stay in stays {
-        let reached = since.saturating_add(stay.nights);
-        let more = beyond(reached, days).saturating_sub(beyond(since, days));
-        overdue = overdue.saturating_add(more);
-        since = if stay.maintained { 0 } else { reached };
+    /// The round behind the stays from a place up to another one, which isn't among them.
+    pub(crate) fn behind_all(self, stays: &[Stay], from: usize, to: usize, days: u32) -> Round {
+        let mut round = self;
+        if from <= to && to <= stays.len() {
+            for stay in &stays[from..to] {
+                round = round.behind(*stay, days);
+            }
+        }
+        round
     }
-    (since, overdue)
+}
+
+/// How many nights are overdue, going round.
+pub(crate) fn excess_of(stays: &[Stay], days: u32) -> u32 {
+    let count = stays.len();
+    let first = Round::begun(0).behind_all(stays, 0, count, days);
+    Round::begun(first.since)
+        .behind_all(stays, 0, count, days)
+        .overdue
 }
 
 // By how many so many nights without maintenance pass the most that are allowed.
