@@ -2,14 +2,16 @@
 use Rattle.std.proofs.Common.{◌≡◌, ℕ, suc, ◌+◌, ◌-◌, ◌<◌, ◌≤◌, Bool, true, false, Option, Some, None, List, [], ◌∷◌, drop, length, length-append, slice_index, get_or, refl, sym, ◌∙◌, ap, subst, inl, inr, arith, add-one}
 use Rattle.std.proofs.lemmas.Bool.{cases_lt}
 use Rattle.std.proofs.lemmas.List.{drop_more, length-drop}
-use Rattle.sums.proofs.Tests.{none_some, unlike}
+use Rattle.sums.proofs.Tests.{none_some, some_is, unlike}
 use Rattle.sums.proofs.Naturals.{last_below}
 use Rattle.euler_rotation.specs.declared.field.Field.{Field}
 use Rattle.euler_rotation.specs.declared.path.Level.{Level}
+use Rattle.euler_rotation.specs.declared.search.Found.{Found}
+use Rattle.euler_rotation.specs.declared.search.Found.TheVariants as found
 use Rattle.euler_rotation.specs.declared.walk.Walk.{Walk}
 use Rattle.euler_rotation.specs.Answers.{AreVisited}
 use Rattle.euler_rotation.specs.Prefixes.{entry_of, numbered}
-use Rattle.euler_rotation.specs.Searches.{EndNone, EndsOrNot, HasVisited, is_kept_in}
+use Rattle.euler_rotation.specs.Searches.{EndNone, EndsHere, EndsOrGoesOn, EndsOrNot, GoesOnFrom, HasVisited, IsFound, is_kept_in}
 use Rattle.euler_rotation.specs.Walks.{Advances, IsField, StandsAt, legs_of, pending_in, preorder_in}
 use Rattle.euler_rotation.proofs.Extending.{preorder_first}
 use Rattle.euler_rotation.proofs.TourTurns.{own_leg, same_length, tour_order}
@@ -32,6 +34,10 @@ head_is xs n x ys e =
 
     tails : (x y : List ℕ) (xs ys : List (List ℕ)) → x ∷ xs ≡ y ∷ ys → xs ≡ ys
     tails x y xs ys e = cc
+
+-- what is said of what was found, of one form for all
+unfoldable is_found : Field → ℕ → Found → Type 0
+is_found field visits it = IsFound field visits it
 
 module _ (field : Field) where
   module _ (n : ℕ) (walk : Walk) (visited : HasVisited field n walk) (ends : is_kept_in field (legs_of walk.path) → ⊥) where
@@ -92,6 +98,10 @@ module _ (field : Field) where
   )
 
   -- what a test of a prefix and a step tell
+  pub kept_here : (legs tour : List ℕ) (it : Option (List ℕ)) → EndsOrNot field legs it → it ≡ Some tour → is_kept_in field tour
+  kept_here legs tour None ends is = absurd (none_some is)
+  kept_here legs tour (Some other) ends is = subst (is_kept_in field) (some_is other tour is) ends
+
   pub not_here : (legs : List ℕ) (tour : Option (List ℕ)) → EndsOrNot field legs tour → tour ≡ None → is_kept_in field legs → ⊥
   not_here legs None ends none kept = ends kept
   not_here legs (Some tour) ends none kept = none_some (sym none)
@@ -103,3 +113,19 @@ module _ (field : Field) where
   pub at_end : (old new : Walk) (moved : Bool) → Advances field old new moved → moved ≡ false → pending_in field old.path 0 ≡ []
   at_end old new true at e = unlike e
   at_end old new false at e = at
+
+  -- what a visit tells
+  pub gone_on : (old new : Walk) (it : Option Found) → EndsOrGoesOn field old new it → it ≡ None → GoesOnFrom field old new
+  gone_on old new None goes none = goes
+  gone_on old new (Some it) ends none = absurd (none_some (sym none))
+
+  ended_here : (n : ℕ) (at : Walk) (visits : ℕ) → HasVisited field n at → (it : Found) → EndsHere field at it → is_found field visits it
+  unfolding is_found
+  ended_here n at visits visited (found.Tour legs) kept = kept
+  ended_here n at visits visited found.Nothing end = visited_all n at visited end.none end.last
+  ended_here n at visits visited (found.Spent prefix) end = absurd end
+
+  pub found_here : (n : ℕ) (old new : Walk) (it : Option Found) (what : Found) (visits : ℕ) → HasVisited field n old → EndsOrGoesOn field old new it → it ≡ Some what → IsFound field visits what
+  unfolding is_found
+  found_here n old new None what visits visited goes is = absurd (none_some is)
+  found_here n old new (Some it) what visits visited ends is = subst (is_found field visits) (some_is it what is) (ended_here n old visits visited it ends)

@@ -1,5 +1,5 @@
 -- What a search among prefixes came to.
-use Rattle.std.specs.Prelude.{◌≡◌, ℕ, ◌<◌, List, ◌∷◌, drop, length, Option, Some, None}
+use Rattle.std.specs.Prelude.{◌≡◌, ℕ, ◌<◌, List, [], ◌∷◌, drop, length, Option, Some, None}
 use Rattle.fleet_model.specs.declared.parts.Connection.{Connection}
 use Rattle.fleet_model.specs.declared.tables.Tables.{Tables}
 use Rattle.euler_rotation.specs.declared.asked.Asked.{Asked}
@@ -11,7 +11,7 @@ use Rattle.euler_rotation.specs.Answers.{AreEnough, AreVisited, IsNone, IsRight,
 use Rattle.euler_rotation.specs.Asked.{IsAsked}
 use Rattle.euler_rotation.specs.Prefixes.{entry_of, preorder}
 use Rattle.euler_rotation.specs.Tours.{IsKeptTour, IsTourWith, nights_used}
-use Rattle.euler_rotation.specs.Walks.{IsWalk, legs_of, pending_in, preorder_in}
+use Rattle.euler_rotation.specs.Walks.{IsWalk, StandsAt, legs_of, pending_in, preorder_in}
 
 -- none of the first prefixes ends a kept tour
 pub record EndNoneOf (t : Tables) (a : List ℕ) (f : ℕ) (pairs : List Connection) (days : ℕ) (order : List ℕ) (n : ℕ) : Type 0 where
@@ -53,6 +53,25 @@ IsFound field visits found = IsFoundUnder field.clean.now.asked.now.tables.now f
 abbrev pub EndsOrNot : Field → List ℕ → Option (List ℕ) → Type 0
 EndsOrNot field legs None = is_kept_in field legs → ⊥
 EndsOrNot field legs (Some tour) = is_kept_in field tour
+
+-- a prefix ends no kept tour, and it is the last; or the walk goes on to the next
+pub record IsLast (field : Field) (at : Walk) : Type 0 where
+  pub none : is_kept_in field (legs_of at.path) → ⊥
+  pub last : pending_in field at.path 0 ≡ []
+
+pub record GoesOnFrom (field : Field) (old new : Walk) : Type 0 where
+  pub none : is_kept_in field (legs_of old.path) → ⊥
+  pub next : StandsAt field (pending_in field old.path 0) new
+
+-- what a search comes to where it ends at a prefix
+abbrev pub EndsHere : Field → Walk → Found → Type 0
+EndsHere field at (found.Tour legs) = is_kept_in field legs
+EndsHere field at found.Nothing = IsLast field at
+EndsHere field at (found.Spent prefix) = ⊥
+
+abbrev pub EndsOrGoesOn : Field → Walk → Walk → Option Found → Type 0
+EndsOrGoesOn field old new None = GoesOnFrom field old new
+EndsOrGoesOn field old new (Some found) = EndsHere field old found
 
 -- so many prefixes were visited before the one at which the walk stands
 pub record HasVisited (field : Field) (n : ℕ) (at : Walk) : Type 0 where

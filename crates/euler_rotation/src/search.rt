@@ -1,7 +1,7 @@
 //! The search for a kept tour among all prefixes.
 ghost use Rattle.std.specs.Prelude.{◌<◌, IfOk};
-ghost use Rattle.euler_rotation.specs.Searches.{EndsOrNot, IsFound};
-ghost use Rattle.euler_rotation.specs.Walks.{IsField, StandsAt, legs_of, preorder_in};
+ghost use Rattle.euler_rotation.specs.Searches.{EndsOrGoesOn, EndsOrNot, IsFound};
+ghost use Rattle.euler_rotation.specs.Walks.{IsField, IsWalk, StandsAt, legs_of, preorder_in};
 
 use crate::field::Field;
 use crate::kept::is_kept_tour;
@@ -45,21 +45,30 @@ fn visited(
     ensures { IfOk result (IsFound field.now visits) }
 {
     for visited in 0..visits - 1 {
-        if let Some(tour) = ended(alloc, field, walk)? {
-            return Ok(Found::Tour(tour));
+        if let Some(found) = visit(alloc, field, walk)? {
+            return Ok(found);
         }
-        if !advance(field, walk)? {
-            return Ok(Found::Nothing);
-        }
-    }
-    if let Some(tour) = ended(alloc, field, walk)? {
-        return Ok(Found::Tour(tour));
     }
     let prefix = walk.path.legs(alloc)?;
+    match visit(alloc, field, walk)? {
+        Some(found) => Ok(found),
+        None => Ok(Found::Spent(prefix)),
+    }
+}
+
+// Visits the prefix at which a walk stands, and goes to the next: or what the search comes to, where it ends here.
+fn visit(alloc: Global, field: &Field<'_>, walk: &mut Walk) -> Result<Option<Found>, NoMemory>
+    requires field { IsField field.now }
+    requires walk { IsWalk field.now walk.old }
+    ensures { IfOk result (EndsOrGoesOn field.now walk.old walk.new) }
+{
+    if let Some(tour) = ended(alloc, field, walk)? {
+        return Ok(Some(Found::Tour(tour)));
+    }
     if advance(field, walk)? {
-        Ok(Found::Spent(prefix))
+        Ok(None)
     } else {
-        Ok(Found::Nothing)
+        Ok(Some(Found::Nothing))
     }
 }
 

@@ -86,8 +86,7 @@ fn put_members(
         "rotations",
         rotations_value(alloc, tables, solved, rotations),
     )?;
-    put_count(alloc, members, "splits", counts.splits)?;
-    Ok(())
+    put_count(alloc, members, "splits", counts.splits)
 }
 
 /// Puts what was made under a key.
@@ -165,8 +164,7 @@ fn put_open(
 {
     put_count(alloc, members, "grew", counts.open_grew)?;
     put_count(alloc, members, "nodes", counts.open_nodes)?;
-    put_count(alloc, members, "pivots", counts.open_pivots)?;
-    Ok(())
+    put_count(alloc, members, "pivots", counts.open_pivots)
 }
 
 /// The fleets, where there is a plan.
@@ -230,8 +228,7 @@ fn put_fleet(
         u64::from(tables.fleet(fleet).aircraft),
     )?;
     put_made(alloc, members, "name", name_value(alloc, tables, fleet))?;
-    put_count(alloc, members, "used", u64::from(used(tables, plan, fleet)))?;
-    Ok(())
+    put_count(alloc, members, "used", u64::from(used(tables, plan, fleet)))
 }
 
 /// The name of a fleet as a value.

@@ -4,7 +4,7 @@ ghost use Rattle.std.specs.Fmt.{decimal};
 ghost use Rattle.solutions.specs.Solved.{PlanFits, plan_cost};
 ghost use Rattle.fleet_model.specs.Legal.{IsAssignment};
 ghost use Rattle.fleet_rotations.specs.Rotations.{AreRotations};
-ghost use Rattle.plan_report.specs.Summary.{count_lines, outcome_word, printed_bound, result_lines, rotation_line, rotation_lines, summary_text};
+ghost use Rattle.plan_report.specs.Summary.{count_lines, outcome_word, plan_lines, printed_bound, result_lines, rotation_line, rotation_lines, summary_text};
 ghost use Rattle.rotation_report.specs.TextLines.{line_of, number_word};
 
 use dual_bound::TreeCounts;
@@ -18,7 +18,6 @@ use std::alloc::Global;
 
 /// The summary of a solution and its rotations: how the search ended, cost, bound, splits and open leaves, and where there
 /// is a plan the aircraft and the rotation of each fleet.
-#[tactic(auto, unfolding(crate::specs::Summary::summary_text))]
 pub fn summary(
     alloc: Global,
     tables: &Tables,
@@ -30,13 +29,46 @@ pub fn summary(
     ensures { IfOk result (λ text. text.items ≡ summary_text tables.now solved.now rotations.now) }
 {
     let mut text = Vec::new(alloc);
-    push_result(alloc, &mut text, solved)?;
-    push_counts(alloc, &mut text, solved.tree().counts())?;
-    if let Solved::Planned { assignment, .. } = solved {
-        push_fleets(alloc, &mut text, tables, assignment)?;
-        push_rotations(alloc, &mut text, tables, assignment, rotations)?;
-    }
+    push_summary(alloc, &mut text, tables, solved, rotations)?;
     Ok(text)
+}
+
+/// Appends the summary.
+fn push_summary(
+    alloc: Global,
+    text: &mut Vec<u8>,
+    tables: &Tables,
+    solved: &Solved,
+    rotations: &[FleetRotation],
+) -> Result<(), NoMemory>
+    requires plan { PlanFits tables.now solved.now }
+    requires rotations { AreRotations tables.now rotations.now }
+    ensures { OnOk result (text.new.items ≡ text.old.items ++ summary_text tables.now solved.now rotations.now) }
+{
+    push_result(alloc, text, solved)?;
+    push_counts(alloc, text, solved.tree().counts())?;
+    push_plan(alloc, text, tables, solved, rotations)
+}
+
+/// Appends the lines of the fleets and of their rotations, where there is a plan.
+fn push_plan(
+    alloc: Global,
+    text: &mut Vec<u8>,
+    tables: &Tables,
+    solved: &Solved,
+    rotations: &[FleetRotation],
+) -> Result<(), NoMemory>
+    requires plan { PlanFits tables.now solved.now }
+    requires rotations { AreRotations tables.now rotations.now }
+    ensures { OnOk result (text.new.items ≡ text.old.items ++ plan_lines tables.now solved.now rotations.now) }
+{
+    match solved {
+        Solved::Planned { assignment, .. } => {
+            push_fleets(alloc, text, tables, assignment)?;
+            push_rotations(alloc, text, tables, assignment, rotations)
+        }
+        Solved::Infeasible { .. } | Solved::Unsettled { .. } => Ok(()),
+    }
 }
 
 /// Appends the lines of outcome, cost and bound.

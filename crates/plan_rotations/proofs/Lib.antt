@@ -2,4 +2,3 @@ pub mod Best
 pub mod Flown
 pub mod Listed
 pub mod Pushed
-pub mod Seconds

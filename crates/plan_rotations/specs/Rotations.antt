@@ -36,10 +36,13 @@ abbrev pub are_some : List Connection → Bool
 are_some [] = false
 are_some (pair ∷ pairs) = true
 
--- a rotation without pairs is made exactly where pairs were chosen and the one with them was given up
+-- a rotation without pairs is made exactly where it is wanted
+abbrev pub IsMadeIf : Bool → Tables → List ℕ → ℕ → ℕ → ℕ → Option Rotation → Type 0
+IsMadeIf wanted t a f days visits second = MatchBool wanted (IsSomeAnd second (IsRotationWith t a f [] days visits)) (second ≡ None)
+
+-- that is where pairs were chosen and the rotation with them was given up
 abbrev pub IsSecond : Tables → List ℕ → ℕ → ℕ → ℕ → List Connection → Rotation → Option Rotation → Type 0
-IsSecond t a f days visits pairs first second =
-    MatchBool (are_some pairs && is_given_up first) (IsSomeAnd second (IsRotationWith t a f [] days visits)) (second ≡ None)
+IsSecond t a f days visits pairs first second = IsMadeIf (are_some pairs && is_given_up first) t a f days visits second
 
 pub record IsMadeRotation (t : Tables) (a : List ℕ) (f days visits : ℕ) (made : FleetRotation) : Type 0 where
   pub pairs : AreWorthMost t a f made.pairs

@@ -1,10 +1,10 @@
-ghost use Rattle.std.specs.Prelude.{◌≡◌, ◌<◌, ◌≤◌, ◌==◌, not, length, IfOk, []};
+ghost use Rattle.std.specs.Prelude.{◌≡◌, ◌<◌, ◌≤◌, ◌&&◌, length, IfOk, []};
 ghost use Rattle.fleet_model.specs.Legal.{IsLegal};
 ghost use Rattle.fleet_model.specs.Schedule.{fleets_in};
 ghost use Rattle.fleet_model.specs.Plain.{IsPlain};
 ghost use Rattle.ground_turns.specs.Maps.{IsHeld};
 ghost use Rattle.fleet_rotations.specs.Rotations.{AreFlown, AreKept, AreRotations, rotation_of};
-ghost use Rattle.plan_rotations.specs.Rotations.{ArePlanRotations, AreWorthMost, IsMadeRotation, IsRotationWith, IsSecond, are_some, is_given_up};
+ghost use Rattle.plan_rotations.specs.Rotations.{ArePlanRotations, AreWorthMost, IsMadeIf, IsMadeRotation, IsRotationWith, are_some, is_given_up};
 
 use entries::{Entries, NoMemory};
 use euler_rotation::{Rotation, rotate};
@@ -75,16 +75,44 @@ fn rotation_of(
 {
     let pairs = pairs_of(alloc, tables, plan, fleet)?;
     let first = rotated(alloc, tables, plan, fleet, pairs.as_slice(), days, visits)?;
-    let second = if !pairs.is_empty() && is_given_up(&first) {
-        Some(rotated_freely(alloc, tables, plan, fleet, days, visits)?)
-    } else {
-        None
-    };
+    let wanted = wants_second(&pairs, &first);
+    let second = second_of(alloc, tables, plan, fleet, wanted, days, visits)?;
     Ok(FleetRotation {
         pairs,
         first,
         second,
     })
+}
+
+/// Whether through pairs stand in the way of a rotation, so that one without them is made too.
+fn wants_second(pairs: &Entries<Connection>, first: &Rotation) -> bool
+    ensures { result ≡ (are_some pairs.now && is_given_up first.now) }
+{
+    !pairs.is_empty() && is_given_up(first)
+}
+
+/// What becomes of the rotation without pairs, where it is wanted.
+fn second_of(
+    alloc: Global,
+    tables: &Tables,
+    plan: &Assignment,
+    fleet: u32,
+    wanted: bool,
+    days: u32,
+    visits: u32,
+) -> Result<Option<Rotation>, NoMemory>
+    requires plain { IsPlain tables.now }
+    requires plan { IsLegal tables.now plan.now }
+    requires fleet { fleet < fleets_in tables.now }
+    requires some_days { 0 < days }
+    requires few_days { days ≤ 30 }
+    ensures { IfOk result (IsMadeIf wanted tables.now plan.now fleet days visits) }
+{
+    if wanted {
+        Ok(Some(rotated_freely(alloc, tables, plan, fleet, days, visits)?))
+    } else {
+        Ok(None)
+    }
 }
 
 /// The through pairs of a fleet that are worth most.

@@ -1,8 +1,9 @@
 -- Pieces joined, one more at a time.
-use Rattle.std.proofs.Common.{◌≡◌, ℕ, suc, ◌+◌, ◌<◌, List, [], ◌∷◌, ◌++◌, length, map, take, get_or, Bor, sym, ap, ◌∙◌, add-one, append_assoc, rules}
+use Rattle.std.proofs.Common.{◌≡◌, ℕ, suc, ◌+◌, ◌<◌, ◌≤◌, List, [], ◌∷◌, ◌++◌, length, map, take, get_or, Bor, sym, ap, ◌∙◌, add-one, append_assoc, rules}
 use Rattle.std.proofs.lemmas.Grind.{common_steps}
 use Rattle.std.specs.List.{concat}
-use Rattle.std.proofs.lemmas.List.{map_push, take_more}
+use Rattle.std.proofs.lemmas.List.{map_push, take_all, take_more}
+use Rattle.rotation_report.specs.TextLines.{line_of}
 
 -- what pieces show
 abbrev pub shown : List (Bor (List ℕ)) → List (List ℕ)
@@ -22,3 +23,9 @@ piece_more pieces i d start text grown within so_far added =
 pub lines_more : (lines : ℕ → List ℕ) (n : ℕ) (line start text grown : List ℕ) → lines (suc n) ≡ lines n ++ line → text ≡ start ++ lines n → grown ≡ text ++ line → grown ≡ start ++ lines (n + 1)
 lines_more lines n line start text grown step so_far added =
     added ∙ ap (λ t. t ++ line) so_far ∙ append_assoc start (lines n) line ∙ ap (λ xs. start ++ xs) (sym step ∙ ap lines (sym (add-one n)))
+
+-- all pieces, and a line feed
+pub line_more : (pieces : List (Bor (List ℕ))) (i : ℕ) (start text grown : List ℕ) → length pieces ≤ i → text ≡ start ++ concat (shown (take i pieces)) → grown ≡ text ++ 10 ∷ []
+    → grown ≡ start ++ line_of (shown pieces)
+line_more pieces i start text grown all so_far added =
+    added ∙ ap (λ t. t ++ 10 ∷ []) (so_far ∙ ap (λ ps. start ++ concat (shown ps)) (take_all i pieces all)) ∙ append_assoc start (concat (shown pieces)) (10 ∷ [])

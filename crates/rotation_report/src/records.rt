@@ -86,8 +86,7 @@ fn put_fleet(
     };
     put_pairs(writer, first, tables, made.pairs.as_slice())?;
     put_rotation(alloc, writer, first, tables, fleet, &made.first, visits)?;
-    put_second(alloc, writer, tables, fleet, &made.second, visits)?;
-    Ok(())
+    put_second(alloc, writer, tables, fleet, &made.second, visits)
 }
 
 /// Writes the round without through pairs, where there is one.
@@ -184,8 +183,7 @@ fn put_apart(
     ensures { OnOk result (HasRows writer.old writer.new round.entry (apart_rows tables.now legs.now)) }
 {
     put_numbers(alloc, writer, round, b"apart", legs.len() as u64, 0)?;
-    put_legs(writer, round, b"leg", tables, legs)?;
-    Ok(())
+    put_legs(writer, round, b"leg", tables, legs)
 }
 
 /// Writes that the search was given up, its order, and the last prefix that it visited.
@@ -205,8 +203,7 @@ fn put_spent(
 {
     put_numbers(alloc, writer, round, b"visits", visits, prefix.len() as u64)?;
     put_legs(writer, round, b"order", tables, order)?;
-    put_legs(writer, round, b"leg", tables, prefix)?;
-    Ok(())
+    put_legs(writer, round, b"leg", tables, prefix)
 }
 
 /// Writes the legs of a list.

@@ -101,8 +101,7 @@ fn put_nights(
         waited,
         station.code.as_slice(),
         yes_no(station.maintenance),
-    )?;
-    Ok(())
+    )
 }
 
 /// The nights in the flight and the turn of a leg.

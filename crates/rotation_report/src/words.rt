@@ -88,8 +88,7 @@ fn push_nights(alloc: Global, words: &mut String, have: u32, used: u32) -> Resul
     ensures { OnOk result (string_bytes words.new ≡ string_bytes words.old ++ codes "too few nights " ++ decimal have ++ codes " of " ++ decimal used) }
 {
     push_number(alloc, words, "too few nights ", u64::from(have))?;
-    push_number(alloc, words, " of ", u64::from(used))?;
-    Ok(())
+    push_number(alloc, words, " of ", u64::from(used))
 }
 
 /// Appends in words that an aircraft comes round a tour of so many legs in so many days.

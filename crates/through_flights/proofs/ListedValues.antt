@@ -1,5 +1,5 @@
 -- The values of through pairs, entry by entry from the last.
-use Rattle.std.proofs.Common.{◌≡◌, ◌≢◌, ℕ, suc, ◌-◌, ◌<◌, ◌≤◌, ◌==◌, ◌&&◌, Bool, true, false, if◌then◌else◌, List, ◌∷◌, length, slice_index, slice_set, drop, Some, unwrap_or, unsigned_abs, pos, refl, sym, ◌∙◌, ap, subst, inl, inr, arith, drop-cons, get_or, get_or-set_same, get_or-set_other}
+use Rattle.std.proofs.Common.{◌≡◌, ◌≢◌, ℕ, suc, ◌-◌, ◌<◌, ◌≤◌, ◌==◌, ◌&&◌, Bool, true, false, if◌then◌else◌, List, ◌∷◌, length, slice_index, slice_set, drop, Option, Some, unwrap_or, unsigned_abs, ℤ, pos, refl, sym, ◌∙◌, ap, subst, inl, inr, arith, drop-cons, get_or, get_or-set_same, get_or-set_other}
 use Rattle.std.proofs.lemmas.Bool.{cases_eq}
 use Rattle.std.proofs.lemmas.Bool.Decides.{nat_tests}
 use Rattle.std.proofs.Math.Seq.{drop-length}
@@ -20,6 +20,11 @@ none_listed values entries n arriving e departing lt =
 abbrev pub nothing : Through
 nothing = record { arriving = 0; departing = 0; value = pos 0 }
 
+-- an entry of another pair is passed by
+passed : (b : Bool) (value : ℤ) (rest : Option ℤ) → b ≡ false → unsigned_abs (unwrap_or (if b then Some value else rest) (pos 0)) ≡ unsigned_abs (unwrap_or rest (pos 0))
+passed true value rest e = cc
+passed false value rest e = refl
+
 -- one entry more, of this arriving leg
 pub one_listed : (values : List ℕ) (entries : List Through) (n arriving left : ℕ) (entry : Through) → left < length entries → get_or entries left nothing ≡ entry
     → entry.arriving ≡ arriving → entry.departing < length values
@@ -35,7 +40,7 @@ one_listed values entries n arriving left entry left_lt is same entry_lt before 
       | inr there ↦
           get_or-set_other values entry.departing departing (unsigned_abs entry.value) 0 there
           ∙ before departing lt
-          ∙ sym (ap (λ es. unsigned_abs (unwrap_or (value_in es (pair_of arriving departing)) (pos 0))) first ∙ passed (is_of (pair_of arriving departing) entry) (fails there))
+          ∙ sym (ap (λ es. unsigned_abs (unwrap_or (value_in es (pair_of arriving departing)) (pos 0))) first ∙ passed (is_of (pair_of arriving departing) entry) entry.value (value_in (drop (suc left) entries) (pair_of arriving departing)) (fails there))
     ]
   where
     first : drop left entries ≡ entry ∷ drop (suc left) entries
@@ -59,12 +64,6 @@ one_listed values entries n arriving left entry left_lt is same entry_lt before 
     taken true e = refl
     taken false e = cc
 
-    passed : (b : Bool) → b ≡ false
-        → unsigned_abs (unwrap_or (if b then Some entry.value else value_in (drop (suc left) entries) (pair_of arriving departing)) (pos 0))
-        ≡ unsigned_abs (unwrap_or (value_in (drop (suc left) entries) (pair_of arriving departing)) (pos 0))
-    passed true e = cc
-    passed false e = refl
-
 -- the last entries are read
 pub first_values : (values : List ℕ) (entries read : List Through) (n m arriving : ℕ) → values ≡ list_below (λ _. 0) m → m ≡ n → read ≡ entries
     → (departing : ℕ) → departing < n → slice_index values departing ≡ unsigned_abs (unwrap_or (value_in (drop (length read) entries) (pair_of arriving departing)) (pos 0))
@@ -85,3 +84,20 @@ more_values values new entries read n arriving left value entry same some within
     ap (λ xs. slice_index xs departing) (e ∙ ap (slice_set values entry.departing) worth)
     ∙ one_listed values entries n arriving (left - 1) entry (omega arith) (sym (is ∙ ap (λ es. get_or es (left - 1) nothing) same)) arrives (subst (λ m. entry.departing < m) (sym size) entry_lt)
     (λ k k_lt. before k k_lt ∙ ap (λ m. unsigned_abs (unwrap_or (value_in (drop m entries) (pair_of arriving k)) (pos 0))) (one_behind left some)) departing lt
+
+-- and of another arriving leg
+pub same_values : (values : List ℕ) (entries read : List Through) (n arriving left : ℕ) (entry : Through) → read ≡ entries → 0 < left → left ≤ length entries
+    → entry ≡ get_or read (left - 1) nothing → entry.arriving ≢ arriving
+    → ((departing : ℕ) → departing < n → slice_index values departing ≡ unsigned_abs (unwrap_or (value_in (drop left entries) (pair_of arriving departing)) (pos 0)))
+    → (departing : ℕ) → departing < n
+    → slice_index values departing ≡ unsigned_abs (unwrap_or (value_in (drop (left - 1) entries) (pair_of arriving departing)) (pos 0))
+same_values values entries read n arriving left entry same some within is other before departing lt =
+    before departing lt ∙ ap (λ m. unsigned_abs (unwrap_or (value_in (drop m entries) (pair_of arriving departing)) (pos 0))) (one_behind left some)
+    ∙ sym (ap (λ es. unsigned_abs (unwrap_or (value_in es (pair_of arriving departing)) (pos 0))) first
+    ∙ passed (is_of (pair_of arriving departing) entry) entry.value (value_in (drop (suc (left - 1)) entries) (pair_of arriving departing)) (fails entry.arriving arriving (entry.departing == departing) other))
+  where
+    first : drop (left - 1) entries ≡ entry ∷ drop (suc (left - 1)) entries
+    first = drop-cons entries (left - 1) nothing (omega arith) ∙ ap (λ e. e ∷ drop (suc (left - 1)) entries) (sym (is ∙ ap (λ es. get_or es (left - 1) nothing) same))
+
+    fails : (a b : ℕ) (c : Bool) → a ≢ b → ((a == b) && c) ≡ false
+    fails a b c differ = grind (arith, nat_tests)

@@ -1,10 +1,11 @@
 -- What a through pair that can be flown is worth.
-use Rattle.std.proofs.Common.{◌≡◌, ℕ, suc, ◌+◌, ◌<◌, ◌≤◌, Bool, true, false, if◌then◌else◌, List, [], ◌∷◌, length, slice_index_or, Option, Some, None, IsSome, unwrap_or, unsigned_abs, ℤ, pos, ◌≤ℤ◌, refl, ap, inr, arith}
+use Rattle.std.proofs.Common.{◌≡◌, ℕ, suc, ◌+◌, ◌<◌, ◌≤◌, Bool, true, false, if◌then◌else◌, List, [], ◌∷◌, length, slice_index_or, Option, Some, None, IsSome, unwrap_or, unsigned_abs, ℤ, pos, ◌≤ℤ◌, refl, ap, inl, inr, arith}
 use Rattle.std.proofs.lemmas.Int.{ints}
 use Rattle.fleet_model.specs.declared.limits.TheConstants.{MAX_COST}
 use Rattle.fleet_model.specs.declared.parts.Connection.{Connection}
 use Rattle.fleet_model.specs.declared.parts.Through.{Through}
 use Rattle.fleet_model.specs.declared.tables.Tables.{Tables}
+use Rattle.fleet_model.specs.Counts.{choice_at}
 use Rattle.ground_turns.specs.Throughs.{is_of, value_in, value_of}
 use Rattle.through_flights.specs.declared.worths.TheConstants.{CLEAN_WORTH, MAX_VALUE}
 use Rattle.through_flights.specs.Worths.{IsCleanTurn, IsShort, IsTurnWorth, listed_value}
@@ -58,3 +59,24 @@ through_worth t a f pair value is clean short = record {
 
     small : (a b : ℕ) → a ≡ b → b ≤ MAX_VALUE → CLEAN_WORTH + a ≤ CLEAN_WORTH + MAX_VALUE
     small a b e le = omega arith
+
+-- what isn't such a pair is worth nothing, or as much as a clean turn
+pub no_worth : (t : Tables) (a : List ℕ) (f : ℕ) (pair : Connection) → choice_at a pair.arriving ≡ f → (IsCleanTurn t a f pair → ⊥) → IsTurnWorth t a f pair 0
+no_worth t a f pair own not = record {
+  clean = λ is. absurd (not is);
+  through = λ it. absurd (not (record { turn = it.turn; clean = it.clean }));
+  idle = λ idle. absurd (idle.other own);
+  known = inl refl;
+  above = λ more. absurd (omega (arith, more));
+  most = omega arith;
+}
+
+pub clean_worth : (t : Tables) (a : List ℕ) (f : ℕ) (pair : Connection) → IsCleanTurn t a f pair → (IsShort t f pair → ⊥) → IsTurnWorth t a f pair CLEAN_WORTH
+clean_worth t a f pair is not = record {
+  clean = λ _. omega arith;
+  through = λ it. absurd (not (record { no_night = it.no_night; short = it.short }));
+  idle = λ idle. absurd (idle.other is.turn.comes_on);
+  known = inr (inr is);
+  above = λ more. absurd (omega (arith, more));
+  most = omega arith;
+}

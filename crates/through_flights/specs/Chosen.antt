@@ -1,8 +1,18 @@
 -- What is read from a matching of the legs.
-use Rattle.std.specs.Prelude.{ℕ, ◌-◌, ◌==◌, nat_lt, Bool, if◌then◌else◌, List, slice_index, ℤ, pos, ◌-ℤ◌}
-use Rattle.best_matching.specs.Worths.{worth_at}
+use Rattle.std.specs.Prelude.{◌≡◌, ℕ, ◌-◌, ◌==◌, nat_lt, Bool, if◌then◌else◌, List, length, slice_index, ℤ, pos, ◌-ℤ◌}
+use Rattle.best_matching.specs.Worths.{AreDuals, AreTight, IsOneToOne, worth_at}
+use Rattle.best_matching.specs.declared.matching.Matching.{Matching}
 use Rattle.fleet_model.specs.Counts.{choice_at}
 use Rattle.through_flights.specs.declared.worths.TheConstants.{CLEAN_WORTH}
+
+-- a one-to-one map of the rows that is worth most, as its dual numbers show
+pub record IsBestMatching (worths : List (List ℕ)) (m : Matching) : Type 0 where
+  pub rows : length m.columns ≡ length worths
+  pub row_duals : length m.row_duals ≡ length worths
+  pub column_duals : length m.column_duals ≡ length worths
+  pub one_to_one : IsOneToOne (slice_index m.columns) (length worths)
+  pub reach : AreDuals worths (slice_index m.row_duals) (slice_index m.column_duals)
+  pub meet : AreTight worths (slice_index m.row_duals) (slice_index m.column_duals) (slice_index m.columns) (length worths)
 
 -- a leg goes on in a through pair of some value
 abbrev pub is_chosen : List (List ℕ) → List ℕ → ℕ → Bool

@@ -9,13 +9,13 @@ ghost use Rattle.fleet_model.specs.Schedule.{fleets_in, legs_in};
 ghost use Rattle.fleet_model.specs.Plain.{IsPlain};
 ghost use Rattle.ground_turns.specs.Throughs.{IsThroughSet, value_of_set};
 ghost use Rattle.through_flights.specs.Choice.{AreListed, IsChoice, ReachTurns, sum_of, turns_below};
-ghost use Rattle.through_flights.specs.Chosen.{chosen_value, is_chosen, own_number};
+ghost use Rattle.through_flights.specs.Chosen.{IsBestMatching, chosen_value, is_chosen, own_number};
 ghost use Rattle.through_flights.specs.Worths.{AreTurnWorths};
 ghost use Rattle.through_flights.specs.declared.worths.TheConstants.{CLEAN_WORTH, MAX_VALUE};
 
 use crate::waits::longest_waits;
 use crate::worths::{CLEAN_WORTH, FleetTurns, turn_worths};
-use best_matching::best_matching;
+use best_matching::{Matching, best_matching};
 use entries::{Entries, NoMemory};
 use fleet_model::{Assignment, Connection, Tables};
 use std::alloc::Global;
@@ -61,7 +61,7 @@ pub fn choose(
     matched(alloc, &turns, table.as_slice())
 }
 
-/// The through pairs of a matching that is worth most, with numbers of its duals.
+/// The through pairs of the matching that is worth most, with numbers of its duals.
 fn matched(
     alloc: Global,
     turns: &FleetTurns<'_>,
@@ -74,6 +74,23 @@ fn matched(
     ensures { IfOk result (IsChoice turns.now.tables.now turns.now.plan.now turns.now.fleet) }
 {
     let matching = best_matching(alloc, worths)?;
+    choice_of(alloc, turns, worths, &matching)
+}
+
+/// The through pairs of a matching, with numbers of its duals.
+fn choice_of(
+    alloc: Global,
+    turns: &FleetTurns<'_>,
+    worths: &[Entries<u64>],
+    matching: &Matching,
+) -> Result<Throughs, NoMemory>
+    requires plain { IsPlain turns.now.tables.now }
+    requires plan { IsLegal turns.now.tables.now turns.now.plan.now }
+    requires fleet { turns.now.fleet < fleets_in turns.now.tables.now }
+    requires worths { AreTurnWorths turns.now.tables.now turns.now.plan.now turns.now.fleet worths.now }
+    requires matching { IsBestMatching worths.now matching.now }
+    ensures { IfOk result (IsChoice turns.now.tables.now turns.now.plan.now turns.now.fleet) }
+{
     let columns = &matching.columns;
     Ok(Throughs {
         pairs: chosen_pairs(alloc, worths, columns)?,

@@ -1,4 +1,4 @@
-use Rattle.std.proofs.Common.{◌≡◌, ◌<◌, sym, ◌∙◌, ap, subst}
+use Rattle.std.proofs.Common.{◌≡◌, ◌<◌, length, sym, ◌∙◌, ap, subst, arith}
 use Rattle.std.proofs.lemmas.List.{get_or_default}
 use Rattle.sums.specs.Places.{list_below}
 use Rattle.ground_turns.specs.Maps.{turn_at}
@@ -29,3 +29,23 @@ loop-turn-preserved c =
       linked = linked_more c.args.turns.now c.loop-turn.labels.items c.relabel.new.labels.items c.loop-turn.turn-index c.index-from.result.now c.index-to.result.now
           c.loop-turn-test.true known c.loop-turn.invariant.linked c.relabel.ensures from to;
     }
+
+pub returns-clause-cycles : goal.returns-clause-cycles
+returns-clause-cycles c = record {
+  linked = λ k lt. c.loop-turn.invariant.linked.linked k (omega (arith, lt, c.loop-turn-test.false));
+  whole = c.loop-turn.invariant.linked.whole;
+}
+
+pub index-from-requires : goal.index-from-requires
+index-from-requires c =
+    let below : (turn_at c.args.turns.now c.loop-turn.turn-index).arriving < length c.loop-turn.labels.items =
+    (are_known c.args.ground.now.tables.now c.args.ground.now.plan.now c.args.ground.now.fleet c.args.turns.now c.loop-turn.labels.items c.requires.fitting.map
+    c.loop-turn.invariant.labels.each_leg).arriving c.loop-turn.turn-index c.loop-turn-test.true in
+    omega (arith, below, c.loop-turn.labels.ok)
+
+pub index-to-requires : goal.index-to-requires
+index-to-requires c =
+    let below : (turn_at c.args.turns.now c.loop-turn.turn-index).departing < length c.loop-turn.labels.items =
+    (are_known c.args.ground.now.tables.now c.args.ground.now.plan.now c.args.ground.now.fleet c.args.turns.now c.loop-turn.labels.items c.requires.fitting.map
+    c.loop-turn.invariant.labels.each_leg).departing c.loop-turn.turn-index c.loop-turn-test.true in
+    omega (arith, below, c.loop-turn.labels.ok)

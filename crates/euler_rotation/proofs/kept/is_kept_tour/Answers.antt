@@ -21,6 +21,18 @@ pub returns-then-not-are_met : goal.returns-then-not-are_met
 returns-then-not-are_met c = fails (λ kept. refuted c.if-not-are_met.ensures
     (tour_met c.args.clean.now.asked.now.tables.now c.args.clean.now.asked.now.plan.now c.args.clean.now.asked.now.fleet c.args.legs.now kept.tour))
 
+pub returns-then-not-is_often : goal.returns-then-not-is_often
+returns-then-not-is_often c = fails (λ kept. refuted c.if-not-is_often.ensures kept.kept)
+
+pub returns-then-not-hold : goal.returns-then-not-hold
+returns-then-not-hold c = fails (λ kept. refuted c.if-not-hold.ensures kept.holds)
+
+pub is_often-requires-clause-known : goal.is_often-requires-clause-known
+is_often-requires-clause-known c = c.if-not-are_known.ensures.0 refl
+
+pub is_order-requires-clause-known : goal.is_order-requires-clause-known
+is_order-requires-clause-known c = c.if-not-are_known.ensures.0 refl
+
 pub returns : goal.returns
 returns c = (
   (λ passed.

@@ -31,3 +31,6 @@ returns c =
     ∙ ap (λ n. take (n - c.first_day-early.result) c.loop-place.lines.items) long
     ∙ last_lines t c.args.fleet tour c.first_day-early.result c.loop-place.lines.items c.first_day-early.ensures.value
     (c.loop-place.invariant.ended ∙ ap (λ n. list_below (λ d. legs_on_day t c.args.fleet tour d n) (day_of t c.args.fleet tour n)) all)
+
+pub nights_after-nights-requires-clause-known : goal.nights_after-nights-requires-clause-known
+nights_after-nights-requires-clause-known c = c.requires.known

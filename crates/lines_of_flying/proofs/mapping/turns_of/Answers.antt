@@ -10,6 +10,12 @@ use Rattle.lines_of_flying.proofs.mapping.turns_of.Goals.{then-choice-ground+in_
 other_fleet : (m f : ℕ) → ¬ (m ≡ f) → (m == f) ≡ false
 other_fleet m f differ = grind (arith, nat_tests)
 
+pub follower-requires-clause-ground : goal.follower-requires-clause-ground
+follower-requires-clause-ground c = c.requires.ground
+
+pub follower-requires-clause-places : goal.follower-requires-clause-places
+follower-requires-clause-places c = c.requires.places
+
 pub loop-leg-init : goal.loop-leg-init
 loop-leg-init c =
     c.new-turns.ensures.items ∙ no_turns c.args.ground.now.tables.now c.args.ground.now.plan.now c.args.ground.now.fleet c.args.ground.now.pairs.now

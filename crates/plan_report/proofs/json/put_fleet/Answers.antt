@@ -1,4 +1,5 @@
 use Rattle.std.proofs.Common.{◌≡◌, codes, ap, ◌∙◌, rules}
+use Rattle.std.proofs.lemmas.Result.{on_ok_weaker}
 use Rattle.serde_json.specs.Data.{object, put, string}
 use Rattle.serde_json.specs.View.{members_view}
 use Rattle.fleet_model.specs.Counts.{weights_of}
@@ -18,7 +19,7 @@ returns c =
     let m₃ = members_view c.put_count-2.new.members.entries in
     let there : c.from.result ≡ fleet.aircraft = search rules in
     let flown : c.from-2.result ≡ used = search rules in
-    ap object (fleet_members m₀ m₁ m₂ m₃ (count_data fleet.aircraft) (string fleet.name) (count_data used) c.requires.none
+    on_ok_weaker c.put_count-2.result (λ last. ap object (fleet_members m₀ m₁ m₂ m₃ (count_data fleet.aircraft) (string fleet.name) (count_data used) c.requires.none
     (c.in_ok-put_count.ensures ∙ ap (λ n. put (codes "has") (count_data n) m₀) there)
     (put_known c.name_value.result (codes "name") (string fleet.name) m₁ m₂ c.in_ok-put_made.ensures c.name_value.ensures)
-    (c.in_ok-put_count-2.ensures ∙ ap (λ n. put (codes "used") (count_data n) m₂) flown))
+    (last ∙ ap (λ n. put (codes "used") (count_data n) m₂) flown))) c.put_count-2.ensures

@@ -1,4 +1,5 @@
 use Rattle.std.proofs.Common.{◌≡◌, codes, ap, ◌∙◌, rules}
+use Rattle.std.proofs.lemmas.Result.{on_ok_weaker}
 use Rattle.serde_json.specs.Data.{array, object, put, string}
 use Rattle.serde_json.specs.View.{items_of, members_view}
 use Rattle.dual_bound.specs.Leaves.{counts_of}
@@ -23,7 +24,7 @@ returns c =
     let m₅ = members_view c.put_made-5.new.members.entries in
     let m₆ = members_view c.put_made-6.new.members.entries in
     let m₇ = members_view c.put_count.new.members.entries in
-    ap object (seven_members m₀ m₁ m₂ m₃ m₄ m₅ m₆ m₇
+    on_ok_weaker c.put_count.result (λ last. ap object (seven_members m₀ m₁ m₂ m₃ m₄ m₅ m₆ m₇
     (number_data (printed_bound s)) (number_data (plan_cost s)) fleets (open_data (counts_of (tree_of s))) (string (outcome_word s)) words (count_data (counts_of (tree_of s)).splits)
     c.requires.none
     (put_known c.bound_value.result (codes "bound") (number_data (printed_bound s)) m₀ m₁ c.in_ok-put_made.ensures c.bound_value.ensures)
@@ -32,4 +33,4 @@ returns c =
     (put_known c.open_value.result (codes "open") (open_data c.counts-counts.result) m₃ m₄ c.in_ok-put_made-4.ensures c.open_value.ensures ∙ ap (λ k. put (codes "open") (open_data k) m₃) counts)
     (put_known c.outcome_value.result (codes "outcome") (string (outcome_word s)) m₄ m₅ c.in_ok-put_made-5.ensures c.outcome_value.ensures)
     (put_known c.rotations_value.result (codes "rotations") words m₅ m₆ c.in_ok-put_made-6.ensures c.rotations_value.ensures)
-    (c.in_ok-put_count.ensures ∙ ap (λ k. put (codes "splits") (count_data k.splits) m₆) counts))
+    (last ∙ ap (λ k. put (codes "splits") (count_data k.splits) m₆) counts))) c.put_count.ensures

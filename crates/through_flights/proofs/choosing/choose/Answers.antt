@@ -3,6 +3,12 @@ use Rattle.std.proofs.lemmas.Result.{IfOk-weaker}
 use Rattle.through_flights.specs.Worths.{AreTurnWorths}
 use Rattle.through_flights.proofs.choosing.choose.Goals as goal
 
+pub turn_worths-requires : goal.turn_worths-requires
+turn_worths-requires c = record { assignment = c.requires.plan.assignment; fleet = c.requires.fleet; longest = c.in_ok-longest_waits.ensures }
+
+pub matched-requires-clause-plan : goal.matched-requires-clause-plan
+matched-requires-clause-plan c = c.requires.plan
+
 pub matched-requires-clause-worths : goal.matched-requires-clause-worths
 matched-requires-clause-worths c = subst (AreTurnWorths c.args.tables.now c.args.plan.now c.args.fleet) (sym c.as_slice.ensures.value) c.in_ok-table.ensures
 

@@ -1,28 +1,6 @@
-use Rattle.std.proofs.Common.{pos, rules, sym, ◌∙◌, ap}
-use Rattle.std.proofs.lemmas.Int.{to_z-of_z}
-use mir.Val.{SFits}
-use mir.Syntax.{w128}
-use Rattle.sums.specs.Below.{sum_below}
-use Rattle.sums.specs.Places.{list_below}
-use Rattle.through_flights.specs.Chosen.{chosen_value}
-use Rattle.through_flights.proofs.Choices.{are_listed, matched_followers, set_value, through_set}
-use Rattle.through_flights.proofs.Numbers.{numbers_reach, numbers_sum}
 use Rattle.through_flights.proofs.choosing.matched.Goals as goal
 
-pub returns : goal.returns
-returns c =
+pub choice_of-requires-clause-matching : goal.choice_of-requires-clause-matching
+choice_of-requires-clause-matching c =
     let m = c.in_ok-matching.ensures in
-    let w = c.requires.worths in
-    let known = matched_followers _ _ _ _ _ _ _ c.requires.plain c.requires.plan.balanced c.requires.fleet w m.one_to_one m.reach m.meet in
-    let fits : SFits w128 c.chosen_value.result = search rules in
-    let u = c.in_ok-own_numbers.ensures ∙ ap (list_below _) c.requires.plan.assignment.each_leg in
-    let v = c.in_ok-own_numbers-2.ensures ∙ ap (list_below _) c.requires.plan.assignment.each_leg in
-    record {
-      through_set = through_set _ _ _ _ _ w known _ _ w.size c.in_ok-chosen_pairs.ensures;
-      listed = are_listed _ _ _ _ _ w known _ _ w.size c.in_ok-chosen_pairs.ensures;
-      value = to_z-of_z w128 c.chosen_value.result fits ∙ set_value _ _ _ _ _ w known _ _ _ w.size c.in_ok-chosen_pairs.ensures c.chosen_value.ensures;
-      reach = numbers_reach _ _ _ _ _ _ _ _ w m.reach u v;
-      sums = numbers_sum _ _ _ _ _ _ _ w m.meet known _ _ u v
-          ∙ sym (c.chosen_value.ensures ∙ ap (λ n. pos (sum_below (chosen_value c.args.worths.now c.in_ok-matching.matching.columns) n)) w.size)
-          ∙ sym (to_z-of_z w128 c.chosen_value.result fits);
-    }
+    record { rows = m.sizes.0; row_duals = m.sizes.1; column_duals = m.sizes.2; one_to_one = m.one_to_one; reach = m.reach; meet = m.meet }

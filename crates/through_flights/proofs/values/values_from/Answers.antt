@@ -6,7 +6,7 @@ use Rattle.fleet_model.specs.declared.parts.Through.{Through}
 use Rattle.fleet_model.specs.declared.limits.TheConstants.{MAX_COST}
 use Rattle.fleet_model.specs.Limits.{AreThroughs, IsThrough}
 use Rattle.fleet_model.specs.Schedule.{legs_in}
-use Rattle.through_flights.proofs.ListedValues.{first_values, more_values, nothing, values_size}
+use Rattle.through_flights.proofs.ListedValues.{first_values, more_values, nothing, same_values, values_size}
 use Rattle.through_flights.proofs.values.values_from.Goals as goal
 
 at_most : (a b : List Through) → a ≡ b → length a ≤ length b
@@ -39,3 +39,14 @@ loop-left-preserved-then-entry-arriving c =
   where
     in_128 : (z : ℤ) → pos 0 ≤ℤ z → z ≤ℤ MAX_COST → SFits w128 z
     in_128 z no_less no_more = omega (arith, ints)
+
+pub loop-left-preserved : goal.loop-left-preserved
+loop-left-preserved c =
+    let some : 0 < c.loop-left.left = c.loop-left-test.true in
+    let within : c.loop-left.left ≤ length c.args.tables.now.throughs = c.loop-left.invariant.within in
+    record {
+      size = c.loop-left.invariant.size;
+      within = omega (arith, within);
+      each = same_values c.loop-left.values _ _ _ _ c.loop-left.left (slice_index_or c.as_slice-entries.result.now (c.loop-left.left - 1) nothing) c.as_slice-entries.ensures some within refl
+          c.if-entry-arriving.false c.loop-left.invariant.each;
+    }

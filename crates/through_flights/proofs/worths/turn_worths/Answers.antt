@@ -1,4 +1,4 @@
-use Rattle.std.proofs.Common.{◌≡◌, ◌<◌, ℕ, [], length, slice_index}
+use Rattle.std.proofs.Common.{◌≡◌, ◌<◌, ℕ, [], length, slice_index, sym, ◌∙◌, ap, subst, arith}
 use Rattle.fleet_model.specs.Schedule.{legs_in}
 use Rattle.through_flights.specs.Worths.{IsTurnWorth, pair_of}
 use Rattle.through_flights.proofs.Pushing.{one_longer, pushed}
@@ -14,3 +14,19 @@ loop-arriving-preserved c = record {
       c.in_ok-push.ensures.items c.loop-arriving.invariant.size (λ k less j j_lt. c.loop-arriving.invariant.each k j less j_lt)
       c.in_ok-turn_worths_from.ensures.each arriving lt departing departing_lt;
 }
+
+pub loop-arriving-init : goal.loop-arriving-init
+loop-arriving-init c = record {
+  size = ap length c.new-worths.ensures.items;
+  square = λ arriving lt. absurd (omega (arith, lt));
+  each = λ arriving departing lt departing_lt. absurd (omega (arith, lt));
+}
+
+pub returns : goal.returns
+returns c =
+    let all : c.loop-arriving.arriving ≡ legs_in c.args.turns.now.tables.now = omega (arith, c.loop-arriving-test.false, c.loop-arriving.auto.arriving-end, c.leg_count-arriving-end.ensures) in
+    record {
+      size = c.loop-arriving.invariant.size ∙ all;
+      square = λ arriving lt. c.loop-arriving.invariant.square arriving (subst (λ n. arriving < n) (sym all) lt);
+      each = λ arriving departing lt departing_lt. c.loop-arriving.invariant.each arriving departing (subst (λ n. arriving < n) (sym all) lt) departing_lt;
+    }

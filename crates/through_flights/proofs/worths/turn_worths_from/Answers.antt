@@ -1,3 +1,5 @@
+use Rattle.std.proofs.Common.{◌≡◌, ◌<◌, length, slice_index, sym, ap, subst, arith}
+use Rattle.fleet_model.specs.Schedule.{legs_in}
 use Rattle.through_flights.specs.Worths.{IsTurnWorth, pair_of}
 use Rattle.through_flights.proofs.Pushing.{one_longer, pushed}
 use Rattle.through_flights.proofs.worths.turn_worths_from.Goals as goal
@@ -8,3 +10,16 @@ loop-departing-preserved c = record {
   each = pushed (λ k x. IsTurnWorth c.args.turns.now.tables.now c.args.turns.now.plan.now c.args.turns.now.fleet (pair_of c.args.arriving k) x) 0 _ _ _ _
       c.in_ok-push.ensures.items c.loop-departing.invariant.size c.loop-departing.invariant.each c.turn_worth.ensures;
 }
+
+pub turn_worth-requires-clause-turns : goal.turn_worth-requires-clause-turns
+turn_worth-requires-clause-turns c = c.requires.turns
+
+pub loop-departing-init : goal.loop-departing-init
+loop-departing-init c = record { size = ap length c.new-worths.ensures.items; each = λ departing lt. absurd (omega (arith, lt)) }
+
+pub returns-clause-each : goal.returns-clause-each
+returns-clause-each c departing lt =
+    let turns = c.args.turns.now in
+    let all : c.loop-departing.departing ≡ legs_in turns.tables.now = omega (arith, c.loop-departing-test.false, c.loop-departing.auto.departing-end, c.leg_count-departing-end.ensures) in
+    subst (λ worths. IsTurnWorth turns.tables.now turns.plan.now turns.fleet (pair_of c.args.arriving departing) (slice_index worths departing)) (sym c.from_vec.ensures)
+    (c.loop-departing.invariant.each departing (subst (λ n. departing < n) (sym all) lt))
