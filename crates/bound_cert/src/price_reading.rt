@@ -23,14 +23,17 @@ pub fn prices_at<'a, 'b>(
     ensures { Gives (λ r. (r.0, seen r.1.now)) result (prices_at (naming grammar.now) (seen left.now)) }
 {
     let scale = scale_at(alloc, grammar, left)?;
-    let (rents, rest) = rents_from(alloc, grammar, behind(left))?;
-    let (charges, rest) = charges_from(alloc, grammar, rest)?;
-    let (steps, rest) = steps_from(alloc, grammar, rest)?;
+    let mut rents = Vec::new(alloc);
+    let rest = rents_from(alloc, grammar, &mut rents, behind(left))?;
+    let mut charges = Vec::new(alloc);
+    let rest = charges_from(alloc, grammar, &mut charges, rest)?;
+    let mut steps = Vec::new(alloc);
+    let rest = steps_from(alloc, grammar, &mut steps, rest)?;
     let prices = Prices {
         scale,
-        rents,
-        steps,
-        charges,
+        rents: Entries::from_vec(rents),
+        steps: Entries::from_vec(steps),
+        charges: Entries::from_vec(charges),
     };
     Ok((prices, rest))
 }
@@ -45,30 +48,32 @@ pub fn mixed_at<'a, 'b>(
     ensures { Gives (λ r. (r.0, seen r.1.now)) result (mixed_at (naming grammar.now) (seen left.now)) }
 {
     let scale = mixed_scale_at(alloc, grammar, left)?;
-    let (weights, rest) = weights_from(alloc, grammar, behind(left))?;
+    let mut weights = Vec::new(alloc);
+    let rest = weights_from(alloc, grammar, &mut weights, behind(left))?;
+    let weights = Entries::from_vec(weights);
     Ok((Mixed { scale, weights }, rest))
 }
 
-/// The rents of all fleets, and what is left behind their lines.
+/// Reads the rents of all fleets, and answers what is left behind their lines.
 fn rents_from<'a, 'b>(
     alloc: Global,
     grammar: &Grammar<'_>,
+    rents: &mut Vec<i128>,
     left: &'b [&'a [u8]],
-) -> Result<(Entries<i128>, &'b [&'a [u8]]), Stop>
-    ensures { Gives (λ r. (r.0, seen r.1.now)) result (rents_from (naming grammar.now) [] (seen left.now)) }
+) -> Result<&'b [&'a [u8]], Stop>
+    ensures { Gives (λ rest. (rents.new.items, seen rest.now)) result (rents_from (naming grammar.now) rents.old.items (seen left.now)) }
 {
-    let mut rents = Vec::new(alloc);
     let mut rest = left;
     while let Some(line) = next_line(alloc, grammar, Due::Rent, rest)? {
         let entry = match rent_of(rents.len(), line, rest) {
             Ok(entry) => entry,
             Err(stop) => return Err(stop),
         };
-        push_rent(&mut rents, &entry)?;
+        push_rent(rents, &entry)?;
         rest = behind(rest);
     }
-    pad(&mut rents, grammar.fleets.len())?;
-    Ok((Entries::from_vec(rents), rest))
+    pad(rents, grammar.fleets.len())?;
+    Ok(rest)
 }
 
 /// Appends a rent at its fleet, and 0 for the fleets before that have none yet.
@@ -91,15 +96,15 @@ fn pad(rents: &mut Vec<i128>, fleets: usize) -> Result<(), NoMemory>
     Ok(())
 }
 
-/// The charges, and what is left behind their lines.
+/// Reads the charges, and answers what is left behind their lines.
 fn charges_from<'a, 'b>(
     alloc: Global,
     grammar: &Grammar<'_>,
+    charges: &mut Vec<Charge>,
     left: &'b [&'a [u8]],
-) -> Result<(Entries<Charge>, &'b [&'a [u8]]), Stop>
-    ensures { Gives (λ r. (r.0, seen r.1.now)) result (charges_from (naming grammar.now) [] None (seen left.now)) }
+) -> Result<&'b [&'a [u8]], Stop>
+    ensures { Gives (λ rest. (charges.new.items, seen rest.now)) result (charges_from (naming grammar.now) charges.old.items None (seen left.now)) }
 {
-    let mut charges = Vec::new(alloc);
     let mut before = None;
     let mut rest = left;
     while let Some(line) = next_line(alloc, grammar, Due::Charge, rest)? {
@@ -111,18 +116,18 @@ fn charges_from<'a, 'b>(
         before = Some(entry);
         rest = behind(rest);
     }
-    Ok((Entries::from_vec(charges), rest))
+    Ok(rest)
 }
 
-/// The steps, and what is left behind their lines.
+/// Reads the steps, and answers what is left behind their lines.
 fn steps_from<'a, 'b>(
     alloc: Global,
     grammar: &Grammar<'_>,
+    steps: &mut Vec<PriceStep>,
     left: &'b [&'a [u8]],
-) -> Result<(Entries<PriceStep>, &'b [&'a [u8]]), Stop>
-    ensures { Gives (λ r. (r.0, seen r.1.now)) result (steps_from (naming grammar.now) [] None (seen left.now)) }
+) -> Result<&'b [&'a [u8]], Stop>
+    ensures { Gives (λ rest. (steps.new.items, seen rest.now)) result (steps_from (naming grammar.now) steps.old.items None (seen left.now)) }
 {
-    let mut steps = Vec::new(alloc);
     let mut before = None;
     let mut rest = left;
     while let Some(line) = next_line(alloc, grammar, Due::Step, rest)? {
@@ -134,18 +139,18 @@ fn steps_from<'a, 'b>(
         before = Some(step);
         rest = behind(rest);
     }
-    Ok((Entries::from_vec(steps), rest))
+    Ok(rest)
 }
 
-/// The weights, and what is left behind their lines.
+/// Reads the weights, and answers what is left behind their lines.
 fn weights_from<'a, 'b>(
     alloc: Global,
     grammar: &Grammar<'_>,
+    weights: &mut Vec<Weight>,
     left: &'b [&'a [u8]],
-) -> Result<(Entries<Weight>, &'b [&'a [u8]]), Stop>
-    ensures { Gives (λ r. (r.0, seen r.1.now)) result (weights_from (naming grammar.now) [] None (seen left.now)) }
+) -> Result<&'b [&'a [u8]], Stop>
+    ensures { Gives (λ rest. (weights.new.items, seen rest.now)) result (weights_from (naming grammar.now) weights.old.items None (seen left.now)) }
 {
-    let mut weights = Vec::new(alloc);
     let mut before = None;
     let mut rest = left;
     while let Some(line) = next_line(alloc, grammar, Due::Weight, rest)? {
@@ -157,5 +162,5 @@ fn weights_from<'a, 'b>(
         before = Some(entry);
         rest = behind(rest);
     }
-    Ok((Entries::from_vec(weights), rest))
+    Ok(rest)
 }

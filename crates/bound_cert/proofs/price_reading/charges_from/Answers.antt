@@ -1,4 +1,4 @@
-use Rattle.std.proofs.Common.{[], None, Ok, ap, rules, ◌∙◌}
+use Rattle.std.proofs.Common.{None, rules}
 use Rattle.std.proofs.lemmas.Result.{err_from_is_err_and}
 use Rattle.proof_lines.specs.Known.{naming}
 use Rattle.proof_lines.specs.Words.{seen}
@@ -10,18 +10,17 @@ pub returns-in_err-line : goal.returns-in_err-line
 returns-in_err-line c =
     let p = err_from_is_err_and c.from_residual.result c.from_residual.ensures.1 in
     rw (p.1, p.2)
-    (line_stops (charge_series (naming c.args.grammar.now)) (charges_from (naming c.args.grammar.now) [] None (seen c.args.left.now)) (c.loop-charges.charges.items, c.loop-charges.before) c.loop-charges.rest.now c.loop-charges.invariant c.in_err-line.field-0.0 c.in_err-line.ensures)
+    (line_stops (charge_series (naming c.args.grammar.now)) (charges_from (naming c.args.grammar.now) c.args.charges.now.items None (seen c.args.left.now)) (c.loop-line.charges.items, c.loop-line.before) c.loop-line.rest.now c.loop-line.invariant c.in_err-line.field-0.0 c.in_err-line.ensures)
 
 pub returns-in-Err : goal.returns-in-Err
 returns-in-Err c =
-    entry_stops (charge_series (naming c.args.grammar.now)) (charges_from (naming c.args.grammar.now) [] None (seen c.args.left.now)) (c.loop-charges.charges.items, c.loop-charges.before) c.loop-charges.rest.now c.loop-charges.invariant c.in_ok-line.field-0 c.in-Some.line c.in_ok-line.ensures c.in-Some.is c.in-Err.stop c.in-Err.ensures.gives
+    entry_stops (charge_series (naming c.args.grammar.now)) (charges_from (naming c.args.grammar.now) c.args.charges.now.items None (seen c.args.left.now)) (c.loop-line.charges.items, c.loop-line.before) c.loop-line.rest.now c.loop-line.invariant c.in_ok-line.field-0 c.in-Some.line c.in_ok-line.ensures c.in-Some.is c.in-Err.stop c.in-Err.ensures.gives
 
-pub loop-charges-preserved : goal.loop-charges-preserved
-loop-charges-preserved c =
-    series_goes_on (charge_series (naming c.args.grammar.now)) (charges_from (naming c.args.grammar.now) [] None (seen c.args.left.now)) (c.loop-charges.charges.items, c.loop-charges.before) c.loop-charges.rest.now c.loop-charges.invariant c.in_ok-line.field-0 c.in-Some.line c.in_ok-line.ensures c.in-Some.is
-    _ c.behind-rest.result.now c.in-Ok.entry c.in-Ok.ensures.gives (last_grown c.loop-charges.charges.items _ c.loop-charges.before c.in-Ok.entry (search rules)) (search rules)
+pub loop-line-preserved : goal.loop-line-preserved
+loop-line-preserved c =
+    series_goes_on (charge_series (naming c.args.grammar.now)) (charges_from (naming c.args.grammar.now) c.args.charges.now.items None (seen c.args.left.now)) (c.loop-line.charges.items, c.loop-line.before) c.loop-line.rest.now c.loop-line.invariant c.in_ok-line.field-0 c.in-Some.line c.in_ok-line.ensures c.in-Some.is
+    _ c.behind-rest.result.now c.in-Ok.entry c.in-Ok.ensures.gives (last_grown c.loop-line.charges.items _ c.loop-line.before c.in-Ok.entry (search rules)) (search rules)
 
 pub returns : goal.returns
 returns c =
-    series_ends (charge_series (naming c.args.grammar.now)) (charges_from (naming c.args.grammar.now) [] None (seen c.args.left.now)) (c.loop-charges.charges.items, c.loop-charges.before) c.loop-charges.rest.now c.loop-charges.invariant c.in_ok-line.field-0 c.in_ok-line.ensures c.in_default.is
-    ∙ ap (λ charges. Ok (charges, seen c.loop-charges.rest.now)) (search rules)
+    series_ends (charge_series (naming c.args.grammar.now)) (charges_from (naming c.args.grammar.now) c.args.charges.now.items None (seen c.args.left.now)) (c.loop-line.charges.items, c.loop-line.before) c.loop-line.rest.now c.loop-line.invariant c.in_ok-line.field-0 c.in_ok-line.ensures c.in_default.is

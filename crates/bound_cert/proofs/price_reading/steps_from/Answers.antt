@@ -1,4 +1,4 @@
-use Rattle.std.proofs.Common.{[], None, Ok, ap, rules, ◌∙◌}
+use Rattle.std.proofs.Common.{None, rules}
 use Rattle.std.proofs.lemmas.Result.{err_from_is_err_and}
 use Rattle.proof_lines.specs.Known.{naming}
 use Rattle.proof_lines.specs.Words.{seen}
@@ -10,18 +10,17 @@ pub returns-in_err-line : goal.returns-in_err-line
 returns-in_err-line c =
     let p = err_from_is_err_and c.from_residual.result c.from_residual.ensures.1 in
     rw (p.1, p.2)
-    (line_stops (step_series (naming c.args.grammar.now)) (steps_from (naming c.args.grammar.now) [] None (seen c.args.left.now)) (c.loop-steps.steps.items, c.loop-steps.before) c.loop-steps.rest.now c.loop-steps.invariant c.in_err-line.field-0.0 c.in_err-line.ensures)
+    (line_stops (step_series (naming c.args.grammar.now)) (steps_from (naming c.args.grammar.now) c.args.steps.now.items None (seen c.args.left.now)) (c.loop-line.steps.items, c.loop-line.before) c.loop-line.rest.now c.loop-line.invariant c.in_err-line.field-0.0 c.in_err-line.ensures)
 
 pub returns-in-Err : goal.returns-in-Err
 returns-in-Err c =
-    entry_stops (step_series (naming c.args.grammar.now)) (steps_from (naming c.args.grammar.now) [] None (seen c.args.left.now)) (c.loop-steps.steps.items, c.loop-steps.before) c.loop-steps.rest.now c.loop-steps.invariant c.in_ok-line.field-0 c.in-Some.line c.in_ok-line.ensures c.in-Some.is c.in-Err.stop c.in-Err.ensures
+    entry_stops (step_series (naming c.args.grammar.now)) (steps_from (naming c.args.grammar.now) c.args.steps.now.items None (seen c.args.left.now)) (c.loop-line.steps.items, c.loop-line.before) c.loop-line.rest.now c.loop-line.invariant c.in_ok-line.field-0 c.in-Some.line c.in_ok-line.ensures c.in-Some.is c.in-Err.stop c.in-Err.ensures
 
-pub loop-steps-preserved : goal.loop-steps-preserved
-loop-steps-preserved c =
-    series_goes_on (step_series (naming c.args.grammar.now)) (steps_from (naming c.args.grammar.now) [] None (seen c.args.left.now)) (c.loop-steps.steps.items, c.loop-steps.before) c.loop-steps.rest.now c.loop-steps.invariant c.in_ok-line.field-0 c.in-Some.line c.in_ok-line.ensures c.in-Some.is
-    _ c.behind-rest.result.now c.in-Ok.step c.in-Ok.ensures (last_grown c.loop-steps.steps.items _ c.loop-steps.before c.in-Ok.step (search rules)) (search rules)
+pub loop-line-preserved : goal.loop-line-preserved
+loop-line-preserved c =
+    series_goes_on (step_series (naming c.args.grammar.now)) (steps_from (naming c.args.grammar.now) c.args.steps.now.items None (seen c.args.left.now)) (c.loop-line.steps.items, c.loop-line.before) c.loop-line.rest.now c.loop-line.invariant c.in_ok-line.field-0 c.in-Some.line c.in_ok-line.ensures c.in-Some.is
+    _ c.behind-rest.result.now c.in-Ok.step c.in-Ok.ensures (last_grown c.loop-line.steps.items _ c.loop-line.before c.in-Ok.step (search rules)) (search rules)
 
 pub returns : goal.returns
 returns c =
-    series_ends (step_series (naming c.args.grammar.now)) (steps_from (naming c.args.grammar.now) [] None (seen c.args.left.now)) (c.loop-steps.steps.items, c.loop-steps.before) c.loop-steps.rest.now c.loop-steps.invariant c.in_ok-line.field-0 c.in_ok-line.ensures c.in_default.is
-    ∙ ap (λ steps. Ok (steps, seen c.loop-steps.rest.now)) (search rules)
+    series_ends (step_series (naming c.args.grammar.now)) (steps_from (naming c.args.grammar.now) c.args.steps.now.items None (seen c.args.left.now)) (c.loop-line.steps.items, c.loop-line.before) c.loop-line.rest.now c.loop-line.invariant c.in_ok-line.field-0 c.in_ok-line.ensures c.in_default.is

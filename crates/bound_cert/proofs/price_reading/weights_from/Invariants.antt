@@ -1,12 +1,12 @@
-use Rattle.std.proofs.Common.{◌≡◌, [], None, length}
+use Rattle.std.proofs.Common.{◌≡◌, None, length}
 use Rattle.proof_lines.specs.Known.{naming}
 use Rattle.proof_lines.specs.Words.{seen}
 use Rattle.bound_cert.specs.Reading.{weights_from}
 use Rattle.bound_cert.proofs.price_reading.weights_from.Given as goal
 
 -- the weights so far and those of what is left are all
-abbrev pub invariant-loop-weights : goal.invariant-loop-weights
-invariant-loop-weights l = weights_from (naming l.grammar) l.weights.items l.before (seen l.rest) ≡ weights_from (naming l.grammar) [] None (seen l.left)
+abbrev pub invariant-loop-line : goal.invariant-loop-line
+invariant-loop-line l = weights_from (naming l.grammar) l.weights.items l.before (seen l.rest) ≡ weights_from (naming l.grammar) l.initial.weights.items None (seen l.left)
 
-abbrev pub decreases-loop-weights : goal.decreases-loop-weights
-decreases-loop-weights l = length l.rest
+abbrev pub decreases-loop-line : goal.decreases-loop-line
+decreases-loop-line l = length l.rest
