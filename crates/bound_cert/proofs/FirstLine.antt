@@ -1,6 +1,6 @@
 -- The first line that is left, by what stands behind it.
 use Rattle.bound_cert.proofs.ReadOn.{chosen, failed, fails_by, refused}
-use Rattle.bound_cert.specs.Lines.{◌>>=◌, Fails, Left, Reading, fits, line_due, next_line, of_seen, stopped}
+use Rattle.bound_cert.specs.Lines.{◌>>=◌, Fails, Left, fits, line_due, next_line, of_seen, stopped}
 use Rattle.bound_cert.specs.declared.faults.Stop.{Stop}
 use Rattle.bound_cert.specs.Nodes.{head_is, headed, version_of}
 use Rattle.bound_cert.specs.declared.faults.TheConstants.{BAD_LINE, TEXT_ENDS, WRONG_HEAD}
@@ -12,12 +12,20 @@ use Rattle.proof_lines.specs.Words.{is_word, seen, words_of}
 use Rattle.proof_lines.specs.declared.line.Line.{Line}
 use Rattle.proof_lines.specs.declared.line.Version.{Version}
 use Rattle.proof_lines.specs.declared.reading.Seen.{Seen}
+use Rattle.std.proofs.lemmas.Bool.Decides.{nat_tests}
 use Rattle.std.specs.Prelude.{if◌then◌else◌}
-use Rattle.std.proofs.Common.{[], ◌<◌, ◌∙◌, ◌∷◌, ◌≡◌, Bool, Bor, List, None, Ok, Option, Some, ap, arith, false, length, refl, sym, true, ℕ}
+use Rattle.std.proofs.Common.{[], ◌<◌, ◌==◌, ◌∙◌, ◌∷◌, ◌≡◌, Bool, Bor, List, None, Ok, Option, Some, ap, arith, false, length, refl, sym, true, ℕ}
 
 -- what is wrong with a line that has no line feed
 abbrev pub end_kind : List ℕ → ℕ
 end_kind line = if is_word line then BAD_LINE else TEXT_ENDS
+
+-- a list has no entry, or some
+pub is_none : (n : ℕ) (b : Bool) → b ≡ (n == 0) → b ≡ true → n ≡ 0
+is_none n b is test = grind (arith, nat_tests)
+
+pub is_some : (n : ℕ) (b : Bool) → b ≡ (n == 0) → b ≡ false → 0 < n
+is_some n b is test = grind (arith, nat_tests)
 
 none_due : (n : Naming) (kind : Due) → line_due n kind [] ≡ stopped [] TEXT_ENDS
 unfolding line_due

@@ -3,12 +3,12 @@ ghost use Rattle.std.specs.Prelude.{◌≡◌, ◌++◌, ◌∷◌, [], None, On
 ghost use Rattle.proof_lines.specs.Known.{naming};
 ghost use Rattle.proof_lines.specs.Words.{seen};
 ghost use Rattle.bound_cert.specs.Lines.{Gives};
-ghost use Rattle.bound_cert.specs.Reading.{charges_from, mixed_at, padded, prices_at, rents_from, steps_from, weights_from};
+ghost use Rattle.bound_cert.specs.Reading.{entries_from, listed, mixed_at, padded, prices_at, rents_from};
 
 use crate::faults::Stop;
-use crate::line_reading::{charge_of, mixed_scale_at, rent_of, scale_at, step_of, weight_of};
+use crate::line_reading::{Listed, mixed_scale_at, rent_of, scale_at};
 use crate::reading_lines::{Due, behind, next_line};
-use dual_bound::{Charge, Mixed, PriceStep, Prices, Weight};
+use dual_bound::{Mixed, Prices};
 use entries::{Entries, NoMemory};
 use proof_lines::Grammar;
 use std::alloc::Global;
@@ -26,9 +26,9 @@ pub fn prices_at<'a, 'b>(
     let mut rents = Vec::new(alloc);
     let rest = rents_from(alloc, grammar, &mut rents, behind(left))?;
     let mut charges = Vec::new(alloc);
-    let rest = charges_from(alloc, grammar, &mut charges, rest)?;
+    let rest = entries_from(alloc, grammar, Due::Charge, &mut charges, rest)?;
     let mut steps = Vec::new(alloc);
-    let rest = steps_from(alloc, grammar, &mut steps, rest)?;
+    let rest = entries_from(alloc, grammar, Due::Step, &mut steps, rest)?;
     let prices = Prices {
         scale,
         rents: Entries::from_vec(rents),
@@ -49,7 +49,7 @@ pub fn mixed_at<'a, 'b>(
 {
     let scale = mixed_scale_at(alloc, grammar, left)?;
     let mut weights = Vec::new(alloc);
-    let rest = weights_from(alloc, grammar, &mut weights, behind(left))?;
+    let rest = entries_from(alloc, grammar, Due::Weight, &mut weights, behind(left))?;
     let weights = Entries::from_vec(weights);
     Ok((Mixed { scale, weights }, rest))
 }
@@ -96,69 +96,24 @@ fn pad(rents: &mut Vec<i128>, fleets: usize) -> Result<(), NoMemory>
     Ok(())
 }
 
-/// Reads the charges, and answers what is left behind their lines.
-fn charges_from<'a, 'b>(
+/// Reads entries of which each has a line of a kind, and answers what is left behind their lines.
+fn entries_from<'a, 'b, T: Listed>(
     alloc: Global,
     grammar: &Grammar<'_>,
-    charges: &mut Vec<Charge>,
+    due: Due,
+    entries: &mut Vec<T>,
     left: &'b [&'a [u8]],
 ) -> Result<&'b [&'a [u8]], Stop>
-    ensures { Gives (λ rest. (charges.new.items, seen rest.now)) result (charges_from (naming grammar.now) charges.old.items None (seen left.now)) }
+    ensures { Gives (λ rest. (entries.new.items, seen rest.now)) result (entries_from (listed (naming grammar.now) due (T.says (naming grammar.now))) (entries.old.items, None) (seen left.now)) }
 {
     let mut before = None;
     let mut rest = left;
-    while let Some(line) = next_line(alloc, grammar, Due::Charge, rest)? {
-        let entry = match charge_of(&before, line, rest) {
+    while let Some(line) = next_line(alloc, grammar, due, rest)? {
+        let entry = match T::of_line(alloc, grammar, &before, line, rest) {
             Ok(entry) => entry,
             Err(stop) => return Err(stop),
         };
-        charges.push(entry)?;
-        before = Some(entry);
-        rest = behind(rest);
-    }
-    Ok(rest)
-}
-
-/// Reads the steps, and answers what is left behind their lines.
-fn steps_from<'a, 'b>(
-    alloc: Global,
-    grammar: &Grammar<'_>,
-    steps: &mut Vec<PriceStep>,
-    left: &'b [&'a [u8]],
-) -> Result<&'b [&'a [u8]], Stop>
-    ensures { Gives (λ rest. (steps.new.items, seen rest.now)) result (steps_from (naming grammar.now) steps.old.items None (seen left.now)) }
-{
-    let mut before = None;
-    let mut rest = left;
-    while let Some(line) = next_line(alloc, grammar, Due::Step, rest)? {
-        let step = match step_of(alloc, grammar, &before, line, rest) {
-            Ok(step) => step,
-            Err(stop) => return Err(stop),
-        };
-        steps.push(step)?;
-        before = Some(step);
-        rest = behind(rest);
-    }
-    Ok(rest)
-}
-
-/// Reads the weights, and answers what is left behind their lines.
-fn weights_from<'a, 'b>(
-    alloc: Global,
-    grammar: &Grammar<'_>,
-    weights: &mut Vec<Weight>,
-    left: &'b [&'a [u8]],
-) -> Result<&'b [&'a [u8]], Stop>
-    ensures { Gives (λ rest. (weights.new.items, seen rest.now)) result (weights_from (naming grammar.now) weights.old.items None (seen left.now)) }
-{
-    let mut before = None;
-    let mut rest = left;
-    while let Some(line) = next_line(alloc, grammar, Due::Weight, rest)? {
-        let entry = match weight_of(&before, line, rest) {
-            Ok(entry) => entry,
-            Err(stop) => return Err(stop),
-        };
-        weights.push(entry)?;
+        entries.push(entry)?;
         before = Some(entry);
         rest = behind(rest);
     }

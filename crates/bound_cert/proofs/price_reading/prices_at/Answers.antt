@@ -1,7 +1,7 @@
-use Rattle.std.proofs.Common.{[], None, Ok, ap, rules, ◌∙◌}
+use Rattle.std.proofs.Common.{[], ap, rules, ◌∙◌}
 use Rattle.proof_lines.specs.Known.{naming}
 use Rattle.proof_lines.specs.Words.{seen}
-use Rattle.bound_cert.specs.Reading.{charges_from, rents_from, steps_from}
+use Rattle.bound_cert.specs.Reading.{rents_from}
 use Rattle.bound_cert.proofs.ReadOn.{behind_is, prices_read}
 use Rattle.bound_cert.proofs.price_reading.prices_at.Goals as goal
 
