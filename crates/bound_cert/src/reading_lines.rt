@@ -60,7 +60,9 @@ pub fn line_due(
     if rest.is_empty() {
         return stopped(left, end_kind(line));
     }
-    let read = read_line(alloc, grammar, line)?;
+    let Ok(read) = read_line(alloc, grammar, line) else {
+        return Err(Stop::NoMemory);
+    };
     of_seen(fits(due, read.form), read.line, left)
 }
 
@@ -150,7 +152,9 @@ pub fn next_line(
     let Some((line, rest)) = left.split_first() else {
         return Ok(None);
     };
-    let read = read_line(alloc, grammar, line)?;
+    let Ok(read) = read_line(alloc, grammar, line) else {
+        return Err(Stop::NoMemory);
+    };
     if !fits(due, read.form) {
         return Ok(None);
     }

@@ -20,5 +20,5 @@ returns-then-is_empty c =
 
 pub returns : goal.returns
 returns c =
-    subst (λ read. Gives (λ line. line) c.of_seen.result read) (sym (read_left (naming c.args.grammar.now) c.args.due c.args.left.now c.in-Some.line.now c.in-Some.rest.now c.in-Some.ensures.cases.0 c.in_ok-read.read c.in_ok-read.ensures c.fits.result (is_some _ c.is_empty.result c.is_empty.ensures c.if-is_empty.false) (sym c.fits.ensures)))
+    subst (λ read. Gives (λ line. line) c.of_seen.result read) (sym (read_left (naming c.args.grammar.now) c.args.due c.args.left.now c.in-Some.line.now c.in-Some.rest.now c.in-Some.ensures.cases.0 c.in-Ok.read c.in-Ok.ensures c.fits.result (is_some _ c.is_empty.result c.is_empty.ensures c.if-is_empty.false) (sym c.fits.ensures)))
     c.of_seen.ensures.gives

@@ -11,16 +11,16 @@ pub returns-in_default : goal.returns-in_default
 returns-in_default c = none_next (naming c.args.grammar.now) c.args.due c.args.left.now c.in_default.ensures.cases
 
 pub returns-then-not-fits : goal.returns-then-not-fits
-returns-then-not-fits c = other_next (naming c.args.grammar.now) c.args.due c.args.left.now c.in-Some.line.now c.in-Some.rest.now c.in-Some.ensures.cases.0 c.in_ok-read.read c.in_ok-read.ensures (search rules)
+returns-then-not-fits c = other_next (naming c.args.grammar.now) c.args.due c.args.left.now c.in-Some.line.now c.in-Some.rest.now c.in-Some.ensures.cases.0 c.in-Ok.read c.in-Ok.ensures (search rules)
 
 pub returns-then-is_empty : goal.returns-then-is_empty
 returns-then-is_empty c =
     stopped_gives (λ line. line) c.stopped.result (next_line (naming c.args.grammar.now) c.args.due (seen c.args.left.now)) c.args.left.now (end_kind c.in-Some.line.now.now)
     (c.stopped.ensures ∙ ap (λ kind. Err (stop.Fault (length c.args.left.now) kind)) c.end_kind.ensures)
-    (last_next (naming c.args.grammar.now) c.args.due c.args.left.now c.in-Some.line.now c.in-Some.rest.now c.in-Some.ensures.cases.0 c.in_ok-read.read c.in_ok-read.ensures (search rules) (is_none _ c.is_empty.result c.is_empty.ensures c.if-is_empty.true))
+    (last_next (naming c.args.grammar.now) c.args.due c.args.left.now c.in-Some.line.now c.in-Some.rest.now c.in-Some.ensures.cases.0 c.in-Ok.read c.in-Ok.ensures (search rules) (is_none _ c.is_empty.result c.is_empty.ensures c.if-is_empty.true))
 
-pub returns-in-Ok : goal.returns-in-Ok
-returns-in-Ok c = line_next (naming c.args.grammar.now) c.args.due c.args.left.now c.in-Some.line.now c.in-Some.rest.now c.in-Some.ensures.cases.0 c.in_ok-read.read c.in_ok-read.ensures (search rules) (is_some _ c.is_empty.result c.is_empty.ensures c.if-is_empty.false) c.in-Ok.line c.in-Ok.ensures.gives
+pub returns-in-Ok-of_seen : goal.returns-in-Ok-of_seen
+returns-in-Ok-of_seen c = line_next (naming c.args.grammar.now) c.args.due c.args.left.now c.in-Some.line.now c.in-Some.rest.now c.in-Some.ensures.cases.0 c.in-Ok.read c.in-Ok.ensures (search rules) (is_some _ c.is_empty.result c.is_empty.ensures c.if-is_empty.false) c.in-Ok-of_seen.line c.in-Ok-of_seen.ensures.gives
 
 pub returns-in-Err : goal.returns-in-Err
-returns-in-Err c = next_stops (naming c.args.grammar.now) c.args.due c.args.left.now c.in-Some.line.now c.in-Some.rest.now c.in-Some.ensures.cases.0 c.in_ok-read.read c.in_ok-read.ensures (search rules) (is_some _ c.is_empty.result c.is_empty.ensures c.if-is_empty.false) c.in-Err.stop c.in-Err.ensures.gives
+returns-in-Err c = next_stops (naming c.args.grammar.now) c.args.due c.args.left.now c.in-Some.line.now c.in-Some.rest.now c.in-Some.ensures.cases.0 c.in-Ok.read c.in-Ok.ensures (search rules) (is_some _ c.is_empty.result c.is_empty.ensures c.if-is_empty.false) c.in-Err.stop c.in-Err.ensures.gives
