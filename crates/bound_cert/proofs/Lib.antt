@@ -1,6 +1,7 @@
 pub mod Completing
 pub mod Cut
 pub mod Endings
+pub mod FirstLine
 pub mod FixedFaults
 pub mod LineTwins
 pub mod Lines

@@ -110,6 +110,10 @@ rents_from n = entries_from (rent_series n)
 abbrev pub with_last : {A : Type 0} → List A × Option A → A → List A × Option A
 with_last so_far entry = (so_far.0 ++ entry ∷ [], Some entry)
 
+-- a series whose lines say an entry each, in its order behind the entry before
+abbrev pub listed : {A : Type 0} → Naming → Due → (Option A → Line → Left → Reading A) → Series (List A × Option A) A (List A)
+listed n kind say = record { names = n; kind = kind; say = λ so_far. say so_far.1; grow = with_last; all = λ so_far. so_far.0 }
+
 -- the charge that a line says in its order, behind the charge before
 abbrev pub charge_in_order : Option Charge → Charge → Left → Reading Charge
 charge_in_order before entry left = in_order (charge_follows before entry) left >>= λ order. Ok entry
@@ -123,7 +127,7 @@ charge_at n before = said_at n due.Charge (charge_of before)
 
 -- the charges, from those that are read so far and the last of them, and what is left behind their lines
 abbrev pub charge_series : Naming → Series (List Charge × Option Charge) Charge (List Charge)
-charge_series n = record { names = n; kind = due.Charge; say = λ so_far. charge_of so_far.1; grow = with_last; all = λ so_far. so_far.0 }
+charge_series n = listed n due.Charge charge_of
 
 abbrev pub charges_from : Naming → List Charge → Option Charge → Left → Reading (List Charge × Left)
 charges_from n charges before = entries_from (charge_series n) (charges, before)
@@ -150,7 +154,7 @@ step_at n before = said_at n due.Step (step_of n before)
 
 -- the steps, from those that are read so far and the last of them, and what is left behind their lines
 abbrev pub step_series : Naming → Series (List PriceStep × Option PriceStep) PriceStep (List PriceStep)
-step_series n = record { names = n; kind = due.Step; say = λ so_far. step_of n so_far.1; grow = with_last; all = λ so_far. so_far.0 }
+step_series n = listed n due.Step (step_of n)
 
 abbrev pub steps_from : Naming → List PriceStep → Option PriceStep → Left → Reading (List PriceStep × Left)
 steps_from n steps before = entries_from (step_series n) (steps, before)
@@ -177,7 +181,7 @@ weight_at n before = said_at n due.Weight (weight_of before)
 
 -- the weights, from those that are read so far and the last of them, and what is left behind their lines
 abbrev pub weight_series : Naming → Series (List Weight × Option Weight) Weight (List Weight)
-weight_series n = record { names = n; kind = due.Weight; say = λ so_far. weight_of so_far.1; grow = with_last; all = λ so_far. so_far.0 }
+weight_series n = listed n due.Weight weight_of
 
 abbrev pub weights_from : Naming → List Weight → Option Weight → Left → Reading (List Weight × Left)
 weights_from n weights before = entries_from (weight_series n) (weights, before)

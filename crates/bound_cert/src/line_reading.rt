@@ -1,9 +1,10 @@
 //! Single lines of prices and fractional assignments, read.
-ghost use Rattle.std.specs.Prelude.{◌≡◌, drop, IfOk};
-ghost use Rattle.proof_lines.specs.Known.{naming};
+ghost use Rattle.std.specs.Prelude.{◌≡◌, Option, drop, IfOk};
+ghost use Rattle.proof_lines.specs.Known.{Naming, naming};
 ghost use Rattle.proof_lines.specs.Reading.{is_step_of};
 ghost use Rattle.proof_lines.specs.Words.{seen};
-ghost use Rattle.bound_cert.specs.Lines.{Gives};
+ghost use Rattle.proof_lines.specs.declared.line.Line.{Line};
+ghost use Rattle.bound_cert.specs.Lines.{Gives, Left, Reading};
 ghost use Rattle.bound_cert.specs.Reading.{charge_in_order, charge_of, first_words, in_order, is_needless, mixed_scale_at, mixed_scale_of, rent_follows, rent_of, scale_at, scale_of, step_in_order, step_of, weight_in_order, weight_of};
 ghost use Rattle.bound_cert.specs.Wants.{WantsNone};
 ghost use Rattle.dual_bound.specs.Order.{charge_follows, place_before, same_place, step_follows, weight_follows};
@@ -25,6 +26,22 @@ fn in_order(is: bool, left: &[&[u8]]) -> Result<(), Stop>
     } else {
         stopped(left, WRONG_ORDER)
     }
+}
+
+/// An entry of prices or of a fractional assignment, which has a line of its own.
+pub trait Listed: Copy {
+    // The entry that a line says in its order, behind the entry before.
+    ghost says: { Naming → Option Self → Line → Left → Reading Self };
+
+    /// The entry that a line says in its order, behind the entry before.
+    fn of_line(
+        alloc: Global,
+        grammar: &Grammar<'_>,
+        before: &Option<Self>,
+        line: Line,
+        left: &[&[u8]],
+    ) -> Result<Self, Stop>
+        ensures { Gives (λ entry. entry) result (says (naming grammar.now) before.now line (seen left.now)) };
 }
 
 /// The scale of prices that the first line says.
@@ -88,25 +105,35 @@ fn rent_follows(least: usize, entry: &(u32, i128)) -> bool
     least <= entry.0 as usize && entry.1 != 0
 }
 
-/// The charge that a line says in its order, behind the charge before. Takes no memory.
-pub fn charge_of(before: &Option<Charge>, line: Line, left: &[&[u8]]) -> Result<Charge, Stop>
-    ensures gives { Gives (λ entry. entry) result (charge_of before.now line (seen left.now)) }
-    ensures wants_none { WantsNone result }
-{
-    match line {
-        Line::Charge {
-            station,
-            day,
-            charge,
-        } => {
-            let entry = Charge {
+impl Listed for Charge {
+    ghost says = { λ n. charge_of };
+
+    /// The charge that a line says in its order, behind the charge before. Takes no memory.
+    fn of_line(
+        _alloc: Global,
+        _grammar: &Grammar<'_>,
+        before: &Option<Charge>,
+        line: Line,
+        left: &[&[u8]],
+    ) -> Result<Charge, Stop>
+        ensures gives { Gives (λ entry. entry) result (charge_of before.now line (seen left.now)) }
+        ensures wants_none { WantsNone result }
+    {
+        match line {
+            Line::Charge {
                 station,
                 day,
                 charge,
-            };
-            charge_in_order(before, entry, left)
+            } => {
+                let entry = Charge {
+                    station,
+                    day,
+                    charge,
+                };
+                charge_in_order(before, entry, left)
+            }
+            _ => stopped(left, WRONG_WORD),
         }
-        _ => stopped(left, WRONG_WORD),
     }
 }
 
@@ -133,32 +160,34 @@ fn charge_follows(before: &Option<Charge>, entry: &Charge) -> bool
     }
 }
 
-/// The step that a line says in its order, behind the step before.
-pub fn step_of(
-    alloc: Global,
-    grammar: &Grammar<'_>,
-    before: &Option<PriceStep>,
-    line: Line,
-    left: &[&[u8]],
-) -> Result<PriceStep, Stop>
-    ensures { Gives (λ step. step) result (step_of (naming grammar.now) before.now line (seen left.now)) }
-{
-    match line {
-        Line::At {
-            fleet,
-            station,
-            minute,
-            value,
-        } => {
-            let step = PriceStep {
+impl Listed for PriceStep {
+    ghost says = { step_of };
+
+    /// The step that a line says in its order, behind the step before.
+    fn of_line(
+        alloc: Global,
+        grammar: &Grammar<'_>,
+        before: &Option<PriceStep>,
+        line: Line,
+        left: &[&[u8]],
+    ) -> Result<PriceStep, Stop> {
+        match line {
+            Line::At {
                 fleet,
                 station,
                 minute,
                 value,
-            };
-            step_in_order(alloc, grammar, before, step, left)
+            } => {
+                let step = PriceStep {
+                    fleet,
+                    station,
+                    minute,
+                    value,
+                };
+                step_in_order(alloc, grammar, before, step, left)
+            }
+            _ => stopped(left, WRONG_WORD),
         }
-        _ => stopped(left, WRONG_WORD),
     }
 }
 
@@ -239,25 +268,35 @@ fn goes_on(
     }
 }
 
-/// The weight that a line says in its order, behind the weight before. Takes no memory.
-pub fn weight_of(before: &Option<Weight>, line: Line, left: &[&[u8]]) -> Result<Weight, Stop>
-    ensures gives { Gives (λ entry. entry) result (weight_of before.now line (seen left.now)) }
-    ensures wants_none { WantsNone result }
-{
-    match line {
-        Line::Weight {
-            leg,
-            choice,
-            weight,
-        } => {
-            let entry = Weight {
+impl Listed for Weight {
+    ghost says = { λ n. weight_of };
+
+    /// The weight that a line says in its order, behind the weight before. Takes no memory.
+    fn of_line(
+        _alloc: Global,
+        _grammar: &Grammar<'_>,
+        before: &Option<Weight>,
+        line: Line,
+        left: &[&[u8]],
+    ) -> Result<Weight, Stop>
+        ensures gives { Gives (λ entry. entry) result (weight_of before.now line (seen left.now)) }
+        ensures wants_none { WantsNone result }
+    {
+        match line {
+            Line::Weight {
                 leg,
                 choice,
                 weight,
-            };
-            weight_in_order(before, entry, left)
+            } => {
+                let entry = Weight {
+                    leg,
+                    choice,
+                    weight,
+                };
+                weight_in_order(before, entry, left)
+            }
+            _ => stopped(left, WRONG_WORD),
         }
-        _ => stopped(left, WRONG_WORD),
     }
 }
 

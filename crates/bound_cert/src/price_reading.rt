@@ -3,12 +3,12 @@ ghost use Rattle.std.specs.Prelude.{◌≡◌, ◌++◌, ◌∷◌, [], None, On
 ghost use Rattle.proof_lines.specs.Known.{naming};
 ghost use Rattle.proof_lines.specs.Words.{seen};
 ghost use Rattle.bound_cert.specs.Lines.{Gives};
-ghost use Rattle.bound_cert.specs.Reading.{charges_from, mixed_at, padded, prices_at, rents_from, steps_from, weights_from};
+ghost use Rattle.bound_cert.specs.Reading.{entries_from, listed, mixed_at, padded, prices_at, rents_from};
 
 use crate::faults::Stop;
-use crate::line_reading::{charge_of, mixed_scale_at, rent_of, scale_at, step_of, weight_of};
+use crate::line_reading::{Listed, mixed_scale_at, rent_of, scale_at};
 use crate::reading_lines::{Due, behind, next_line};
-use dual_bound::{Charge, Mixed, PriceStep, Prices, Weight};
+use dual_bound::{Mixed, Prices};
 use entries::{Entries, NoMemory};
 use proof_lines::Grammar;
 use std::alloc::Global;
@@ -23,14 +23,17 @@ pub fn prices_at<'a, 'b>(
     ensures { Gives (λ r. (r.0, seen r.1.now)) result (prices_at (naming grammar.now) (seen left.now)) }
 {
     let scale = scale_at(alloc, grammar, left)?;
-    let (rents, rest) = rents_from(alloc, grammar, behind(left))?;
-    let (charges, rest) = charges_from(alloc, grammar, rest)?;
-    let (steps, rest) = steps_from(alloc, grammar, rest)?;
+    let mut rents = Vec::new(alloc);
+    let rest = rents_from(alloc, grammar, &mut rents, behind(left))?;
+    let mut charges = Vec::new(alloc);
+    let rest = entries_from(alloc, grammar, Due::Charge, &mut charges, rest)?;
+    let mut steps = Vec::new(alloc);
+    let rest = entries_from(alloc, grammar, Due::Step, &mut steps, rest)?;
     let prices = Prices {
         scale,
-        rents,
-        steps,
-        charges,
+        rents: Entries::from_vec(rents),
+        steps: Entries::from_vec(steps),
+        charges: Entries::from_vec(charges),
     };
     Ok((prices, rest))
 }
@@ -45,30 +48,32 @@ pub fn mixed_at<'a, 'b>(
     ensures { Gives (λ r. (r.0, seen r.1.now)) result (mixed_at (naming grammar.now) (seen left.now)) }
 {
     let scale = mixed_scale_at(alloc, grammar, left)?;
-    let (weights, rest) = weights_from(alloc, grammar, behind(left))?;
+    let mut weights = Vec::new(alloc);
+    let rest = entries_from(alloc, grammar, Due::Weight, &mut weights, behind(left))?;
+    let weights = Entries::from_vec(weights);
     Ok((Mixed { scale, weights }, rest))
 }
 
-/// The rents of all fleets, and what is left behind their lines.
+/// Reads the rents of all fleets, and answers what is left behind their lines.
 fn rents_from<'a, 'b>(
     alloc: Global,
     grammar: &Grammar<'_>,
+    rents: &mut Vec<i128>,
     left: &'b [&'a [u8]],
-) -> Result<(Entries<i128>, &'b [&'a [u8]]), Stop>
-    ensures { Gives (λ r. (r.0, seen r.1.now)) result (rents_from (naming grammar.now) [] (seen left.now)) }
+) -> Result<&'b [&'a [u8]], Stop>
+    ensures { Gives (λ rest. (rents.new.items, seen rest.now)) result (rents_from (naming grammar.now) rents.old.items (seen left.now)) }
 {
-    let mut rents = Vec::new(alloc);
     let mut rest = left;
     while let Some(line) = next_line(alloc, grammar, Due::Rent, rest)? {
         let entry = match rent_of(rents.len(), line, rest) {
             Ok(entry) => entry,
             Err(stop) => return Err(stop),
         };
-        push_rent(&mut rents, &entry)?;
+        push_rent(rents, &entry)?;
         rest = behind(rest);
     }
-    pad(&mut rents, grammar.fleets.len())?;
-    Ok((Entries::from_vec(rents), rest))
+    pad(rents, grammar.fleets.len())?;
+    Ok(rest)
 }
 
 /// Appends a rent at its fleet, and 0 for the fleets before that have none yet.
@@ -91,71 +96,26 @@ fn pad(rents: &mut Vec<i128>, fleets: usize) -> Result<(), NoMemory>
     Ok(())
 }
 
-/// The charges, and what is left behind their lines.
-fn charges_from<'a, 'b>(
+/// Reads entries of which each has a line of a kind, and answers what is left behind their lines.
+fn entries_from<'a, 'b, T: Listed>(
     alloc: Global,
     grammar: &Grammar<'_>,
+    due: Due,
+    entries: &mut Vec<T>,
     left: &'b [&'a [u8]],
-) -> Result<(Entries<Charge>, &'b [&'a [u8]]), Stop>
-    ensures { Gives (λ r. (r.0, seen r.1.now)) result (charges_from (naming grammar.now) [] None (seen left.now)) }
+) -> Result<&'b [&'a [u8]], Stop>
+    ensures { Gives (λ rest. (entries.new.items, seen rest.now)) result (entries_from (listed (naming grammar.now) due (T.says (naming grammar.now))) (entries.old.items, None) (seen left.now)) }
 {
-    let mut charges = Vec::new(alloc);
     let mut before = None;
     let mut rest = left;
-    while let Some(line) = next_line(alloc, grammar, Due::Charge, rest)? {
-        let entry = match charge_of(&before, line, rest) {
+    while let Some(line) = next_line(alloc, grammar, due, rest)? {
+        let entry = match T::of_line(alloc, grammar, &before, line, rest) {
             Ok(entry) => entry,
             Err(stop) => return Err(stop),
         };
-        charges.push(entry)?;
+        entries.push(entry)?;
         before = Some(entry);
         rest = behind(rest);
     }
-    Ok((Entries::from_vec(charges), rest))
-}
-
-/// The steps, and what is left behind their lines.
-fn steps_from<'a, 'b>(
-    alloc: Global,
-    grammar: &Grammar<'_>,
-    left: &'b [&'a [u8]],
-) -> Result<(Entries<PriceStep>, &'b [&'a [u8]]), Stop>
-    ensures { Gives (λ r. (r.0, seen r.1.now)) result (steps_from (naming grammar.now) [] None (seen left.now)) }
-{
-    let mut steps = Vec::new(alloc);
-    let mut before = None;
-    let mut rest = left;
-    while let Some(line) = next_line(alloc, grammar, Due::Step, rest)? {
-        let step = match step_of(alloc, grammar, &before, line, rest) {
-            Ok(step) => step,
-            Err(stop) => return Err(stop),
-        };
-        steps.push(step)?;
-        before = Some(step);
-        rest = behind(rest);
-    }
-    Ok((Entries::from_vec(steps), rest))
-}
-
-/// The weights, and what is left behind their lines.
-fn weights_from<'a, 'b>(
-    alloc: Global,
-    grammar: &Grammar<'_>,
-    left: &'b [&'a [u8]],
-) -> Result<(Entries<Weight>, &'b [&'a [u8]]), Stop>
-    ensures { Gives (λ r. (r.0, seen r.1.now)) result (weights_from (naming grammar.now) [] None (seen left.now)) }
-{
-    let mut weights = Vec::new(alloc);
-    let mut before = None;
-    let mut rest = left;
-    while let Some(line) = next_line(alloc, grammar, Due::Weight, rest)? {
-        let entry = match weight_of(&before, line, rest) {
-            Ok(entry) => entry,
-            Err(stop) => return Err(stop),
-        };
-        weights.push(entry)?;
-        before = Some(entry);
-        rest = behind(rest);
-    }
-    Ok((Entries::from_vec(weights), rest))
+    Ok(rest)
 }

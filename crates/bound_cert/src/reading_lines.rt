@@ -1,9 +1,10 @@
 //! What is left of a text, line by line, and which line may stand where.
-ghost use Rattle.std.specs.Prelude.{◌≡◌, drop, length, Err, IfOk};
+ghost use Rattle.std.specs.Prelude.{◌≡◌, if◌then◌else◌, drop, length, Err, IfOk};
 ghost use Rattle.proof_lines.specs.Known.{naming};
-ghost use Rattle.proof_lines.specs.Words.{seen};
+ghost use Rattle.proof_lines.specs.Words.{is_word, seen};
 ghost use Rattle.bound_cert.specs.Lines.{Gives, fits, left_of, line_due, may_stand, next_line, of_seen};
 ghost use Rattle.bound_cert.specs.Wants.{WantsNone};
+ghost use Rattle.bound_cert.specs.declared.faults.TheConstants.{BAD_LINE, TEXT_ENDS};
 ghost use Rattle.bound_cert.specs.declared.faults.Stop.TheVariants as stop;
 ghost use Rattle.bound_cert.specs.declared.reading_lines.Due.TheVariants as due;
 
@@ -57,10 +58,19 @@ pub fn line_due(
         return stopped(left, TEXT_ENDS);
     };
     if rest.is_empty() {
-        return stopped(left, if line.is_empty() { TEXT_ENDS } else { BAD_LINE });
+        return stopped(left, end_kind(line));
     }
-    let read = read_line(alloc, grammar, line)?;
+    let Ok(read) = read_line(alloc, grammar, line) else {
+        return Err(Stop::NoMemory);
+    };
     of_seen(fits(due, read.form), read.line, left)
+}
+
+/// What is wrong with a line that has no line feed: where it is empty, the text ends. Takes no memory.
+fn end_kind(line: &[u8]) -> u8
+    ensures { result ≡ (if is_word line.now then BAD_LINE else TEXT_ENDS) }
+{
+    if line.is_empty() { TEXT_ENDS } else { BAD_LINE }
 }
 
 /// A line that may stand here, or its flaw. Takes no memory.
@@ -142,12 +152,14 @@ pub fn next_line(
     let Some((line, rest)) = left.split_first() else {
         return Ok(None);
     };
-    let read = read_line(alloc, grammar, line)?;
+    let Ok(read) = read_line(alloc, grammar, line) else {
+        return Err(Stop::NoMemory);
+    };
     if !fits(due, read.form) {
         return Ok(None);
     }
     if rest.is_empty() {
-        return stopped(left, if line.is_empty() { TEXT_ENDS } else { BAD_LINE });
+        return stopped(left, end_kind(line));
     }
     match of_seen(true, read.line, left) {
         Ok(line) => Ok(Some(line)),

@@ -1,4 +1,5 @@
 pub mod Choosing
+pub mod Fielded
 pub mod FigureWords
 pub mod LineWords
 pub mod Naming
@@ -9,5 +10,6 @@ pub mod ShortestDigits
 pub mod Spaces
 pub mod ToldChoices
 pub mod WordForms
+pub mod WordsSoFar
 pub mod WrittenLines
 pub mod WrittenNumbers

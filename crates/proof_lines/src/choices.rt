@@ -52,7 +52,9 @@ fn slot_in(minutes: &i128, shifts: &[Shift]) -> Option<u32>
     ensures value { result ≡ slot_in minutes.now shifts.now }
     ensures within { IfSome result (λ slot. slot < length shifts.now) }
 {
-    let (shift, rest) = shifts.split_first()?;
+    let Some((shift, rest)) = shifts.split_first() else {
+        return None;
+    };
     if i128::from(shift.minutes) == *minutes {
         return Some(0);
     }

@@ -105,7 +105,9 @@ pub fn pair_end(windows: bool) -> usize
 pub fn form_in(version: Version, words: &[&[u8]]) -> Option<Form>
     ensures { result ≡ form_in version (seen words.now) }
 {
-    let form = first_form(words, &all_forms())?;
+    let Some(form) = first_form(words, &all_forms()) else {
+        return None;
+    };
     if version.has(form) { Some(form) } else { None }
 }
 
@@ -142,7 +144,9 @@ fn all_forms() -> [Form; 20]
 fn first_form(words: &[&[u8]], forms: &[Form]) -> Option<Form>
     ensures { result ≡ first_form (seen words.now) forms.now }
 {
-    let (form, rest) = forms.split_first()?;
+    let Some((form, rest)) = forms.split_first() else {
+        return None;
+    };
     if opens(words, *form) {
         Some(*form)
     } else {

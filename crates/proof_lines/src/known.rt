@@ -19,9 +19,15 @@ impl<'a> Grammar<'a> {
     pub fn new(alloc: Global, version: Version, tables: &'a Tables) -> Result<Grammar<'a>, NoMemory>
         ensures { IfOk result (λ grammar. naming grammar ≡ names_in version tables.now) }
     {
-        let legs = flights(alloc, tables)?;
-        let fleets = fleets(alloc, tables)?;
-        let stations = stations(alloc, tables)?;
+        let Ok(legs) = flights(alloc, tables) else {
+            return Err(NoMemory);
+        };
+        let Ok(fleets) = fleets(alloc, tables) else {
+            return Err(NoMemory);
+        };
+        let Ok(stations) = stations(alloc, tables) else {
+            return Err(NoMemory);
+        };
         Ok(Grammar {
             version,
             tables,

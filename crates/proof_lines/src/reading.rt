@@ -28,8 +28,12 @@ pub struct Seen {
 pub fn read_line(alloc: Global, grammar: &Grammar<'_>, bytes: &[u8]) -> Result<Seen, NoMemory>
     ensures { IfOk result (λ line. line ≡ seen_in (naming grammar.now) bytes.now) }
 {
-    let parts = parts_of(alloc, bytes)?;
-    let words = words_of(alloc, parts.as_slice())?;
+    let Ok(parts) = parts_of(alloc, bytes) else {
+        return Err(NoMemory);
+    };
+    let Ok(words) = words_of(alloc, parts.as_slice()) else {
+        return Err(NoMemory);
+    };
     Ok(of_words(grammar, is_plain(bytes), parts.len(), words.as_slice()))
 }
 
@@ -77,8 +81,12 @@ pub fn is_step_of(
 ) -> Result<bool, NoMemory>
     ensures { IfOk result (λ is. is ≡ is_step_of (naming grammar.now) fleet station (words_of bytes.now)) }
 {
-    let parts = parts_of(alloc, bytes)?;
-    let words = words_of(alloc, parts.as_slice())?;
+    let Ok(parts) = parts_of(alloc, bytes) else {
+        return Err(NoMemory);
+    };
+    let Ok(words) = words_of(alloc, parts.as_slice()) else {
+        return Err(NoMemory);
+    };
     Ok(names_step(grammar, fleet, station, words.as_slice()))
 }
 

@@ -7,5 +7,5 @@ use Rattle.bound_cert.proofs.price_reading.mixed_at.Goals as goal
 
 pub returns : goal.returns
 returns c =
-    mixed_read (naming c.args.grammar.now) (seen c.args.left.now) _ (seen c.in_ok-weights.rest.now) (search rules)
-    (ap (weights_from (naming c.args.grammar.now) [] None) (behind_is c.args.left.now c.behind.result.now c.behind.ensures) ∙ c.in_ok-weights.ensures)
+    mixed_read (naming c.args.grammar.now) (seen c.args.left.now) _ (seen c.in_ok-rest.rest.now) (search rules)
+    (ap (weights_from (naming c.args.grammar.now) [] None) (behind_is c.args.left.now c.behind.result.now c.behind.ensures) ∙ search rules)
