@@ -40,7 +40,7 @@ def solved(folder, day_start="03:00"):
             except subprocess.TimeoutExpired:
                 text = ""
             after = os.times()
-            seconds = after.children_user + after.children_system - before.children_user - before.children_system
+            seconds = max(0.0, after.children_user + after.children_system - before.children_user - before.children_system)
             costs = cost.findall(text)
             found[name] = seconds, round(float(costs[-1])) if costs else None
     return found
