@@ -25,4 +25,4 @@ pub mod Together
 pub mod Outlines
 pub mod HeldEntries
 pub mod HeldLines
-pub mod OtherFleets
+pub mod MetColumns

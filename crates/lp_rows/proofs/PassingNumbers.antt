@@ -197,6 +197,12 @@ module _ (p : ℕ → Bool) where
       let more = more_pass (get_or (passing_below p n) place 0) k (omega (arith, order, at_place n place within)) here.passes in
       omega (arith, more, here.place_is)
 
+  pub next_behind : (n place : ℕ) → place < length (passing_below p n) → from_place n place + 1 ≤ from_place n (place + 1)
+  next_behind n place within = elim (cases_lt (place + 1) (length (passing_below p n))) [
+    | inl more ↦ let rise = rises n place (place + 1) (omega arith) more in omega (arith, rise, at_place n place within, at_place n (place + 1) more)
+    | inr past ↦ let here = placed n place within in omega (arith, here.below, at_place n place within, get_or_past (passing_below p n) (place + 1) n past)
+  ]
+
   -- what bisection finds among them: the place of a number that passes, or that it doesn't pass
   abbrev pub IsFound : ℕ → List ℕ → ℕ → Type 0
   IsFound number xs place = (p number ≡ true) × (place ≡ count_below p number) × (place < length xs) × (get_or xs place 0 ≡ number)

@@ -1,11 +1,14 @@
--- Which lines may have numbers in the columns of a fleet.
-use Rattle.std.specs.Prelude.{ℕ, ⊤, Bool, true, ◌==◌}
+-- Which columns a line may have numbers in.
+use Rattle.std.specs.Prelude.{◌≡◌, ℕ, ⊤, Bool, ◌==◌, ◌&&◌, ◌||◌, List, length, slice_index_or}
 use Rattle.fleet_model.specs.declared.tables.Tables.{Tables}
-use Rattle.fleet_model.specs.Schedule.{IsPair, fleet_by, fleets_in}
+use Rattle.fleet_model.specs.Schedule.{IsPair, fleet_by, fleets_in, leg_of, legs_in, stations_in}
 use Rattle.lp_rows.specs.declared.kinds.Column.{Column}
 use Rattle.lp_rows.specs.declared.kinds.Column.TheVariants.{Flight, Ground, Room, Slack}
 use Rattle.lp_rows.specs.declared.kinds.Line.{Line}
 use Rattle.lp_rows.specs.declared.kinds.Line.TheVariants.{Balance, Count, Cover, Parking}
+use Rattle.lp_rows.specs.declared.meeting.Met.{Met}
+use Rattle.lp_rows.specs.declared.meeting.Touched.{Touched}
+use Rattle.lp_rows.specs.Staying.{passing_below}
 
 -- the pair of a column, where it has one, is of the tables
 abbrev pub HasPair : Tables → Column → Type 0
@@ -14,16 +17,26 @@ HasPair t (Ground a) = ⊤
 HasPair t (Slack f) = ⊤
 HasPair t (Room p) = ⊤
 
--- the fleet of a column; a room is of none
-abbrev pub column_fleet : Tables → Column → ℕ
-column_fleet t (Flight p) = fleet_by t p
-column_fleet t (Ground a) = a.fleet
-column_fleet t (Slack f) = f
-column_fleet t (Room p) = fleets_in t
+abbrev pub touching : ℕ → ℕ → ℕ → ℕ → Touched
+touching leg fleet from to = record { leg = leg; fleet = fleet; from = from; to = to }
 
--- a line may have a number in a column of a fleet: a balance line has none in those of other fleets
-abbrev pub meets : Line → ℕ → Bool
-meets (Cover l) f = true
-meets (Balance n) f = n.fleet == f
-meets (Count g) f = true
-meets (Parking p) f = true
+-- what a column touches
+abbrev pub touched_by : Tables → Column → Touched
+touched_by t (Flight p) = touching p.leg (fleet_by t p) (leg_of t p.leg).from (leg_of t p.leg).to
+touched_by t (Ground a) = touching (legs_in t) a.fleet a.station a.station
+touched_by t (Slack f) = touching (legs_in t) f (stations_in t) (stations_in t)
+touched_by t (Room p) = touching (legs_in t) (fleets_in t) p.station p.station
+
+-- a line may have a number in a column that touches its leg, its fleet, its station
+abbrev pub meets : Line → Touched → Bool
+meets (Cover l) x = l == x.leg
+meets (Balance n) x = (n.fleet == x.fleet) && ((x.from == n.station) || (x.to == n.station))
+meets (Count f) x = f == x.fleet
+meets (Parking p) x = (p.station == x.from) || (p.station == x.to)
+
+abbrev pub meets_at : List Touched → Line → ℕ → Bool
+meets_at touched line column = meets line (slice_index_or touched column (touching 0 0 0 0))
+
+-- the columns that a line meets
+pub record IsMet (touched : List Touched) (met : Met) : Type 0 where
+  pub all : met.columns ≡ passing_below (meets_at touched met.line) (length touched)

@@ -2,16 +2,17 @@ ghost use Rattle.std.specs.Prelude.{◌≡◌, ◌+◌, ◌<◌, ◌^◌, All, l
 ghost use Rattle.fleet_model.specs.Kept.{kept_by};
 ghost use Rattle.row_store.specs.Problem.{IsProblem};
 ghost use Rattle.lp_rows.specs.Entries.{IsColumn, IsLine, column_cost};
-ghost use Rattle.lp_rows.specs.Meeting.{column_fleet};
+ghost use Rattle.lp_rows.specs.Meeting.{meets_at, touched_by};
 ghost use Rattle.lp_rows.specs.Layout.{AreByStation, starts_in};
 ghost use Rattle.lp_rows.specs.Points.{AreLinesOf};
 ghost use Rattle.lp_rows.specs.Outline.{IsOutline, columns_in, lines_in};
 ghost use Rattle.lp_rows.specs.Program.{AreOutlinedRows, AreRows, numbers_of};
+ghost use Rattle.lp_rows.specs.Staying.{passing_below};
 
 use crate::entry::{column_cost, entry, right_side};
 use crate::kinds::{Column, Line};
 use crate::layout::{columns, lines};
-use crate::meeting::{column_fleets, meets};
+use crate::meeting::{Met, Touched, all_touched};
 use crate::network::Network;
 use crate::outline::Outline;
 use entries::{Entries, NoMemory};
@@ -65,8 +66,8 @@ fn outlined_rows(alloc: Global, tables: &Tables, outline: &Outline) -> Result<Ro
 {
     let columns = columns(alloc, outline)?;
     let lines = lines(alloc, outline)?;
-    let fleets = column_fleets(alloc, tables, &columns)?;
-    let numbers = all_numbers(alloc, tables, &outline.network, &columns, &fleets, &lines)?;
+    let touched = all_touched(alloc, tables, &columns)?;
+    let numbers = all_numbers(alloc, tables, &outline.network, &columns, &touched, &lines)?;
     let costs = all_costs(alloc, tables, &columns)?;
     Ok(Rows {
         columns: outline.column_count(),
@@ -81,47 +82,56 @@ fn all_numbers(
     tables: &Tables,
     network: &Network,
     columns: &[Column],
-    fleets: &[u32],
+    touched: &[Touched],
     lines: &[Line],
 ) -> Result<Entries<row_store::Line>, NoMemory>
     requires shape { AreByStation tables.now network.now }
     requires columns { All (IsColumn tables.now (starts_in network.now)) columns.now }
-    requires fleets { fleets.now ≡ map (column_fleet tables.now) columns.now }
+    requires touched { touched.now ≡ map (touched_by tables.now) columns.now }
     requires few { length columns.now + 1 < 2 ^ 32 }
     requires lines { All (IsLine tables.now (starts_in network.now)) lines.now }
     ensures { IfOk result (λ rows. rows ≡ map (numbers_of tables.now (starts_in network.now) columns.now) lines.now) }
 {
+    let mut met = Met::of(alloc, Line::Cover { leg: 0 }, touched)?;
     let mut rows = Vec::new(alloc);
     for line in lines {
-        let numbers = line_numbers(alloc, tables, network, columns, fleets, *line)?;
+        met = met.turned_to(alloc, *line, touched)?;
+        let numbers = line_numbers(
+            alloc,
+            tables,
+            network,
+            columns,
+            met.columns.as_slice(),
+            *line,
+        )?;
         rows.push(row_store::Line::from_row(numbers))?;
     }
     Ok(Entries::from_vec(rows))
 }
 
-// The numbers of a line, and then its right side; those that are 0 are left out. Columns of fleets that the line doesn't
-// meet aren't looked at.
+// The numbers of a line, and then its right side; those that are 0 are left out. Only the columns that it meets are looked at.
 fn line_numbers(
     alloc: Global,
     tables: &Tables,
     network: &Network,
     columns: &[Column],
-    fleets: &[u32],
+    met: &[u32],
     line: Line,
 ) -> Result<SparseRow, NoMemory>
     requires shape { AreByStation tables.now network.now }
     requires columns { All (IsColumn tables.now (starts_in network.now)) columns.now }
-    requires fleets { fleets.now ≡ map (column_fleet tables.now) columns.now }
+    requires met { met.now ≡ passing_below (meets_at (map (touched_by tables.now) columns.now) line) (length columns.now) }
     requires few { length columns.now + 1 < 2 ^ 32 }
     requires line { IsLine tables.now (starts_in network.now) line }
     ensures { IfOk result (λ row. row.numbers ≡ numbers_of tables.now (starts_in network.now) columns.now line) }
 {
     let right = columns.len() as u32;
     let mut row = SparseRow::zeros(alloc, right + 1);
-    for place in 0..columns.len() {
-        if meets(line, fleets[place]) {
-            row.put(place as u32, entry(tables, network, line, columns[place]))?;
-        }
+    for column in met {
+        row.put(
+            *column,
+            entry(tables, network, line, columns[*column as usize]),
+        )?;
     }
     row.put(right, right_side(tables, network, line))?;
     Ok(row)
