@@ -80,6 +80,7 @@ pub fn staying_arcs(alloc: Global, moments: &[Option<u16>]) -> Result<Vec<u32>, 
 }
 
 /// Puts a number behind those so far, where it is one.
+#[inline(always)]
 pub(crate) fn push_where(numbers: &mut Vec<u32>, number: u32, is_one: bool) -> Result<(), NoMemory>
     ensures { OnOk result (numbers.new.items ≡ numbers.old.items ++ (if is_one then number ∷ [] else [])) }
 {

@@ -2,6 +2,7 @@
 ghost use Rattle.std.specs.Prelude.{◌≡◌, ◌^◌, ◌<◌, All, IsTrue, length, map, IfOk};
 ghost use Rattle.lp_rows.specs.Meeting.{HasPair, IsMet, meets, meets_at, touched_by};
 ghost use Rattle.lp_rows.specs.Staying.{passing_below};
+ghost use Rattle.lp_rows.specs.declared.kinds.Line.TheVariants.{Cover};
 ghost use Rattle.lp_rows.specs.declared.meeting.Touched.{Touched};
 
 use crate::arcs::push_where;
@@ -113,8 +114,33 @@ impl Met {
     }
 }
 
-#[tactic(auto, using(crate::proofs::PassingNumbers::no_number, crate::proofs::PassingNumbers::one_number_more))]
 fn columns_met(alloc: Global, line: Line, touched: &[Touched]) -> Result<Vec<u32>, NoMemory>
+    requires { length touched.now < 2 ^ 32 }
+    ensures { IfOk result (λ columns. columns.items ≡ passing_below (meets_at touched.now line) (length touched.now)) }
+{
+    match line {
+        Line::Cover { leg } => columns_of_leg(alloc, leg, touched),
+        Line::Balance(_) | Line::Count { .. } | Line::Parking(_) => {
+            columns_passing(alloc, line, touched)
+        }
+    }
+}
+
+// There is a cover line for each leg, so its pass over all columns is to be short.
+#[tactic(auto, using(crate::proofs::PassingNumbers::no_number, crate::proofs::PassingNumbers::one_number_more))]
+fn columns_of_leg(alloc: Global, leg: u32, touched: &[Touched]) -> Result<Vec<u32>, NoMemory>
+    requires { length touched.now < 2 ^ 32 }
+    ensures { IfOk result (λ columns. columns.items ≡ passing_below (meets_at touched.now (Cover leg)) (length touched.now)) }
+{
+    let mut columns = Vec::new(alloc);
+    for column in 0..touched.len() as u32 {
+        push_where(&mut columns, column, leg == touched[column as usize].leg)?;
+    }
+    Ok(columns)
+}
+
+#[tactic(auto, using(crate::proofs::PassingNumbers::no_number, crate::proofs::PassingNumbers::one_number_more))]
+fn columns_passing(alloc: Global, line: Line, touched: &[Touched]) -> Result<Vec<u32>, NoMemory>
     requires { length touched.now < 2 ^ 32 }
     ensures { IfOk result (λ columns. columns.items ≡ passing_below (meets_at touched.now line) (length touched.now)) }
 {

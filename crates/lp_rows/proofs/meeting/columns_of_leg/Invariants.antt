@@ -1,0 +1,8 @@
+use Rattle.std.proofs.Common.{◌≡◌}
+use Rattle.lp_rows.specs.declared.kinds.Line.TheVariants.{Cover}
+use Rattle.lp_rows.specs.Meeting.{meets_at}
+use Rattle.lp_rows.specs.Staying.{passing_below}
+use Rattle.lp_rows.proofs.meeting.columns_of_leg.Given as goal
+
+abbrev pub invariant-loop-column : goal.invariant-loop-column
+invariant-loop-column l = l.columns.items ≡ passing_below (meets_at l.touched (Cover l.leg)) l.column
