@@ -10,7 +10,7 @@ ghost use Rattle.row_store.specs.Problem.{IsProblem};
 mod report;
 mod request;
 
-use crate::request::Store;
+use crate::request::{Request, Store};
 use anyhow::{Result, ensure};
 use entries::NoMemory;
 use row_store::{Dense, RowStore, Rows, is_problem};
@@ -23,17 +23,28 @@ fn main(rt: HostRuntime) -> Result<()> {
     let mut text = String::new(rt.alloc());
     BufReader::new(rt.alloc(), rt.reader())?.read_to_string(&mut text)?;
     let request = request::parse(rt.alloc(), text.as_str())?;
+    answer(&rt, rt.alloc(), &request)
+}
+
+/// Prints the outcome of what is asked for.
+fn answer(rt: &impl Print, alloc: Global, request: &Request) -> Result<()> {
     ensure!(
         is_problem(&request.rows),
         "the lines and costs do not make a first table"
     );
-    let (rows, pivots) = (&request.rows, request.pivots);
-    let outcome = match request.store {
-        Store::Dense => outcome_over::<Dense>(rt.alloc(), rows, pivots)?,
-        Store::Sparse => outcome_over::<Sparse>(rt.alloc(), rows, pivots)?,
-    };
-    report::print(&rt, &outcome)?;
+    let outcome = outcome_of(alloc, request)?;
+    report::print(rt, &outcome)?;
     Ok(())
+}
+
+/// The outcome in the store that is wanted.
+fn outcome_of(alloc: Global, request: &Request) -> Result<Outcome, NoMemory>
+    requires { IsProblem request.now.rows }
+{
+    match request.store {
+        Store::Dense => outcome_over::<Dense>(alloc, &request.rows, request.pivots),
+        Store::Sparse => outcome_over::<Sparse>(alloc, &request.rows, request.pivots),
+    }
 }
 
 /// The outcome of the run in a store.

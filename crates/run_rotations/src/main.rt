@@ -13,6 +13,7 @@ mod parts;
 
 use crate::parts::part;
 use anyhow::{Result, bail};
+use entries::NoMemory;
 use euler_rotation::{Rotation, rotate};
 use fleet_model::{Assignment, Settings, Tables};
 use plan_judge::{Verdict, judge};
@@ -36,20 +37,56 @@ fn main(rt: HostRuntime) -> Result<()> {
     let Verdict::Legal { .. } = judge(&tables, &plan) else {
         bail!("the plan isn't legal");
     };
+    print_rotations(&rt, rt.alloc(), &tables, &plan)
+}
+
+/// Prints a line for each fleet of a legal plan.
+fn print_rotations(
+    rt: &impl Print,
+    alloc: Global,
+    tables: &Tables,
+    plan: &Assignment,
+) -> Result<()>
+    requires plain { IsPlain tables.now }
+    requires legal { IsLegal tables.now plan.now }
+{
     for fleet in 0..tables.fleet_count() {
-        let chosen = choose(rt.alloc(), &tables, &plan, fleet)?;
-        let pairs = chosen.pairs.as_slice();
-        let held = rotate(rt.alloc(), &tables, &plan, fleet, pairs, DAYS, VISITS)?;
-        let free = rotate(rt.alloc(), &tables, &plan, fleet, &[], DAYS, VISITS)?;
-        println!(rt;
-            "fleet {}: with {} pairs {}, without {}",
-            fleet,
-            pairs.len(),
-            word(&held),
-            word(&free)
-        )?;
+        let told = rotations_of(alloc, tables, plan, fleet)?;
+        print!(rt; "fleet {fleet}: ")?;
+        print!(rt; "with {} pairs ", told.pairs)?;
+        print!(rt; "{}, without ", told.held)?;
+        println!(rt; "{}", told.free)?;
     }
     Ok(())
+}
+
+/// What becomes of a fleet's rotation with its through pairs and without, and how many pairs it has.
+#[derive(Clone, Copy)]
+struct Told {
+    pairs: usize,
+    held: &'static str,
+    free: &'static str,
+}
+
+fn rotations_of(
+    alloc: Global,
+    tables: &Tables,
+    plan: &Assignment,
+    fleet: u32,
+) -> Result<Told, NoMemory>
+    requires plain { IsPlain tables.now }
+    requires legal { IsLegal tables.now plan.now }
+    requires fleet { fleet < fleets_in tables.now }
+{
+    let chosen = choose(alloc, tables, plan, fleet)?;
+    let pairs = chosen.pairs.as_slice();
+    let held = word(&rotate(alloc, tables, plan, fleet, pairs, DAYS, VISITS)?);
+    let free = word(&rotate(alloc, tables, plan, fleet, &[], DAYS, VISITS)?);
+    Ok(Told {
+        pairs: pairs.len(),
+        held,
+        free,
+    })
 }
 
 /// The tables that the bytes hold. Each leg of them departs at one time.
