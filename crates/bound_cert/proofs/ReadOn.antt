@@ -1,6 +1,6 @@
 -- One line more of a series.
 use Rattle.bound_cert.specs.Lines.{◌>>=◌, Fails, Gives, Left, Reading, Stopped, first_form, fits, line_due, next_line}
-use Rattle.bound_cert.specs.Reading.{Series, charges_from, entries_from, entry_at, mixed_at, mixed_scale_at, prices_at, rents_from, said_at, scale_at, steps_from, weights_from, with_last}
+use Rattle.bound_cert.specs.Reading.{Series, charges_from, entries_from, entry_at, first_words, mixed_at, mixed_scale_at, prices_at, rents_from, said_at, scale_at, steps_from, weights_from, with_last}
 use Rattle.dual_bound.specs.declared.mixed.Mixed.{Mixed}
 use Rattle.dual_bound.specs.declared.prices.Prices.{Prices}
 use Rattle.bound_cert.specs.declared.faults.Stop.{Stop}
@@ -9,7 +9,8 @@ use Rattle.proof_lines.specs.Forms.{form_in}
 use Rattle.proof_lines.specs.Known.{Naming}
 use Rattle.proof_lines.specs.declared.line.Line.{Line}
 use Rattle.proof_lines.specs.declared.line.Version.{Version}
-use Rattle.proof_lines.specs.Words.{seen, words_of}
+use Rattle.proof_lines.specs.Words.{Word, seen, words_of}
+use Rattle.std.specs.Prelude.{IfOk}
 use Rattle.std.proofs.Common.{[], ◌++◌, ◌+◌, ◌<◌, ◌∙◌, ◌∷◌, ◌≡◌, Bool, Bor, Err, List, None, Ok, Option, Some, add-one, ap, append_assoc, arith, cond, drop, false, length, pos, refl, replicate, Result, subst, suc, sym, true, zero, ℕ, ℤ}
 use Rattle.bound_cert.specs.declared.faults.Stop.TheVariants as stop
 
@@ -50,6 +51,22 @@ seen_behind (line ∷ rest) = refl
 
 pub behind_is : (left behind : List (Bor (List ℕ))) → behind ≡ drop 1 left → drop 1 (seen left) ≡ seen behind
 behind_is left behind is = sym (ap seen is ∙ seen_behind left)
+
+-- the words of the next line, where there is one and where there is none
+pub next_words : (left behind rest : List (Bor (List ℕ))) (next : Bor (List ℕ)) → behind ≡ drop 1 left → behind ≡ next ∷ rest → words_of next.now ≡ first_words (drop 1 (seen left))
+next_words left behind rest next is some = sym (ap first_words (behind_is left behind is ∙ ap seen some))
+
+pub no_words : (left behind : List (Bor (List ℕ))) → behind ≡ drop 1 left → length behind ≡ 0 → first_words (drop 1 (seen left)) ≡ []
+no_words left behind is none = ap first_words (behind_is left behind is) ∙ of_none behind none
+  where
+    of_none : (behind : List (Bor (List ℕ))) → length behind ≡ 0 → first_words (seen behind) ≡ []
+    of_none [] none = refl
+    of_none (next ∷ rest) none = absurd (omega (arith, none))
+
+-- what is told of the words of the next line
+pub told_of_next : {E : Type 0} (test : List Word → Bool) (result : Result Bool E) (words next : List Word) → words ≡ next → IfOk result (λ is. is ≡ test words) → IfOk result (λ is. is ≡ test next)
+told_of_next test (Ok is) words next same told = told ∙ ap test same
+told_of_next test (Err error) words next same told = tt
 
 -- what a last step gives, which reads behind the first line
 pub gives_behind : {X Y : Type 0} (view : X → Y) (result : Result X Stop) (f : Left → Reading Y) (left behind : List (Bor (List ℕ))) → behind ≡ drop 1 left → Gives view result (f (seen behind)) → Gives view result (f (drop 1 (seen left)))

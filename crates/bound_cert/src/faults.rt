@@ -4,10 +4,9 @@ ghost use Rattle.bound_cert.specs.declared.faults.Stop.TheVariants as stop;
 
 use entries::NoMemory as OutOfMemory;
 use std::alloc::{AllocError, AllocFailed};
-use thiserror::Error;
 
 /// The first fault of a proof's text.
-#[derive(Clone, Copy, Debug, PartialEq, Eq)]
+#[derive(Clone, Copy)]
 pub struct CertFault {
     /// The number of the line, from 1. A line that is missing has the number that it would have.
     pub line: u64,
@@ -16,11 +15,9 @@ pub struct CertFault {
 }
 
 /// Why a proof's text could not be read.
-#[derive(Clone, Copy, Debug, PartialEq, Eq, Error)]
+#[derive(Clone, Copy)]
 pub enum CertError {
-    #[error("bad proof: {0:?}")]
     Fault(CertFault),
-    #[error("out of memory")]
     NoMemory,
 }
 

@@ -10,7 +10,7 @@ ghost use Rattle.bound_cert.specs.Wants.{WantsNone};
 ghost use Rattle.dual_bound.specs.Order.{charge_follows, place_before, same_place, step_follows, weight_follows};
 
 use crate::faults::{Stop, WRONG_ORDER, WRONG_WORD};
-use crate::reading_lines::{Due, line_due, stopped};
+use crate::reading_lines::{Due, behind, line_due, stopped};
 use dual_bound::{Charge, PriceStep, Weight};
 use entries::NoMemory;
 use proof_lines::{Grammar, Line, is_step_of};
@@ -262,10 +262,10 @@ fn goes_on(
 ) -> Result<bool, NoMemory>
     ensures { IfOk result (λ goes_on. goes_on ≡ is_step_of (naming grammar.now) step.now.fleet step.now.station (first_words (drop 1 (seen left.now)))) }
 {
-    match left.get(1) {
-        None => Ok(false),
-        Some(next) => is_step_of(alloc, grammar, step.fleet, step.station, next),
-    }
+    let Some((next, _)) = behind(left).split_first() else {
+        return Ok(false);
+    };
+    is_step_of(alloc, grammar, step.fleet, step.station, next)
 }
 
 impl Listed for Weight {

@@ -15,12 +15,12 @@ use crate::reading_lines::{Due, behind, left_of, line_due, stopped};
 use crate::tree_reading::tree_from;
 use dual_bound::Tree;
 use fleet_model::Tables;
-use proof_lines::words::is_plain;
+use proof_lines::words::{is_plain, is_same};
 use proof_lines::{Grammar, Line, Version};
 use std::alloc::Global;
 
 /// A proof of a bound.
-#[derive(Debug, Drop)]
+#[derive(Drop)]
 pub struct Proof {
     /// Whether a plan comes with it.
     pub planned: bool,
@@ -104,15 +104,15 @@ fn version_of(windows: bool, line: &[u8]) -> Option<Version>
     ensures { result ≡ version_of windows line.now }
 {
     if windows {
-        return if line == b"fleet proof 3".as_slice() {
+        return if is_same(line, b"fleet proof 3") {
             Some(Version::Three)
         } else {
             None
         };
     }
-    if line == b"fleet proof 1".as_slice() {
+    if is_same(line, b"fleet proof 1") {
         Some(Version::One)
-    } else if line == b"fleet proof 2".as_slice() {
+    } else if is_same(line, b"fleet proof 2") {
         Some(Version::Two)
     } else {
         None
@@ -129,7 +129,11 @@ fn of_version(
     ensures { Gives (λ proof. (proof.planned, nodes_of proof.tree)) result (rest_at (names_in version tables.now) (seen left.now)) }
 {
     match Grammar::new(alloc, version, tables) {
-        Ok(grammar) => rest_at(alloc, &grammar, left),
+        Ok(grammar) => {
+            let read = rest_at(alloc, &grammar, left);
+            grammar.let_go();
+            read
+        }
         Err(_) => Err(Stop::NoMemory),
     }
 }

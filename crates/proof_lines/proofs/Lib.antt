@@ -2,6 +2,7 @@ pub mod Choosing
 pub mod Fielded
 pub mod FigureWords
 pub mod LineWords
+pub mod NamesKept
 pub mod Naming
 pub mod OneText
 pub mod ReadLines

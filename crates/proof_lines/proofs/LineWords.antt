@@ -94,9 +94,10 @@ joined_more (word ∷ words) more some =
     ap (λ bytes. bytes ++ spaced_words more) (joined_spaced word words) ∙ append_assoc word (spaced_words words) (spaced_words more)
     ∙ ap (λ rest. word ++ rest) (sym (flat_map-append spaced words more)) ∙ sym (joined_spaced word (words ++ more))
 
-pub line_done : (form : Form) (fields : List Word) (old first second whole : List ℕ) → first ≡ old ++ joined (keywords form) → second ≡ first ++ spaced_words fields → whole ≡ second ++ line_feed ∷ []
-    → whole ≡ old ++ (joined (keywords form ++ fields) ++ line_feed ∷ [])
-line_done form fields old first second whole begun filled ended =
+pub line_done : {A E : Type 0} (result : Result A E) (form : Form) (fields : List Word) (old first second whole : List ℕ) → first ≡ old ++ joined (keywords form) → second ≡ first ++ spaced_words fields
+    → OnOk result (whole ≡ second ++ line_feed ∷ []) → OnOk result (whole ≡ old ++ (joined (keywords form ++ fields) ++ line_feed ∷ []))
+line_done (Err e) form fields old first second whole begun filled ended = tt
+line_done (Ok x) form fields old first second whole begun filled ended =
     ended ∙ ap (λ bytes. bytes ++ line_feed ∷ []) (filled ∙ ap (λ bytes. bytes ++ spaced_words fields) begun ∙ append_assoc old (joined (keywords form)) (spaced_words fields)
     ∙ ap (λ rest. old ++ rest) (joined_more (keywords form) fields (some_keywords form)))
     ∙ append_assoc old (joined (keywords form ++ fields)) (line_feed ∷ [])

@@ -13,14 +13,14 @@ module _ (parts : List (Bor (List ℕ))) (k : ℕ) (d : Bor (List ℕ)) (within 
       ∙ filter-append is_word (seen (take k parts)) ((get_or parts k d).now ∷ [])
       ∙ ap (λ list. list ++ filter is_word ((get_or parts k d).now ∷ [])) (sym so_far)
 
-  pub word_more : (grown : List (Bor (List ℕ))) → is_word (get_or parts k d).now ≡ true → grown ≡ words ++ get_or parts k d ∷ [] → seen grown ≡ filter is_word (seen (take (k + 1) parts))
-  word_more grown is added =
-      ap seen added ∙ map-append (λ (slice : Bor (List ℕ)). slice.now) words (get_or parts k d ∷ [])
-      ∙ ap (λ b. seen words ++ cond b ((get_or parts k d).now ∷ []) []) (sym is)
-      ∙ sym one_more
+  pub part_more : (grown : List (Bor (List ℕ))) → seen grown ≡ seen words ++ filter is_word ((get_or parts k d).now ∷ []) → seen grown ≡ filter is_word (seen (take (k + 1) parts))
+  part_more grown added = added ∙ sym one_more
 
-  pub part_more : (grown : List (Bor (List ℕ))) → is_word (get_or parts k d).now ≡ false → grown ≡ words → seen grown ≡ filter is_word (seen (take (k + 1) parts))
-  part_more grown is same =
-      ap seen same ∙ sym (append-nil (seen words))
-      ∙ ap (λ b. seen words ++ cond b ((get_or parts k d).now ∷ []) []) (sym is)
-      ∙ sym one_more
+-- a part that is a word or isn't, appended
+pub word_pushed : (words grown : List (Bor (List ℕ))) (part : Bor (List ℕ)) → is_word part.now ≡ true → grown ≡ words ++ part ∷ [] → seen grown ≡ seen words ++ filter is_word (part.now ∷ [])
+word_pushed words grown part is added =
+    ap seen added ∙ map-append (λ (slice : Bor (List ℕ)). slice.now) words (part ∷ [])
+    ∙ ap (λ b. seen words ++ cond b (part.now ∷ []) []) (sym is)
+
+pub none_pushed : (words : List (Bor (List ℕ))) (part : Bor (List ℕ)) → is_word part.now ≡ false → seen words ≡ seen words ++ filter is_word (part.now ∷ [])
+none_pushed words part is = sym (append-nil (seen words)) ∙ ap (λ b. seen words ++ cond b (part.now ∷ []) []) (sym is)

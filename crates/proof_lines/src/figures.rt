@@ -6,17 +6,18 @@ ghost use Rattle.dual_bound.specs.declared.prices.TheConstants.{MAX_SIZE};
 use crate::flaws::Flaw;
 use crate::line::Version;
 use crate::numerals::natural;
+use crate::words::is_same;
 use dual_bound::prices::MAX_SIZE;
 
 /// The version that a word writes.
 pub fn version(word: &[u8]) -> Result<Version, Flaw>
     ensures { result ≡ version_in word.now }
 {
-    if word == b"1".as_slice() {
+    if is_same(word, b"1") {
         Ok(Version::One)
-    } else if word == b"2".as_slice() {
+    } else if is_same(word, b"2") {
         Ok(Version::Two)
-    } else if word == b"3".as_slice() {
+    } else if is_same(word, b"3") {
         Ok(Version::Three)
     } else {
         Err(Flaw::Number)

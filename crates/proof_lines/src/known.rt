@@ -9,6 +9,7 @@ use crate::figures::number;
 use crate::flaws::{Flaw, both};
 use crate::grammar::Grammar;
 use crate::line::Version;
+use crate::words::is_same;
 use entries::NoMemory;
 use fleet_model::{Pair, Tables};
 use std::alloc::Global;
@@ -23,9 +24,12 @@ impl<'a> Grammar<'a> {
             return Err(NoMemory);
         };
         let Ok(fleets) = fleets(alloc, tables) else {
+            let_go(legs);
             return Err(NoMemory);
         };
         let Ok(stations) = stations(alloc, tables) else {
+            let_go(legs);
+            let_go(fleets);
             return Err(NoMemory);
         };
         Ok(Grammar {
@@ -35,6 +39,20 @@ impl<'a> Grammar<'a> {
             fleets,
             stations,
         })
+    }
+
+    /// Lets it go, in a call since it has many parts.
+    pub fn let_go(self) {
+        let Grammar {
+            version: _,
+            tables: _,
+            legs,
+            fleets,
+            stations,
+        } = self;
+        let_go(legs);
+        let_go(fleets);
+        let_go(stations);
     }
 
     /// The last minute of the period. Takes no memory.
@@ -78,7 +96,7 @@ impl<'a> Grammar<'a> {
         ensures value { result ≡ flier_in (naming self.now) name.now }
         ensures known { IfOk result (λ flier. IfSome flier (λ fleet. fleet < fleets_in self.now.tables.now)) }
     {
-        if self.tables.optional && name == b"-".as_slice() {
+        if self.tables.optional && is_same(name, b"-") {
             return Ok(None);
         }
         match self.fleet(name) {
@@ -160,3 +178,6 @@ fn stations(alloc: Global, tables: &Tables) -> Result<Names, NoMemory>
 {
     numbers_of(alloc, tables.stations.as_slice())
 }
+
+/// Lets names go, in a call since they have several parts.
+fn let_go(_names: Names) {}

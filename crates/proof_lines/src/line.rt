@@ -1,4 +1,5 @@
 ghost use Rattle.std.specs.Prelude.{◌≡◌};
+ghost use Rattle.proof_lines.specs.Figures.{version_word};
 ghost use Rattle.proof_lines.specs.Forms.{form_of, has_form};
 
 use crate::forms::Form;
@@ -15,6 +16,17 @@ pub enum Version {
 }
 
 impl Version {
+    /// The word that tells it.
+    pub fn word(self) -> &'static [u8]
+        ensures { result.now ≡ version_word self }
+    {
+        match self {
+            Version::One => b"1",
+            Version::Two => b"2",
+            Version::Three => b"3",
+        }
+    }
+
     /// Whether a text of this version may have lines of a form. Takes no memory.
     pub fn has(self, form: Form) -> bool
         ensures { result ≡ has_form self form }

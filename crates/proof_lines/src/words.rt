@@ -1,5 +1,5 @@
 //! The words of a line.
-ghost use Rattle.std.specs.Prelude.{◌≡◌, filter, IfOk};
+ghost use Rattle.std.specs.Prelude.{◌≡◌, ◌++◌, ◌∷◌, [], bytes_eq, filter, IfOk, OnOk};
 ghost use Rattle.proof_lines.specs.Words.{is_plain, is_word, parts_of, seen, stands, word_at};
 
 use entries::NoMemory;
@@ -18,11 +18,20 @@ pub fn words_of<'a>(alloc: Global, parts: &[&'a [u8]]) -> Result<Vec<&'a [u8]>, 
 {
     let mut words = Vec::new(alloc);
     for part in parts {
-        if !part.is_empty() {
-            words.push(*part)?;
-        }
+        push_part(&mut words, part)?;
     }
     Ok(words)
+}
+
+/// Appends a part of a line where it is a word.
+fn push_part<'a>(words: &mut Vec<&'a [u8]>, part: &'a [u8]) -> Result<(), NoMemory>
+    ensures { OnOk result (seen words.new.items ≡ seen words.old.items ++ filter is_word (part.now ∷ [])) }
+{
+    if part.is_empty() {
+        return Ok(());
+    }
+    words.push(part)?;
+    Ok(())
 }
 
 /// Whether all bytes of a line are plain text. Takes no memory.
@@ -46,5 +55,12 @@ pub fn word_at<'a>(words: &[&'a [u8]], place: usize) -> &'a [u8]
 pub fn stands(words: &[&[u8]], place: usize, word: &[u8]) -> bool
     ensures { result ≡ stands (seen words.now) place word.now }
 {
-    word_at(words, place) == word
+    is_same(word_at(words, place), word)
+}
+
+/// Whether a word is another. Takes no memory.
+pub fn is_same(word: &[u8], other: &[u8]) -> bool
+    ensures { result ≡ bytes_eq word.now other.now }
+{
+    word == other
 }

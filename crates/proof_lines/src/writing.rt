@@ -1,5 +1,5 @@
 //! A line, written.
-ghost use Rattle.std.specs.Prelude.{◌≡◌, ◌++◌, ◌∷◌, ◌<◌, OnOk};
+ghost use Rattle.std.specs.Prelude.{◌≡◌, ◌++◌, ◌∷◌, [], ◌<◌, OnOk};
 ghost use Rattle.std.specs.Fmt.{decimal, signed_decimal};
 ghost use Rattle.fleet_model.specs.Schedule.{IsPair, fleet_of, fleets_in, leg_of, leg_on, legs_in, station_of, stations_in};
 ghost use Rattle.proof_lines.specs.Forms.{form_of, keywords};
@@ -8,7 +8,7 @@ ghost use Rattle.proof_lines.specs.Words.{joined, spaced, spaced_words};
 ghost use Rattle.proof_lines.specs.declared.line.Line.TheVariants as line;
 
 use crate::forms::Form;
-use crate::line::{Line, Version};
+use crate::line::Line;
 use entries::NoMemory;
 use fleet_model::{Pair, Tables};
 use std::alloc::Global;
@@ -25,7 +25,14 @@ pub fn push_line(
 {
     push_keywords(text, line.form())?;
     push_fields(alloc, text, tables, line)?;
-    text.push(b'\n')?;
+    push_bytes(text, b"\n")
+}
+
+/// Appends bytes.
+fn push_bytes(text: &mut Vec<u8>, bytes: &[u8]) -> Result<(), NoMemory>
+    ensures { OnOk result (text.new.items ≡ text.old.items ++ bytes.now) }
+{
+    text.extend_from_slice(bytes)?;
     Ok(())
 }
 
@@ -33,7 +40,7 @@ pub fn push_line(
 fn push_keywords(text: &mut Vec<u8>, form: Form) -> Result<(), NoMemory>
     ensures { OnOk result (text.new.items ≡ text.old.items ++ joined (keywords form)) }
 {
-    text.extend_from_slice(form.first_word())?;
+    push_bytes(text, form.first_word())?;
     let second = form.second_word();
     if second.is_empty() {
         return Ok(());
@@ -45,9 +52,8 @@ fn push_keywords(text: &mut Vec<u8>, form: Form) -> Result<(), NoMemory>
 fn push_word(text: &mut Vec<u8>, word: &[u8]) -> Result<(), NoMemory>
     ensures { OnOk result (text.new.items ≡ text.old.items ++ spaced word.now) }
 {
-    text.push(b' ')?;
-    text.extend_from_slice(word)?;
-    Ok(())
+    push_bytes(text, b" ")?;
+    push_bytes(text, word)
 }
 
 /// Appends what stands behind the first words of a line.
@@ -93,36 +99,52 @@ fn push_figures(alloc: Global, text: &mut Vec<u8>, line: &Line) -> Result<(), No
     ensures { OnOk result (text.new.items ≡ text.old.items ++ spaced_words (figures_of line.now)) }
 {
     match line {
-        Line::Head(Version::One) => push_word(text, b"1"),
-        Line::Head(Version::Two) => push_word(text, b"2"),
-        Line::Head(Version::Three) => push_word(text, b"3"),
+        Line::Head(version) => push_word(text, version.word()),
         Line::OpenPivots { made } => push_count(alloc, text, *made),
         Line::OpenGrew {
             pivots,
             row,
             column,
-        } => {
-            push_count(alloc, text, *pivots)?;
-            push_count(alloc, text, *row)?;
-            push_count(alloc, text, *column)
-        }
-        Line::OpenLift { step, at } => {
-            push_count(alloc, text, *step)?;
-            push_count(alloc, text, *at)
-        }
-        Line::Scale { scale } | Line::Mixed { scale } => push_number(alloc, text, *scale),
-        Line::Rent { rent, .. } => push_number(alloc, text, *rent),
-        Line::Charge { day, charge, .. } => {
-            push_count(alloc, text, u64::from(*day))?;
-            push_number(alloc, text, *charge)
-        }
-        Line::At { minute, value, .. } => {
-            push_count(alloc, text, u64::from(*minute))?;
-            push_number(alloc, text, *value)
-        }
-        Line::Weight { weight, .. } => push_number(alloc, text, *weight),
+        } => push_grown(alloc, text, *pivots, *row, *column),
+        Line::OpenLift { step, at } => push_counts(alloc, text, *step, *at),
+        Line::Scale { scale: number }
+        | Line::Mixed { scale: number }
+        | Line::Rent { rent: number, .. }
+        | Line::Weight { weight: number, .. } => push_number(alloc, text, *number),
+        Line::Charge { day, charge, .. } => push_timed(alloc, text, u64::from(*day), *charge),
+        Line::At { minute, value, .. } => push_timed(alloc, text, u64::from(*minute), *value),
         _ => Ok(()),
     }
+}
+
+/// Appends how many pivots were made, and the row and the column of what grew.
+fn push_grown(
+    alloc: Global,
+    text: &mut Vec<u8>,
+    pivots: u64,
+    row: u64,
+    column: u64,
+) -> Result<(), NoMemory>
+    ensures { OnOk result (text.new.items ≡ text.old.items ++ spaced_words (decimal pivots ∷ decimal row ∷ decimal column ∷ [])) }
+{
+    push_count(alloc, text, pivots)?;
+    push_counts(alloc, text, row, column)
+}
+
+/// Appends two numbers without a sign.
+fn push_counts(alloc: Global, text: &mut Vec<u8>, first: u64, second: u64) -> Result<(), NoMemory>
+    ensures { OnOk result (text.new.items ≡ text.old.items ++ spaced_words (decimal first ∷ decimal second ∷ [])) }
+{
+    push_count(alloc, text, first)?;
+    push_count(alloc, text, second)
+}
+
+/// Appends a day or a minute, and what is said of it.
+fn push_timed(alloc: Global, text: &mut Vec<u8>, time: u64, value: i128) -> Result<(), NoMemory>
+    ensures { OnOk result (text.new.items ≡ text.old.items ++ spaced_words (decimal time ∷ signed_decimal value ∷ [])) }
+{
+    push_count(alloc, text, time)?;
+    push_number(alloc, text, value)
 }
 
 /// Appends the words of a pair.
