@@ -4,6 +4,7 @@ use crate::row::Row;
 use crate::start::NONE;
 use entries::NoMemory;
 use std::alloc::Global;
+use std::mem;
 
 /// The rows of the columns that came, over the slots: the lines whose first columns left. A slot that no line has any more is
 /// free for another one.
@@ -22,9 +23,9 @@ impl<N: Number> Kernel<N> {
     /// No columns that came, over so many lines.
     pub fn new(alloc: Global, lines: usize) -> Result<Kernel<N>, NoMemory> {
         Ok(Kernel {
+            slots: filled(alloc, NONE, lines)?,
             rows: Vec::new(alloc),
             lines: Vec::new(alloc),
-            slots: filled(alloc, NONE, lines)?,
             free: Vec::new(alloc),
         })
     }
@@ -66,17 +67,14 @@ impl<N: Number> Kernel<N> {
         Ok(())
     }
 
-    /// The same rows in wide numbers.
-    pub fn widened(&self, alloc: Global) -> Result<Kernel<i128>, NoMemory> {
-        let mut rows = Vec::new(alloc);
+    /// Gives a wide kernel the same rows, and all slots.
+    pub fn widen(&mut self, alloc: Global, wide: &mut Kernel<i128>) -> Result<(), NoMemory> {
+        mem::swap(&mut self.lines, &mut wide.lines);
+        mem::swap(&mut self.slots, &mut wide.slots);
+        mem::swap(&mut self.free, &mut wide.free);
         for row in &self.rows {
-            rows.push(row.widened(alloc)?)?;
+            wide.rows.push(row.widened(alloc)?)?;
         }
-        Ok(Kernel {
-            rows,
-            lines: Vec::from_slice(alloc, &self.lines)?,
-            slots: Vec::from_slice(alloc, &self.slots)?,
-            free: Vec::from_slice(alloc, &self.free)?,
-        })
+        Ok(())
     }
 }

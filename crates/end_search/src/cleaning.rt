@@ -1,7 +1,7 @@
 use crate::pivot::{pivot, take_row};
 use crate::progress::{Progress, Workspace};
-use end_kernel::{Kernel, Number, at};
-use end_pivots::{Frame, Leaving, Trial};
+use end_kernel::{Kernel, Number, number_at};
+use end_pivots::{Frame, Leaving};
 use entries::NoMemory;
 use std::alloc::Global;
 
@@ -68,20 +68,18 @@ fn trial<N: Number>(
         frame,
         kernel,
         &workspace.row,
-        progress.weights.crosses(),
+        &progress.weights.crosses,
         column,
     )? {
         return Ok(None);
     }
-    let Some(scale) = workspace.column.lay_lines(frame, kernel) else {
-        return Ok(None);
-    };
-    let tried = Trial {
-        products: &workspace.column.products,
-        numbers: &workspace.column.lines,
-        scale,
-    };
-    Ok(tried.gaining(frame, kernel, &workspace.values))
+    Ok(match workspace.column.lay_lines(frame, kernel) {
+        Some(scale) => {
+            let values = &workspace.values;
+            workspace.column.gaining(frame, kernel, values, scale)
+        }
+        None => None,
+    })
 }
 
 // Brings the column in, and answers whether all fits and the values are those after it.
@@ -95,7 +93,7 @@ fn enter<N: Number>(
     column: u32,
 ) -> Result<bool, NoMemory> {
     if !take_row(frame, kernel, progress, &mut workspace.row, leaves)?
-        || !at(&workspace.row.columns, column as usize, N::of(0)).is_below_0()
+        || !number_at(&workspace.row.columns, column as usize).is_below_0()
         || !pivot(alloc, frame, kernel, progress, workspace, leaves, column)?
     {
         return Ok(false);

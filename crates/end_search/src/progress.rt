@@ -46,7 +46,7 @@ impl Progress {
 
     /// Whether a column is out of the basis and may come in at no cost.
     pub(crate) fn is_free(&self, column: usize) -> bool {
-        !at(&self.basic, column, true) && at(&self.costs.columns, column, 1) == 0
+        !at(&self.basic, column, true) && at(&self.costs.numbers, column, 1) == 0
     }
 
     /// Whether so many columns came that the kernel should be made anew.
@@ -75,7 +75,7 @@ impl<N: Number> Workspace<N> {
         Ok(Workspace {
             values: Values::new(alloc, frame.columns.line_count())?,
             row: PivotRow::new(alloc, frame)?,
-            column: PivotColumn::new(alloc, frame)?,
+            column: PivotColumn::new(alloc),
             seen: Vec::new(alloc),
         })
     }

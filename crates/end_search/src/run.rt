@@ -26,19 +26,6 @@ pub(crate) fn run<N: Number>(
     costs: &[i128],
     kernel: &mut Kernel<N>,
     progress: &mut Progress,
-    steps: u64,
-) -> Result<Ended, NoMemory> {
-    let mut workspace = Workspace::new(alloc, frame)?;
-    run_in(alloc, frame, costs, kernel, progress, &mut workspace, steps)
-}
-
-// The same in a workspace.
-fn run_in<N: Number>(
-    alloc: Global,
-    frame: &mut Frame,
-    costs: &[i128],
-    kernel: &mut Kernel<N>,
-    progress: &mut Progress,
     workspace: &mut Workspace<N>,
     steps: u64,
 ) -> Result<Ended, NoMemory> {
@@ -94,7 +81,6 @@ fn told<N: Number>(
         )?)),
         Turn::Refused => Ok(Ended::Answer(Some(refusal_hint(alloc, &workspace.row)?))),
         Turn::Outgrown => Ok(Ended::Outgrown),
-        Turn::Spent => Ok(Ended::Answer(None)),
-        Turn::Pivoted => Ok(Ended::Answer(None)),
+        Turn::Spent | Turn::Pivoted => Ok(Ended::Answer(None)),
     }
 }
