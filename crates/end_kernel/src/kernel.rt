@@ -1,7 +1,8 @@
-use crate::lists::{at, filled, put};
-use crate::number::Number;
-use crate::row::Row;
-use crate::start::NONE;
+use crate::columns::Columns;
+use crate::lists::{at, put};
+use crate::number::{Number, common_scale};
+use crate::row::{Part, Row};
+use crate::start::{NONE, weighed};
 use entries::NoMemory;
 use std::alloc::Global;
 use std::mem;
@@ -13,21 +14,21 @@ pub struct Kernel<N> {
     pub rows: Vec<Row<N>>,
     /// The line of each slot, or `NONE`.
     pub lines: Vec<u32>,
-    /// The slot of each line, or `NONE`.
+    /// The slot of each line, or `NONE`; behind its end no line has one.
     slots: Vec<u32>,
     /// The slots that are free.
     free: Vec<u32>,
 }
 
 impl<N: Number> Kernel<N> {
-    /// No columns that came, over so many lines.
-    pub fn new(alloc: Global, lines: usize) -> Result<Kernel<N>, NoMemory> {
-        Ok(Kernel {
-            slots: filled(alloc, NONE, lines)?,
+    /// No columns that came.
+    pub fn new(alloc: Global) -> Kernel<N> {
+        Kernel {
             rows: Vec::new(alloc),
             lines: Vec::new(alloc),
+            slots: Vec::new(alloc),
             free: Vec::new(alloc),
-        })
+        }
     }
 
     /// The slot of a line, or `NONE` where its first column is still basic.
@@ -45,7 +46,11 @@ impl<N: Number> Kernel<N> {
     /// Makes a slot of a line.
     pub fn open_slot(&mut self, line: u32) -> Result<(), NoMemory> {
         let slot = self.next_slot();
-        put(self.slots.as_mut_slice(), line as usize, slot);
+        let place = line as usize;
+        if place >= self.slots.len() {
+            self.slots.resize(place.wrapping_add(1), NONE)?;
+        }
+        put(self.slots.as_mut_slice(), place, slot);
         if self.free.pop().is_some() {
             put(self.lines.as_mut_slice(), slot as usize, line);
         } else {
@@ -65,6 +70,31 @@ impl<N: Number> Kernel<N> {
         put(self.slots.as_mut_slice(), line as usize, NONE);
         self.free.push(slot)?;
         Ok(())
+    }
+
+    /// Notes the rows in whose columns multipliers of the lines weigh something, and how much of each. Answers a scale of them, where
+    /// it fits.
+    pub fn cross(
+        &self,
+        columns: &Columns,
+        multipliers: &[N],
+        crossing: &mut Vec<Part<N>>,
+    ) -> Result<Option<N>, NoMemory> {
+        crossing.clear();
+        let mut scale = N::of(1);
+        for place in 0..self.rows.len() {
+            let row = &self.rows[place];
+            let number = weighed(columns, row.column as usize, multipliers);
+            if !number.is_zero() {
+                let slot = (place & 0xffff_ffff) as u32;
+                crossing.push(Part { slot, number })?;
+                let Some(next) = common_scale(scale, row.den) else {
+                    return Ok(None);
+                };
+                scale = next;
+            }
+        }
+        Ok(Some(scale))
     }
 
     /// Gives a wide kernel the same rows, and all slots.

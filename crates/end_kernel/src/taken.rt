@@ -1,6 +1,7 @@
 use crate::divider::odd_part;
+use crate::kernel::Kernel;
 use crate::lists::{put, reset};
-use crate::number::Number;
+use crate::number::{Number, product_fits};
 use crate::row::{Part, Row, divide_parts, shared, sizes, turn_parts};
 use entries::NoMemory;
 use std::alloc::Global;
@@ -41,10 +42,21 @@ impl<N: Number> Taken<N> {
         Ok(())
     }
 
-    /// Subtracts a row so many times, where the numbers by slots count.
-    pub fn subtract(&mut self, row: &Row<N>, times: N) {
-        self.own = self.own.minus(times.times(row.own));
-        row.subtract_from(self.numbers.as_mut_slice(), times);
+    /// Subtracts rows of a kernel, by how much of each there is, over a scale, and answers whether all fit. The numbers by slots count.
+    pub fn subtract(&mut self, kernel: &Kernel<N>, crossing: &[Part<N>], scale: N) -> bool {
+        for part in crossing {
+            let place = part.slot as usize;
+            if place < kernel.rows.len() {
+                let row = &kernel.rows[place];
+                let times = part.number.times(scale.over(row.den));
+                if !product_fits(times, row.sizes, 12) {
+                    return false;
+                }
+                self.own = self.own.minus(times.times(row.own));
+                row.subtract_from(self.numbers.as_mut_slice(), times);
+            }
+        }
+        true
     }
 
     /// Gives a slot its number, and gathers the parts from the numbers by slots.

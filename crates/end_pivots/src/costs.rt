@@ -75,10 +75,16 @@ impl Costs {
         }
     }
 
-    /// Makes the step, and brings the costs to lowest terms.
-    pub fn change<N: Number>(&mut self, row: &PivotRow<N>, step: CostStep) {
+    /// Makes room for so many slots, makes the step, and brings the costs to lowest terms.
+    pub fn change<N: Number>(
+        &mut self,
+        row: &PivotRow<N>,
+        step: CostStep,
+        slots: usize,
+    ) -> Result<(), NoMemory> {
+        self.numbers.resize(self.columns.wrapping_add(slots), 0)?;
         if step.times == 0 {
-            return;
+            return Ok(());
         }
         let numbers = self.numbers.as_mut_slice();
         if step.factor != 1 {
@@ -89,11 +95,6 @@ impl Costs {
         let parts = take_parts(numbers, self.columns, &row.taken.parts, step.times);
         self.sizes = self.sizes.either(met).either(parts);
         self.reduce();
-    }
-
-    /// Makes room for as many slots.
-    pub fn open_slots(&mut self, count: usize) -> Result<(), NoMemory> {
-        self.numbers.resize(self.columns.wrapping_add(count), 0)?;
         Ok(())
     }
 

@@ -113,54 +113,20 @@ impl<N: Number> PivotRow<N> {
         fill(lines, N::of(0));
         put(lines, line as usize, N::of(1));
         frame.start.backward(lines);
-        let Some(scale) = self.cross(frame, kernel)? else {
+        let crossing = &mut self.crossing;
+        let Some(scale) = kernel.cross(&frame.columns, lines, crossing)? else {
             return Ok(false);
         };
-        let own = weighed(&frame.columns, frame.columns.count(), &self.lines);
+        let own = weighed(&frame.columns, frame.columns.count(), lines);
         if !product_fits(own, scale, 0) {
             return Ok(false);
         }
         self.taken.own = own.times(scale);
-        if !self.subtract_rows(kernel, scale) {
+        if !self.taken.subtract(kernel, crossing, scale) {
             return Ok(false);
         }
         self.taken.gather(kernel.next_slot(), scale)?;
         Ok(true)
-    }
-
-    // Notes which rows' columns have a number in the line that is weighed, and a scale of their rows, where it fits.
-    fn cross(&mut self, frame: &Frame, kernel: &Kernel<N>) -> Result<Option<N>, NoMemory> {
-        self.crossing.clear();
-        let mut scale = N::of(1);
-        for place in 0..kernel.rows.len() {
-            let row = &kernel.rows[place];
-            let number = weighed(&frame.columns, row.column as usize, &self.lines);
-            if !number.is_zero() {
-                let slot = (place & 0xffff_ffff) as u32;
-                self.crossing.push(Part { slot, number })?;
-                let Some(next) = common_scale(scale, row.den) else {
-                    return Ok(None);
-                };
-                scale = next;
-            }
-        }
-        Ok(Some(scale))
-    }
-
-    // Subtracts the rows that the line crosses, each so many times, over a scale, and answers whether all fit.
-    fn subtract_rows(&mut self, kernel: &Kernel<N>, scale: N) -> bool {
-        for part in &self.crossing {
-            let place = part.slot as usize;
-            if place < kernel.rows.len() {
-                let row = &kernel.rows[place];
-                let times = part.number.times(scale.over(row.den));
-                if !product_fits(times, row.sizes, 12) {
-                    return false;
-                }
-                self.taken.subtract(row, times);
-            }
-        }
-        true
     }
 
     /// How many numbers a pivot on the row looks at, by lines and columns.

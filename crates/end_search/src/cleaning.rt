@@ -9,19 +9,18 @@ use std::alloc::Global;
 const MOST_PASSES: u64 = 10;
 
 /// Pivots among ends of equal cost, each of which makes more columns come to whole numbers, so that fewer pairs are flown in part.
-/// At most so many pivots are made together. The values are those of the kernel before, and where all are whole nothing is tried.
+/// The values are those of the kernel before, and where all are whole nothing is tried.
 pub(crate) fn make_whole<N: Number>(
     alloc: Global,
     frame: &Frame,
     kernel: &mut Kernel<N>,
     progress: &mut Progress,
     workspace: &mut Workspace<N>,
-    steps: u64,
 ) -> Result<(), NoMemory> {
     for _pass in 0..MOST_PASSES {
         let before = progress.made;
         if workspace.values.are_whole(kernel)
-            || !pass(alloc, frame, kernel, progress, workspace, steps)?
+            || !pass(alloc, frame, kernel, progress, workspace)?
             || progress.made == before
         {
             return Ok(());
@@ -37,14 +36,13 @@ fn pass<N: Number>(
     kernel: &mut Kernel<N>,
     progress: &mut Progress,
     workspace: &mut Workspace<N>,
-    steps: u64,
 ) -> Result<bool, NoMemory> {
     for place in 0..progress.basic.len() {
         if progress.is_free(place) {
             let column = (place & 0xffff_ffff) as u32;
             let leaves = trial(frame, kernel, progress, workspace, column)?;
             if let Some(leaves) = leaves {
-                if !progress.may_pivot(steps)
+                if !progress.may_pivot()
                     || !enter(alloc, frame, kernel, progress, workspace, leaves, column)?
                 {
                     return Ok(false);

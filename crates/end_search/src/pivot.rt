@@ -36,8 +36,8 @@ pub(crate) fn pivot<N: Number>(
     }
     let weight = progress.weights.entered();
     let place = let_in(alloc, kernel, progress, workspace, leaves, column, weight)?;
-    progress.costs.open_slots(kernel.lines.len())?;
-    progress.costs.change(&workspace.row, step);
+    let slots = kernel.lines.len();
+    progress.costs.change(&workspace.row, step, slots)?;
     put(progress.basic.as_mut_slice(), column as usize, true);
     let own = workspace.row.taken.own;
     workspace.values.advance(kernel, own, &workspace.column);
@@ -104,19 +104,17 @@ fn change_rows<N: Number>(
     before: u64,
 ) -> Result<u64, NoMemory> {
     workspace.seen.resize(kernel.lines.len(), 0)?;
-    let row = &workspace.row;
     let column = &workspace.column;
     let seen = workspace.seen.as_mut_slice();
-    let rows = kernel.rows.as_mut_slice();
-    let mut work = before.wrapping_add(row.work());
-    for place in 0..rows.len() {
+    let mut work = before.wrapping_add(workspace.row.work());
+    let mut place = 0usize;
+    for row in kernel.rows.iter_mut() {
         let product = column.product(place);
-        work = work
-            .wrapping_add(rows[place].parts.len() as u64)
-            .wrapping_add(1);
+        work = work.wrapping_add(row.parts.len() as u64).wrapping_add(1);
         if !product.is_zero() && place != leaves {
-            work = change_row(&mut rows[place], row, column.size, product, seen, work)?;
+            work = change_row(row, &workspace.row, column.size, product, seen, work)?;
         }
+        place = place.wrapping_add(1);
     }
     let done = work.wrapping_sub(before);
     Ok(before.wrapping_add(done.wrapping_mul(u64::from(N::room() / 62))))

@@ -30,8 +30,8 @@ fn exchange<N: Number>(
     progress: &mut Progress,
     workspace: &mut Workspace<N>,
 ) -> Result<(), NoMemory> {
-    let mut other = Kernel::new(alloc, frame.columns.line_count())?;
     let mut start = start_of(alloc, frame, basis)?;
+    let mut other = Kernel::new(alloc);
     mem::swap(kernel, &mut other);
     mem::swap(&mut frame.start, &mut start);
     let fits = rebuild(alloc, frame, basis, kernel, progress, workspace);

@@ -1,5 +1,5 @@
 use crate::places::start_places;
-use crate::progress::{Progress, Workspace};
+use crate::progress::Progress;
 use crate::run::{Ended, run};
 use end_check::Hint;
 use end_kernel::{Columns, Kernel, Start};
@@ -34,22 +34,13 @@ fn search(
     costs: &[i128],
     steps: u64,
 ) -> Result<Option<Hint>, NoMemory> {
-    let Some(mut progress) = Progress::new(alloc, frame, costs)? else {
+    let Some(mut progress) = Progress::new(alloc, frame, costs, steps)? else {
         return Ok(None);
     };
-    let mut kernel: Kernel<i64> = Kernel::new(alloc, frame.columns.line_count())?;
-    let mut space = Workspace::new(alloc, frame)?;
-    match run(
-        alloc,
-        frame,
-        costs,
-        &mut kernel,
-        &mut progress,
-        &mut space,
-        steps,
-    ) {
+    let mut kernel: Kernel<i64> = Kernel::new(alloc);
+    match run(alloc, frame, costs, &mut kernel, &mut progress) {
         Ok(Ended::Answer(hint)) => Ok(hint),
-        Ok(Ended::Outgrown) => go_on(alloc, frame, costs, &mut kernel, &mut progress, steps),
+        Ok(Ended::Outgrown) => go_on(alloc, frame, costs, &mut kernel, &mut progress),
         Err(error) => Err(error),
     }
 }
@@ -61,12 +52,10 @@ fn go_on(
     costs: &[i128],
     kernel: &mut Kernel<i64>,
     progress: &mut Progress,
-    steps: u64,
 ) -> Result<Option<Hint>, NoMemory> {
-    let mut wide = Kernel::new(alloc, 0)?;
+    let mut wide = Kernel::new(alloc);
     kernel.widen(alloc, &mut wide)?;
-    let mut space = Workspace::new(alloc, frame)?;
-    match run(alloc, frame, costs, &mut wide, progress, &mut space, steps) {
+    match run(alloc, frame, costs, &mut wide, progress) {
         Ok(Ended::Answer(hint)) => Ok(hint),
         Ok(Ended::Outgrown) => Ok(None),
         Err(error) => Err(error),
