@@ -7,7 +7,7 @@ pub fn odd_part<N: Number>(number: N) -> N {
 
 /// An odd number above 0, ready to divide many. A multiple of it is so many times it as the product with its inverse says;
 /// the product of any other number is too large.
-#[derive(Clone, Copy)]
+#[derive(Drop)]
 pub struct Divider<N> {
     divisor: N,
     inverse: N,
@@ -24,21 +24,20 @@ impl<N: Number> Divider<N> {
     }
 
     #[inline(always)]
-    pub fn divisor(self) -> N {
+    pub fn divisor(&self) -> N {
         self.divisor
     }
 
-    /// One of the greatest odd number that divides another number too.
+    /// Makes it one of the greatest odd number that divides another number too.
     #[inline(always)]
-    pub fn with(self, number: N) -> Divider<N> {
-        if self.divides(number) {
-            return self;
+    pub fn meet(&mut self, number: N) {
+        if !self.divides(number) {
+            *self = Divider::new(odd_part(common_divisor(self.divisor, number)));
         }
-        Divider::new(odd_part(common_divisor(self.divisor, number)))
     }
 
     #[inline(always)]
-    fn divides(self, number: N) -> bool {
+    fn divides(&self, number: N) -> bool {
         !self.most.is_less(number.times(self.inverse).size())
     }
 }

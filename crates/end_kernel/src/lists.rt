@@ -23,10 +23,15 @@ pub fn put<T: Copy + Drop>(list: &mut [T], place: usize, entry: T) {
 /// A list of so many equal entries.
 pub fn filled<T: Copy + Drop>(alloc: Global, entry: T, count: usize) -> Result<Vec<T>, NoMemory> {
     let mut list = Vec::new(alloc);
-    for _place in 0..count {
-        list.push(entry)?;
-    }
+    list.resize(count, entry)?;
     Ok(list)
+}
+
+/// Makes a list one of so many equal entries.
+pub fn reset<T: Copy + Drop>(list: &mut Vec<T>, count: usize, entry: T) -> Result<(), NoMemory> {
+    list.clear();
+    list.resize(count, entry)?;
+    Ok(())
 }
 
 /// Makes all entries equal to one.

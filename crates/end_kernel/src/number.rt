@@ -1,3 +1,5 @@
+use crate::lists::at;
+
 /// The whole numbers in which a search reckons, of 64 or of 128 bits. No operation fails: who calls one has looked at the
 /// sizes before, and otherwise gets any number.
 pub trait Number: Copy + Drop {
@@ -284,14 +286,26 @@ pub fn common_divisor<N: Number>(first: N, second: N) -> N {
     greater
 }
 
-/// The least multiple of a scale that a denominator divides too, where it has at most so many bits.
-pub fn common_scale<N: Number>(scale: N, den: N, most: u32) -> Option<N> {
+/// The least multiple of a scale that a denominator divides too, where it has at most two thirds of the bits.
+pub fn common_scale<N: Number>(scale: N, den: N) -> Option<N> {
     if scale.rest(den).is_zero() {
         return Some(scale);
     }
     let factor = den.over(common_divisor(scale, den));
-    if factor.bits().wrapping_add(scale.bits()) > most {
+    if factor.bits().wrapping_add(scale.bits()) > N::room() / 3 * 2 {
         return None;
     }
     Some(scale.times(factor))
+}
+
+/// Whether a product has room, with so many bits to spare.
+#[inline(always)]
+pub fn product_fits<N: Number>(first: N, second: N, spare: u32) -> bool {
+    first.bits().wrapping_add(second.bits()).wrapping_add(spare) <= N::room()
+}
+
+/// The number at a place, or 0 where there is none.
+#[inline(always)]
+pub fn number_at<N: Number>(numbers: &[N], place: usize) -> N {
+    at(numbers, place, N::of(0))
 }

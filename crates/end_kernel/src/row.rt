@@ -1,6 +1,7 @@
 use crate::divider::{Divider, odd_part};
 use crate::lists::{at, put};
-use crate::number::{Number, common_divisor};
+use crate::number::{Number, common_divisor, number_at};
+use crate::taken::Taken;
 use entries::NoMemory;
 use std::alloc::Global;
 
@@ -26,41 +27,16 @@ pub struct Row<N> {
     pub weight: i64,
 }
 
-/// A row that others take, so many times: its parts, and its numbers by all slots.
-#[derive(Clone, Copy)]
-pub struct Taken<'a, N> {
-    pub own: N,
-    pub parts: &'a [Part<N>],
-    pub numbers: &'a [N],
-}
-
-/// A number of the pivot column and one of another sum over lines, in one slot.
-#[derive(Clone, Copy)]
-pub struct Sides<N> {
-    pub column: N,
-    pub other: N,
-}
-
-impl<N: Number> Sides<N> {
-    #[inline(always)]
-    fn none() -> Sides<N> {
-        Sides {
-            column: N::of(0),
-            other: N::of(0),
-        }
-    }
-}
-
 impl<N: Number> Row<N> {
-    /// The row of a column, brought to lowest terms.
-    pub fn new(column: u32, own: N, parts: Vec<Part<N>>, den: N) -> Row<N> {
+    /// The row of a column with a weight, brought to lowest terms.
+    pub fn new(column: u32, own: N, parts: Vec<Part<N>>, den: N, weight: i64) -> Row<N> {
         let mut row = Row {
             column,
             own,
             parts,
             den,
             sizes: den,
-            weight: 1,
+            weight,
         };
         row.survey();
         row.reduce();
@@ -71,7 +47,7 @@ impl<N: Number> Row<N> {
     /// a place for each slot, which remembers the last turn in which it was; each call has a turn of its own.
     pub fn combine(
         &mut self,
-        taken: Taken<'_, N>,
+        taken: &Taken<N>,
         factor: N,
         times: N,
         seen: &mut [u64],
@@ -80,30 +56,31 @@ impl<N: Number> Row<N> {
         self.den = self.den.times(factor);
         self.own = self.own.times(factor).plus(taken.own.times(times));
         self.sizes = self.den.either(self.own.size());
-        self.add_where_it_has(taken.numbers, factor, times, seen, turn);
-        self.add_where_it_lacks(taken.parts, times, seen, turn)?;
+        self.add_where_it_has(&taken.numbers, factor, times, seen, turn);
+        self.add_where_it_lacks(&taken.parts, times, seen, turn)?;
         self.reduce();
         Ok(())
     }
 
-    /// What the row's parts and each of two sides come to, slot by slot.
-    pub fn across(&self, sides: &[Sides<N>]) -> Sides<N> {
-        let mut sum: Sides<N> = Sides::none();
+    /// What the row's parts and the first numbers of all slots come to, and what they and the second ones do.
+    pub fn across(&self, numbers: &[(N, N)]) -> (N, N) {
+        let none = (N::of(0), N::of(0));
+        let mut sums = none;
         for part in &self.parts {
-            let side = at(sides, part.slot as usize, Sides::none());
-            sum = Sides {
-                column: sum.column.plus(side.column.times(part.number)),
-                other: sum.other.plus(side.other.times(part.number)),
-            };
+            let (first, second) = at(numbers, part.slot as usize, none);
+            sums = (
+                sums.0.plus(first.times(part.number)),
+                sums.1.plus(second.times(part.number)),
+            );
         }
-        sum
+        sums
     }
 
     /// Subtracts the row's parts, so many times, from numbers by all slots.
     pub fn subtract_from(&self, numbers: &mut [N], times: N) {
         for part in &self.parts {
             let place = part.slot as usize;
-            let old = at(numbers, place, N::of(0));
+            let old = number_at(numbers, place);
             put(numbers, place, old.minus(times.times(part.number)));
         }
     }
@@ -112,14 +89,18 @@ impl<N: Number> Row<N> {
     pub fn widened(&self, alloc: Global) -> Result<Row<i128>, NoMemory> {
         let mut parts = Vec::new(alloc);
         for part in &self.parts {
-            parts.push(Part {
-                slot: part.slot,
-                number: part.number.wide(),
-            })?;
+            let number = part.number.wide();
+            let slot = part.slot;
+            parts.push(Part { slot, number })?;
         }
-        let mut row = Row::new(self.column, self.own.wide(), parts, self.den.wide());
-        row.weight = self.weight;
-        Ok(row)
+        Ok(Row {
+            column: self.column,
+            own: self.own.wide(),
+            parts,
+            den: self.den.wide(),
+            sizes: self.sizes.wide(),
+            weight: self.weight,
+        })
     }
 
     // Changes the parts that the row has, and takes those away that become 0. A part is written also where the next one takes
@@ -137,7 +118,7 @@ impl<N: Number> Row<N> {
         let parts = self.parts.as_mut_slice();
         for place in 0..parts.len() {
             let Part { slot, number } = parts[place];
-            let more = at(numbers, slot as usize, N::of(0));
+            let more = number_at(numbers, slot as usize);
             put(seen, slot as usize, turn);
             let number = number.times(factor).plus(more.times(times));
             sizes = sizes.either(number.size());
@@ -221,20 +202,23 @@ pub fn shared<N: Number>(parts: &[Part<N>], divisor: N) -> N {
         if divider.divisor().is_one() {
             return divider.divisor();
         }
-        divider = divider.with(part.number);
+        divider.meet(part.number);
     }
     divider.divisor()
+}
+
+/// Turns all parts to the other sign.
+pub fn turn_parts<N: Number>(parts: &mut [Part<N>]) {
+    for part in parts.iter_mut() {
+        part.number = N::of(0).minus(part.number);
+    }
 }
 
 /// Divides all parts by a power of 2 and an odd number, which divide them.
 pub fn divide_parts<N: Number>(parts: &mut [Part<N>], twos: N, odd: N) {
     let bits = twos.bits().wrapping_sub(1);
     let inverse = odd.inverse();
-    for place in 0..parts.len() {
-        let Part { slot, number } = parts[place];
-        parts[place] = Part {
-            slot,
-            number: number.shifted(bits).times(inverse),
-        };
+    for part in parts.iter_mut() {
+        part.number = part.number.shifted(bits).times(inverse);
     }
 }

@@ -1,6 +1,7 @@
-use crate::columns::{Columns, Unit, items_of, sum_up};
-use crate::lists::{at, filled, put};
-use crate::number::Number;
+use crate::columns::Columns;
+use crate::lists::{at, put};
+use crate::number::{Number, number_at};
+use crate::units::{Unit, Units};
 use entries::NoMemory;
 use std::alloc::Global;
 
@@ -18,27 +19,14 @@ pub struct Place {
 /// the line of an earlier one; in all other lines stands what the line lacks.
 #[derive(Drop)]
 pub struct Start {
-    steps: Vec<Step>,
-    /// The numbers of the steps' columns in other lines than their own, step by step.
-    others: Vec<Unit>,
+    /// The line of each column in their order, and its number there. Behind them stand the lines without a column, with 1.
+    steps: Vec<Unit>,
+    /// The numbers of the steps' columns in other lines than their own, but for lines without a column.
+    others: Units,
+    /// The same by lines: those of the steps' columns that have a number in a line that isn't their own.
+    crossings: Units,
     columns: Vec<u32>,
     lines: Vec<u32>,
-    /// The lines without a step.
-    bare: Vec<u32>,
-    /// Where the crossings of each line end.
-    crossing_ends: Vec<u32>,
-    /// The steps whose columns have a number in a line that isn't their own, line by line: the step's line, and the number.
-    crossings: Vec<Unit>,
-}
-
-#[derive(Clone, Copy)]
-struct Step {
-    line: u32,
-    /// Its number in its own line.
-    own: i32,
-    /// Where its other numbers begin and end.
-    begin: u32,
-    end: u32,
 }
 
 impl Start {
@@ -46,52 +34,36 @@ impl Start {
     pub fn new(alloc: Global, columns: &Columns, places: &[Place]) -> Result<Start, NoMemory> {
         let mut start = Start {
             steps: Vec::new(alloc),
-            others: Vec::new(alloc),
-            columns: filled(alloc, NONE, columns.line_count())?,
-            lines: filled(alloc, NONE, columns.count())?,
-            bare: Vec::new(alloc),
-            crossing_ends: filled(alloc, 0, columns.line_count())?,
-            crossings: Vec::new(alloc),
+            others: Units::new(alloc),
+            crossings: Units::new(alloc),
+            columns: Vec::new(alloc),
+            lines: Vec::new(alloc),
         };
-        for place in places {
-            start.add(columns, *place)?;
-        }
-        start.note_bare()?;
-        start.count_crossings()?;
-        start.cross();
+        start.lay(columns, places)?;
         Ok(start)
     }
 
-    // Notes the lines without a step.
-    fn note_bare(&mut self) -> Result<(), NoMemory> {
+    // Lays all steps and crossings, where there were none.
+    fn lay(&mut self, columns: &Columns, places: &[Place]) -> Result<(), NoMemory> {
+        self.columns.resize(columns.line_count(), NONE)?;
+        self.lines.resize(columns.count(), NONE)?;
+        for place in places {
+            self.add(columns, *place)?;
+        }
+        self.add_bare()?;
+        let lines = columns.line_count();
+        self.crossings.turn(&self.others, &self.steps, lines)
+    }
+
+    // Puts the lines without a step behind those with one.
+    fn add_bare(&mut self) -> Result<(), NoMemory> {
         for line in 0..self.columns.len() {
-            let line = (line & 0xffff_ffff) as u32;
-            if self.column_of(line) == NONE {
-                self.bare.push(line)?;
+            let place = (line & 0xffff_ffff) as u32;
+            if self.column_of(place) == NONE {
+                self.steps.push(Unit { place, number: 1 })?;
             }
         }
         Ok(())
-    }
-
-    // Makes room for the crossings of each line.
-    fn count_crossings(&mut self) -> Result<(), NoMemory> {
-        for unit in &self.others {
-            let line = unit.line as usize;
-            let count = at(&self.crossing_ends, line, 0);
-            put(&mut self.crossing_ends, line, count.wrapping_add(1));
-        }
-        sum_up(&mut self.crossing_ends);
-        let none = Unit { line: 0, number: 0 };
-        self.crossings.resize(self.others.len(), none)?;
-        Ok(())
-    }
-
-    // Lays the crossings of all lines.
-    fn cross(&mut self) {
-        for step in &self.steps {
-            let others = others_of(*step, &self.others);
-            lay_crossings(*step, others, &mut self.crossing_ends, &mut self.crossings);
-        }
     }
 
     // Puts a column behind those so far, where the order lets it.
@@ -100,24 +72,15 @@ impl Start {
         if own == 1 || own == -1 {
             put(&mut self.columns, place.line as usize, place.column);
             put(&mut self.lines, place.column as usize, place.line);
-            let begin = (self.others.len() & 0xffff_ffff) as u32;
-            self.push_others(columns, place)?;
-            self.steps.push(Step {
-                line: place.line,
-                own,
-                begin,
-                end: (self.others.len() & 0xffff_ffff) as u32,
+            self.steps.push(Unit {
+                place: place.line,
+                number: own,
             })?;
-        }
-        Ok(())
-    }
-
-    // Puts the numbers of a column in other lines than its own behind those so far.
-    fn push_others(&mut self, columns: &Columns, place: Place) -> Result<(), NoMemory> {
-        for unit in columns.of(place.column as usize) {
-            if unit.line != place.line {
-                self.others.push(*unit)?;
-            }
+            return push_others(
+                columns.of(place.column as usize),
+                place.line,
+                &mut self.others,
+            );
         }
         Ok(())
     }
@@ -130,10 +93,10 @@ impl Start {
             return 0;
         }
         for unit in columns.of(place.column as usize) {
-            if self.column_of(unit.line) != NONE {
+            if self.column_of(unit.place) != NONE {
                 return 0;
             }
-            if unit.line == place.line {
+            if unit.place == place.line {
                 own = unit.number;
             }
         }
@@ -163,83 +126,55 @@ impl Start {
 
     /// Of a sum over lines how much of each basic column makes it, by the lines of these.
     pub fn forward<N: Number>(&self, sums: &mut [N]) {
-        for step in &self.steps {
-            let own = at(sums, step.line as usize, N::of(0));
+        let steps = self.steps.as_slice();
+        for place in 0..steps.len() {
+            let step = steps[place];
+            let own = number_at(sums, step.place as usize);
             if !own.is_zero() {
-                let part = own.times(N::of(step.own));
-                put(sums, step.line as usize, part);
-                take_units(others_of(*step, &self.others), part, sums);
+                let part = own.times(N::of(step.number));
+                put(sums, step.place as usize, part);
+                add_units(self.others.of(place), N::of(0).minus(part), sums);
             }
         }
     }
 
     /// Of what the basic columns weigh, by their lines, the multipliers of the lines by which they do.
     pub fn backward<N: Number>(&self, weighed: &mut [N]) {
-        self.take_bare(weighed);
         for step in self.steps.iter().rev() {
-            let own = at(weighed, step.line as usize, N::of(0));
+            let line = step.place as usize;
+            let own = number_at(weighed, line);
             if !own.is_zero() {
-                let part = own.times(N::of(step.own));
-                put(weighed, step.line as usize, part);
-                take_units(self.crossings_of(step.line), part, weighed);
+                let part = own.times(N::of(step.number));
+                put(weighed, line, part);
+                add_units(self.crossings.of(line), N::of(0).minus(part), weighed);
             }
         }
     }
+}
 
-    // Takes what the lines without a step weigh.
-    fn take_bare<N: Number>(&self, weighed: &mut [N]) {
-        for line in &self.bare {
-            let own = at(weighed, *line as usize, N::of(0));
-            if !own.is_zero() {
-                take_units(self.crossings_of(*line), own, weighed);
-            }
+// Puts the units of a column in other lines than its own behind those of others, as one more list.
+fn push_others(column: &[Unit], line: u32, others: &mut Units) -> Result<(), NoMemory> {
+    for unit in column {
+        if unit.place != line {
+            others.push(*unit)?;
         }
     }
-
-    #[inline(always)]
-    fn crossings_of(&self, line: u32) -> &[Unit] {
-        items_of(&self.crossing_ends, &self.crossings, line as usize)
-    }
-}
-
-// The other numbers of a step's column.
-#[inline(always)]
-fn others_of(step: Step, others: &[Unit]) -> &[Unit] {
-    let begin = step.begin as usize;
-    let end = step.end as usize;
-    if begin <= end && end <= others.len() {
-        &others[begin..end]
-    } else {
-        &[]
-    }
-}
-
-// Lays the other numbers of a step's column behind those that their lines have so far.
-fn lay_crossings(step: Step, others: &[Unit], ends: &mut [u32], crossings: &mut [Unit]) {
-    for unit in others {
-        let line = unit.line as usize;
-        let end = at(ends, line, 0);
-        let crossing = Unit {
-            line: step.line,
-            number: unit.number,
-        };
-        put(crossings, end as usize, crossing);
-        put(ends, line, end.wrapping_add(1));
-    }
+    others.end()
 }
 
 /// Takes a column, so many times, from a sum over lines.
 #[inline(always)]
 pub fn take_column<N: Number>(columns: &Columns, column: u32, times: N, sums: &mut [N]) {
-    take_units(columns.of(column as usize), times, sums);
+    add_units(columns.of(column as usize), N::of(0).minus(times), sums);
 }
 
+/// Adds units, so many times, to numbers by their places.
 #[inline(always)]
-fn take_units<N: Number>(units: &[Unit], times: N, sums: &mut [N]) {
+pub fn add_units<N: Number>(units: &[Unit], times: N, sums: &mut [N]) {
     for unit in units {
-        let line = unit.line as usize;
-        let sum = at(sums, line, N::of(0));
-        put(sums, line, sum.minus(times.times(N::of(unit.number))));
+        let place = unit.place as usize;
+        let more = times.times(N::of(unit.number));
+        put(sums, place, number_at(sums, place).plus(more));
     }
 }
 
@@ -248,7 +183,7 @@ fn take_units<N: Number>(units: &[Unit], times: N, sums: &mut [N]) {
 pub fn weighed<N: Number>(columns: &Columns, column: usize, multipliers: &[N]) -> N {
     let mut sum = N::of(0);
     for unit in columns.of(column) {
-        let multiplier = at(multipliers, unit.line as usize, N::of(0));
+        let multiplier = number_at(multipliers, unit.place as usize);
         sum = sum.plus(multiplier.times(N::of(unit.number)));
     }
     sum

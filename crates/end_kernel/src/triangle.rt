@@ -1,6 +1,7 @@
-use crate::columns::{Columns, Entry};
-use crate::lists::{at, filled, put};
+use crate::columns::Columns;
+use crate::lists::{at, put};
 use crate::start::Place;
+use crate::units::Unit;
 use entries::NoMemory;
 use std::alloc::Global;
 
@@ -13,13 +14,14 @@ pub fn triangular_places(
     basic: &[bool],
     lacking: &[bool],
 ) -> Result<Vec<Place>, NoMemory> {
-    let mut peeling = Peeling::new(alloc, columns, basic, lacking)?;
-    peeling.place_single(columns)?;
-    for line in 0..columns.line_count() {
-        peeling.leave_one(columns, line)?;
-        peeling.place_single(columns)?;
-    }
-    Ok(peeling.into_places())
+    let mut peeling = Peeling {
+        left: Vec::from_slice(alloc, basic)?,
+        counts: Vec::new(alloc),
+        single: Vec::new(alloc),
+        places: Vec::new(alloc),
+    };
+    peeling.peel(columns, lacking)?;
+    Ok(peeling.places)
 }
 
 // Columns that are neither placed nor passed over.
@@ -34,32 +36,30 @@ struct Peeling {
 }
 
 impl Peeling {
-    fn new(
-        alloc: Global,
-        columns: &Columns,
-        basic: &[bool],
-        lacking: &[bool],
-    ) -> Result<Peeling, NoMemory> {
-        let mut peeling = Peeling {
-            left: Vec::from_slice(alloc, basic)?,
-            counts: filled(alloc, 0, columns.line_count())?,
-            single: Vec::new(alloc),
-            places: Vec::new(alloc),
-        };
+    // Places columns or passes over them until none is left in a line that lacks nothing.
+    fn peel(&mut self, columns: &Columns, lacking: &[bool]) -> Result<(), NoMemory> {
+        self.count(columns, lacking)?;
         for line in 0..columns.line_count() {
-            if !at(lacking, line, false) {
-                let count = count_left(columns.across(line), &peeling.left);
-                put(peeling.counts.as_mut_slice(), line, count);
-                if count == 1 {
-                    peeling.single.push((line & 0xffff_ffff) as u32)?;
-                }
-            }
+            self.place_single(columns)?;
+            self.leave_one(columns, line)?;
         }
-        Ok(peeling)
+        self.place_single(columns)
     }
 
-    fn into_places(self) -> Vec<Place> {
-        self.places
+    // Counts the columns in each line that lacks nothing.
+    fn count(&mut self, columns: &Columns, lacking: &[bool]) -> Result<(), NoMemory> {
+        for line in 0..columns.line_count() {
+            let count = if at(lacking, line, false) {
+                0
+            } else {
+                count_left(columns.across(line), &self.left)
+            };
+            self.counts.push(count)?;
+            if count == 1 {
+                self.single.push((line & 0xffff_ffff) as u32)?;
+            }
+        }
+        Ok(())
     }
 
     // Places columns as long as one is alone in a line.
@@ -75,15 +75,13 @@ impl Peeling {
 
     // Places the column that is left in a line, if its number lets it, and else passes over it.
     fn place_in(&mut self, columns: &Columns, line: u32) -> Result<(), NoMemory> {
-        for entry in columns.across(line as usize) {
-            if at(&self.left, entry.column as usize, false) {
-                if entry.number == 1 || entry.number == -1 {
-                    self.places.push(Place {
-                        line,
-                        column: entry.column,
-                    })?;
+        for unit in columns.across(line as usize) {
+            let column = unit.place;
+            if at(&self.left, column as usize, false) {
+                if unit.number == 1 || unit.number == -1 {
+                    self.places.push(Place { line, column })?;
                 }
-                return self.remove(columns, entry.column);
+                return self.remove(columns, column);
             }
         }
         Ok(())
@@ -91,12 +89,9 @@ impl Peeling {
 
     // Passes over columns until one is left in a line.
     fn leave_one(&mut self, columns: &Columns, line: usize) -> Result<(), NoMemory> {
-        for entry in columns.across(line) {
-            if at(&self.counts, line, 0) < 2 {
-                return Ok(());
-            }
-            if at(&self.left, entry.column as usize, false) {
-                self.remove(columns, entry.column)?;
+        for unit in columns.across(line) {
+            if at(&self.counts, line, 0) > 1 && at(&self.left, unit.place as usize, false) {
+                self.remove(columns, unit.place)?;
             }
         }
         Ok(())
@@ -104,24 +99,31 @@ impl Peeling {
 
     // Takes a column from those that are left, and notes lines in which one is left then.
     fn remove(&mut self, columns: &Columns, column: u32) -> Result<(), NoMemory> {
-        put(self.left.as_mut_slice(), column as usize, false);
-        for unit in columns.of(column as usize) {
-            let line = unit.line as usize;
-            let count = at(&self.counts, line, 0);
-            put(self.counts.as_mut_slice(), line, count.saturating_sub(1));
-            if count == 2 {
-                self.single.push(unit.line)?;
-            }
-        }
-        Ok(())
+        let place = column as usize;
+        put(self.left.as_mut_slice(), place, false);
+        let counts = self.counts.as_mut_slice();
+        take_one(columns.of(place), counts, &mut self.single)
     }
 }
 
-// How many entries are of columns that are left.
-fn count_left(entries: &[Entry], left: &[bool]) -> u32 {
+// Takes one from the count of each line of a column, and notes the lines in which one is left then.
+fn take_one(units: &[Unit], counts: &mut [u32], single: &mut Vec<u32>) -> Result<(), NoMemory> {
+    for unit in units {
+        let line = unit.place as usize;
+        let count = at(counts, line, 0);
+        put(counts, line, count.saturating_sub(1));
+        if count == 2 {
+            single.push(unit.place)?;
+        }
+    }
+    Ok(())
+}
+
+// How many units are of columns that are left.
+fn count_left(units: &[Unit], left: &[bool]) -> u32 {
     let mut count = 0u32;
-    for entry in entries {
-        count = count.wrapping_add(u32::from(at(left, entry.column as usize, false)));
+    for unit in units {
+        count = count.wrapping_add(u32::from(at(left, unit.place as usize, false)));
     }
     count
 }

@@ -2,7 +2,8 @@ use crate::frame::Frame;
 use crate::pivot_row::PivotRow;
 use end_kernel::start::weighed;
 use end_kernel::{
-    Columns, Divider, NONE, Number, Part, Start, at, common_divisor, filled, odd_part, put,
+    Columns, Divider, NONE, Number, Part, Start, at, common_divisor, filled, number_at, odd_part,
+    put,
 };
 use entries::NoMemory;
 use std::alloc::Global;
@@ -10,12 +11,13 @@ use std::alloc::Global;
 // Where a cost number has no more bits, nothing is outgrown in the start.
 const MOST_COST_BITS: u32 = 90;
 
-/// What each real column costs above what the basis weighs, and how the slots' lines weigh more than at the start, over one
-/// denominator.
+/// What each real column costs above what the basis weighs, and behind these, how the slots' lines weigh more than at the
+/// start, over one denominator.
 #[derive(Drop)]
 pub struct Costs {
-    pub columns: Vec<i128>,
-    pub slots: Vec<i128>,
+    pub numbers: Vec<i128>,
+    /// How many real columns there are.
+    columns: usize,
     pub den: i128,
     /// A number with as many bits as the greatest size, or more.
     sizes: i128,
@@ -31,15 +33,16 @@ pub struct CostStep {
 impl Costs {
     /// Those of the start, where none is below 0.
     pub fn new(alloc: Global, frame: &Frame, costs: &[i128]) -> Result<Option<Costs>, NoMemory> {
+        let columns = frame.columns.count();
         let mut lines = first_costs(alloc, &frame.start, costs, frame.columns.line_count(), 1)?;
         frame.start.backward(lines.as_mut_slice());
-        let mut columns = filled(alloc, 0, frame.columns.count())?;
-        let fits = lay_costs(&frame.columns, costs, &lines, columns.as_mut_slice());
+        let mut numbers = filled(alloc, 0, columns)?;
+        let fits = lay_costs(&frame.columns, costs, &lines, numbers.as_mut_slice());
+        let sizes = sizes_of(&numbers).either(1);
         Ok(if fits {
-            let sizes = sizes_of(&columns).either(1);
             Some(Costs {
+                numbers,
                 columns,
-                slots: Vec::new(alloc),
                 den: 1,
                 sizes,
             })
@@ -48,16 +51,21 @@ impl Costs {
         })
     }
 
+    /// What a slot's line weighs more than at the start.
+    pub fn of_slot(&self, slot: usize) -> i128 {
+        number_at(&self.numbers, self.columns.wrapping_add(slot))
+    }
+
     /// What the pivot on a column of a row does to the costs, where it fits.
     pub fn step<N: Number>(&self, row: &PivotRow<N>, entering: u32) -> Option<CostStep> {
-        let cost = at(&self.columns, entering as usize, 0);
-        let size = at(&row.columns, entering as usize, N::of(1)).size().wide();
+        let cost = number_at(&self.numbers, entering as usize);
+        let size = row.size_in(entering).wide();
         let divisor = common_divisor(cost, size);
         let step = CostStep {
             factor: size.over(divisor),
             times: cost.over(divisor),
         };
-        let others = sizes_met(row).either(row.sizes.wide());
+        let others = sizes_met(row).either(row.taken.sizes.wide());
         let grown = self.sizes.bits().wrapping_add(step.factor.bits());
         let added = others.bits().wrapping_add(step.times.bits());
         if grown > 125 || added > 125 {
@@ -67,59 +75,57 @@ impl Costs {
         }
     }
 
-    /// Makes the step, and brings the costs to lowest terms.
-    pub fn change<N: Number>(&mut self, row: &PivotRow<N>, step: CostStep) {
+    /// Makes room for so many slots, makes the step, and brings the costs to lowest terms.
+    pub fn change<N: Number>(
+        &mut self,
+        row: &PivotRow<N>,
+        step: CostStep,
+        slots: usize,
+    ) -> Result<(), NoMemory> {
+        self.numbers.resize(self.columns.wrapping_add(slots), 0)?;
         if step.times == 0 {
-            return;
+            return Ok(());
         }
+        let numbers = self.numbers.as_mut_slice();
         if step.factor != 1 {
-            multiply(self.columns.as_mut_slice(), step.factor);
-            multiply(self.slots.as_mut_slice(), step.factor);
+            multiply(numbers, step.factor);
             self.den = self.den.wrapping_mul(step.factor);
         }
-        let met = add_numbers(self.columns.as_mut_slice(), row, step.times);
-        let parts = take_parts(self.slots.as_mut_slice(), &row.parts, step.times);
+        let met = add_numbers(numbers, row, step.times);
+        let parts = take_parts(numbers, self.columns, &row.taken.parts, step.times);
         self.sizes = self.sizes.either(met).either(parts);
         self.reduce();
-    }
-
-    /// Makes room for as many slots.
-    pub fn open_slots(&mut self, count: usize) -> Result<(), NoMemory> {
-        self.slots.resize(count, 0)?;
         Ok(())
     }
 
     /// Lays what the slots' lines weigh, where none of them has a first column.
     pub fn lay_slots(&mut self, lines: &[u32], weighed: &[i128]) -> Result<(), NoMemory> {
-        self.slots.clear();
+        self.numbers.truncate(self.columns);
         for line in lines {
-            let slot: i128 = at(weighed, *line as usize, 0);
+            let slot = number_at(weighed, *line as usize);
             self.sizes = self.sizes.either(slot.size());
-            self.slots.push(slot)?;
+            self.numbers.push(slot)?;
         }
         Ok(())
     }
 
     /// Lets a slot go.
     pub fn close_slot(&mut self, slot: u32) {
-        put(self.slots.as_mut_slice(), slot as usize, 0);
+        let place = self.columns.wrapping_add(slot as usize);
+        put(self.numbers.as_mut_slice(), place, 0);
     }
 
     fn reduce(&mut self) {
         if self.den == 1 {
             return;
         }
-        let sizes = sizes_of(&self.columns)
-            .either(sizes_of(&self.slots))
-            .either(self.den);
-        let twos = sizes.lowest_bit();
-        let odd = shared(&self.slots, shared(&self.columns, odd_part(self.den)));
+        self.sizes = sizes_of(&self.numbers).either(self.den);
+        let twos = self.sizes.lowest_bit();
+        let odd = shared(&self.numbers, odd_part(self.den));
         let divisor = twos.wrapping_mul(odd);
-        self.sizes = sizes;
         if divisor != 1 {
-            self.sizes = sizes.over(divisor).wrapping_mul(2);
-            divide(self.columns.as_mut_slice(), twos, odd);
-            divide(self.slots.as_mut_slice(), twos, odd);
+            self.sizes = self.sizes.over(divisor).wrapping_mul(2);
+            divide(self.numbers.as_mut_slice(), twos, odd);
             self.den = self.den.over(divisor);
         }
     }
@@ -164,19 +170,19 @@ fn lay_costs(columns: &Columns, costs: &[i128], lines: &[i128], above: &mut [i12
     true
 }
 
-fn sizes_of<N: Number>(numbers: &[N]) -> i128 {
-    let mut sizes = N::of(0);
+fn sizes_of(numbers: &[i128]) -> i128 {
+    let mut sizes = 0i128;
     for number in numbers {
-        sizes = sizes.either(number.size());
+        sizes |= number.size();
     }
-    sizes.wide()
+    sizes
 }
 
 // All bits that one of a row's sizes in columns has.
 fn sizes_met<N: Number>(row: &PivotRow<N>) -> i128 {
     let mut sizes = N::of(0);
     for column in &row.met {
-        sizes = sizes.either(at(&row.columns, *column as usize, N::of(0)).size());
+        sizes = sizes.either(row.size_in(*column));
     }
     sizes.wide()
 }
@@ -189,15 +195,15 @@ fn shared(numbers: &[i128], divisor: i128) -> i128 {
             return divider.divisor();
         }
         if *number != 0 {
-            divider = divider.with(*number);
+            divider.meet(*number);
         }
     }
     divider.divisor()
 }
 
 fn multiply(numbers: &mut [i128], factor: i128) {
-    for place in 0..numbers.len() {
-        numbers[place] = numbers[place].wrapping_mul(factor);
+    for number in numbers.iter_mut() {
+        *number = number.wrapping_mul(factor);
     }
 }
 
@@ -205,8 +211,8 @@ fn multiply(numbers: &mut [i128], factor: i128) {
 fn divide(numbers: &mut [i128], twos: i128, odd: i128) {
     let bits = twos.bits().wrapping_sub(1);
     let inverse = odd.inverse();
-    for place in 0..numbers.len() {
-        numbers[place] = numbers[place].shifted(bits).times(inverse);
+    for number in numbers.iter_mut() {
+        *number = number.shifted(bits).times(inverse);
     }
 }
 
@@ -215,22 +221,27 @@ fn add_numbers<N: Number>(numbers: &mut [i128], row: &PivotRow<N>, times: i128) 
     let mut sizes = 0i128;
     for column in &row.met {
         let place = *column as usize;
-        let more = at(&row.columns, place, N::of(0)).wide();
-        let number = at(numbers, place, 0).wrapping_add(more.wrapping_mul(times));
-        sizes = sizes.either(number.size());
+        let more = number_at(&row.columns, place).wide();
+        let number = number_at(numbers, place).wrapping_add(more.wrapping_mul(times));
+        sizes |= number.size();
         put(numbers, place, number);
     }
     sizes
 }
 
-// Takes the parts of a row, so many times, and answers all bits of the sizes that come of it.
-fn take_parts<N: Number>(numbers: &mut [i128], parts: &[Part<N>], times: i128) -> i128 {
+// Takes the parts of a row, so many times, from the numbers behind so many, and answers all bits of the sizes that come of it.
+fn take_parts<N: Number>(
+    numbers: &mut [i128],
+    columns: usize,
+    parts: &[Part<N>],
+    times: i128,
+) -> i128 {
     let mut sizes = 0i128;
     for part in parts {
-        let place = part.slot as usize;
+        let place = columns.wrapping_add(part.slot as usize);
         let less = part.number.wide().wrapping_mul(times);
-        let number = at(numbers, place, 0).wrapping_sub(less);
-        sizes = sizes.either(number.size());
+        let number = number_at(numbers, place).wrapping_sub(less);
+        sizes |= number.size();
         put(numbers, place, number);
     }
     sizes

@@ -1,6 +1,6 @@
 use crate::costs::Costs;
 use crate::pivot_row::PivotRow;
-use end_kernel::{Number, at};
+use end_kernel::{Number, number_at};
 
 /// What a row says of the column that may enter.
 #[derive(Clone, Copy)]
@@ -27,11 +27,11 @@ pub fn entering<N: Number>(row: &PivotRow<N>, costs: &Costs) -> Choice {
     let mut best: Option<Candidate> = None;
     for column in &row.met {
         let place = *column as usize;
-        let number = at(&row.columns, place, N::of(0));
+        let number = number_at(&row.columns, place);
         if number.is_below_0() {
             let next = Candidate {
                 column: *column,
-                cost: at(&costs.columns, place, 0),
+                cost: number_at(&costs.numbers, place),
                 size: number.size().wide(),
             };
             match better(best, next) {

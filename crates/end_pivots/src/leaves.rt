@@ -20,33 +20,31 @@ pub fn leaving<N: Number>(
     values: &Values<N>,
     weights: &Weights,
 ) -> Option<Leaving> {
-    let mut best = None;
-    for place in 0..kernel.rows.len() {
-        let row = &kernel.rows[place];
-        if row.own.is_below_0() {
-            let next = rated(
-                Leaving::Row(place),
-                distance(row.own, row.den),
-                i128::from(row.weight),
-            );
-            best = better(best, next);
-        }
-    }
+    let mut best = best_row(kernel);
     let numbers = values.numbers.as_slice();
     for place in 0..numbers.len() {
         let line = (place & 0xffff_ffff) as u32;
         let own = numbers[place];
         if is_out(frame, line, own) && kernel.slot_of(line) == NONE {
-            let next = rated(
-                Leaving::Line(line),
-                distance(own, values.scale),
-                i128::from(weights.of(line)),
-            );
-            best = better(best, next);
+            let far = distance(own, values.scale);
+            best = better(best, Leaving::Line(line), far, weights.of(line));
         }
     }
     let best: Candidate = best?;
     Some(best.leaving)
+}
+
+// The best one of the rows.
+fn best_row<N: Number>(kernel: &Kernel<N>) -> Option<Candidate> {
+    let mut best = None;
+    for place in 0..kernel.rows.len() {
+        let row = &kernel.rows[place];
+        if row.own.is_below_0() {
+            let far = distance(row.own, row.den);
+            best = better(best, Leaving::Row(place), far, row.weight);
+        }
+    }
+    best
 }
 
 // Whether what stands in a line since the start isn't what it may be.
@@ -55,15 +53,18 @@ fn is_out<N: Number>(frame: &Frame, line: u32, own: N) -> bool {
     own.is_below_0() || !own.is_zero() && frame.start.column_of(line) == NONE
 }
 
-fn rated(leaving: Leaving, distance: i128, weight: i128) -> Candidate {
-    Candidate {
+// The better one of the best so far, and of somebody else by how far that is from what it may be, and the weight of its row.
+fn better(
+    best: Option<Candidate>,
+    leaving: Leaving,
+    distance: i128,
+    weight: i64,
+) -> Option<Candidate> {
+    let next = Candidate {
         leaving,
         square: distance.wrapping_mul(distance),
-        weight,
-    }
-}
-
-fn better(best: Option<Candidate>, next: Candidate) -> Option<Candidate> {
+        weight: i128::from(weight),
+    };
     let Some(other) = best else {
         return Some(next);
     };

@@ -19,6 +19,5 @@ pub use frame::{Frame, Leaving};
 pub use leaves::leaving;
 pub use pivot_column::PivotColumn;
 pub use pivot_row::PivotRow;
-pub use trial::Trial;
 pub use values::Values;
 pub use weights::Weights;

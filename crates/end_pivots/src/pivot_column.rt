@@ -1,40 +1,50 @@
 use crate::frame::Frame;
 use crate::pivot_row::PivotRow;
-use end_kernel::lists::fill;
-use end_kernel::number::common_scale;
 use end_kernel::start::take_column;
-use end_kernel::{Kernel, Number, Sides, at, common_divisor, filled};
+use end_kernel::{
+    Kernel, Number, Row, at, common_divisor, common_scale, number_at, product_fits, reset,
+};
 use entries::NoMemory;
 use std::alloc::Global;
 
 /// The column that enters, in the rows of the kernel.
 #[derive(Drop)]
 pub struct PivotColumn<N> {
-    pub entering: u32,
     /// The size of its number in the pivot row.
     pub size: N,
-    /// Its number in each row, times the row's denominator.
-    pub products: Vec<N>,
-    /// What each row comes to in a sum over lines beside it, times the row's denominator.
-    pub crossings: Vec<N>,
+    /// Its number in each row, and what the row comes to in a sum over lines beside it, both times the row's denominator.
+    rows: Vec<(N, N)>,
     /// Its numbers in the slots as the start has them, beside those of the other sum.
-    slots: Vec<Sides<N>>,
+    slots: Vec<(N, N)>,
     sums: Vec<N>,
     /// Its numbers in the lines, over a scale.
     pub lines: Vec<N>,
+    /// The scale, where they fit.
+    pub scale: Option<N>,
 }
 
 impl<N: Number> PivotColumn<N> {
-    pub fn new(alloc: Global, frame: &Frame) -> Result<PivotColumn<N>, NoMemory> {
-        Ok(PivotColumn {
-            entering: 0,
+    pub fn new(alloc: Global) -> PivotColumn<N> {
+        PivotColumn {
             size: N::of(1),
-            products: Vec::new(alloc),
-            crossings: Vec::new(alloc),
+            rows: Vec::new(alloc),
             slots: Vec::new(alloc),
-            sums: filled(alloc, N::of(0), frame.columns.line_count())?,
-            lines: filled(alloc, N::of(0), frame.columns.line_count())?,
-        })
+            sums: Vec::new(alloc),
+            lines: Vec::new(alloc),
+            scale: None,
+        }
+    }
+
+    /// Its number in a row, times the row's denominator.
+    #[inline(always)]
+    pub fn product(&self, row: usize) -> N {
+        self.crossed(row).0
+    }
+
+    /// Its number in a row, and what the row comes to in the other sum, both times the row's denominator.
+    #[inline(always)]
+    pub fn crossed(&self, row: usize) -> (N, N) {
+        at(&self.rows, row, (N::of(0), N::of(0)))
     }
 
     /// Takes a column, and answers whether its products fit. What the start leaves of another sum is for the crossings.
@@ -46,37 +56,24 @@ impl<N: Number> PivotColumn<N> {
         beside: &[i64],
         entering: u32,
     ) -> Result<bool, NoMemory> {
-        self.entering = entering;
-        self.size = at(&row.columns, entering as usize, N::of(1)).size();
-        fill(self.sums.as_mut_slice(), N::of(0));
-        take_column(
-            &frame.columns,
-            entering,
-            N::of(-1),
-            self.sums.as_mut_slice(),
-        );
-        frame.start.forward(self.sums.as_mut_slice());
+        self.size = row.size_in(entering);
+        reset(&mut self.lines, frame.columns.line_count(), N::of(0))?;
+        reset(&mut self.sums, frame.columns.line_count(), N::of(0))?;
+        let sums = self.sums.as_mut_slice();
+        take_column(&frame.columns, entering, N::of(-1), sums);
+        frame.start.forward(sums);
         let sizes = self.gather(kernel, beside)?;
         self.cross(kernel, sizes)
     }
 
     // Lays what each row comes to in the column and in the other sum, where sizes in the slots are these, and answers whether all fit.
     fn cross(&mut self, kernel: &Kernel<N>, sizes: N) -> Result<bool, NoMemory> {
-        self.products.clear();
-        self.crossings.clear();
-        for other in &kernel.rows {
-            if other
-                .sizes
-                .bits()
-                .wrapping_add(sizes.bits())
-                .wrapping_add(10)
-                > N::room()
-            {
+        self.rows.clear();
+        for row in &kernel.rows {
+            if !product_fits(row.sizes, sizes, 10) {
                 return Ok(false);
             }
-            let sums = other.across(&self.slots);
-            self.products.push(sums.column)?;
-            self.crossings.push(sums.other)?;
+            self.rows.push(row.across(&self.slots))?;
         }
         Ok(true)
     }
@@ -85,51 +82,47 @@ impl<N: Number> PivotColumn<N> {
     fn gather(&mut self, kernel: &Kernel<N>, beside: &[i64]) -> Result<N, NoMemory> {
         self.slots.clear();
         let mut sizes = N::of(0);
-        for slot in 0..kernel.lines.len() {
-            let line = kernel.lines[slot] as usize;
-            let column = at(&self.sums, line, N::of(0));
+        for line in &kernel.lines {
+            let place = *line as usize;
+            let column = number_at(&self.sums, place);
             sizes = sizes.either(column.size());
-            let other = N::narrowed(i128::from(at(beside, line, 0)));
-            self.slots.push(Sides { column, other })?;
+            let other = N::narrowed(i128::from(at(beside, place, 0)));
+            self.slots.push((column, other))?;
         }
         Ok(sizes)
     }
 
-    /// Lays its numbers in the lines, and answers their scale, where they fit.
+    /// Lays its numbers in the lines, once after it was taken, and answers their scale, where they fit.
     pub fn lay_lines(&mut self, frame: &Frame, kernel: &Kernel<N>) -> Option<N> {
-        let scale = self.scale(kernel)?;
-        fill(self.lines.as_mut_slice(), N::of(0));
-        if !self.take_rows(frame, kernel, scale) {
-            return None;
+        self.scale = None;
+        let scale = self.row_scale(kernel)?;
+        if self.take_rows(frame, kernel, scale) {
+            let lines = self.lines.as_mut_slice();
+            frame.start.forward(lines);
+            add_times(lines, &self.sums, scale);
+            self.scale = Some(scale);
         }
-        frame.start.forward(self.lines.as_mut_slice());
-        add_times(self.lines.as_mut_slice(), &self.sums, scale);
-        Some(scale)
+        self.scale
     }
 
     // Takes the columns of the rows that the column meets, each so many times, and answers whether all fit.
     fn take_rows(&mut self, frame: &Frame, kernel: &Kernel<N>, scale: N) -> bool {
-        let lines = self.lines.as_mut_slice();
         for place in 0..kernel.rows.len() {
-            let product = at(&self.products, place, N::of(0));
-            if !product.is_zero() {
-                let row = &kernel.rows[place];
-                let factor = scale.over(row.den);
-                if product.bits().wrapping_add(factor.bits()).wrapping_add(20) > N::room() {
-                    return false;
-                }
-                take_column(&frame.columns, row.column, product.times(factor), lines);
+            let product = self.product(place);
+            let lines = self.lines.as_mut_slice();
+            if !take_row(frame, &kernel.rows[place], product, scale, lines) {
+                return false;
             }
         }
         true
     }
 
     // A scale of the rows that the column meets.
-    fn scale(&self, kernel: &Kernel<N>) -> Option<N> {
+    fn row_scale(&self, kernel: &Kernel<N>) -> Option<N> {
         let mut scale = N::of(1);
         for place in 0..kernel.rows.len() {
-            if !at(&self.products, place, N::of(0)).is_zero() {
-                scale = common_scale(scale, kernel.rows[place].den, N::room() / 3 * 2)?;
+            if !self.product(place).is_zero() {
+                scale = common_scale(scale, kernel.rows[place].den)?;
             }
         }
         Some(scale)
@@ -138,18 +131,13 @@ impl<N: Number> PivotColumn<N> {
     /// Whether each row fits once it is changed.
     pub fn fits(&self, kernel: &Kernel<N>, pivot: &PivotRow<N>) -> bool {
         for place in 0..kernel.rows.len() {
-            let product = at(&self.products, place, N::of(0));
+            let product = self.product(place);
             if !product.is_zero() {
                 let divisor = common_divisor(product, self.size);
-                let grown = kernel.rows[place]
-                    .sizes
-                    .bits()
-                    .wrapping_add(self.size.over(divisor).bits());
-                let added = pivot
-                    .sizes
-                    .bits()
-                    .wrapping_add(product.over(divisor).bits());
-                if grown > N::room() || added > N::room() {
+                let sizes = kernel.rows[place].sizes;
+                if !product_fits(sizes, self.size.over(divisor), 0)
+                    || !product_fits(pivot.taken.sizes, product.over(divisor), 0)
+                {
                     return false;
                 }
             }
@@ -158,9 +146,29 @@ impl<N: Number> PivotColumn<N> {
     }
 }
 
+/// Takes the column of a row, as many times as a number of the row says over a scale, from a sum over lines. Answers whether it fits.
+#[inline(always)]
+pub fn take_row<N: Number>(
+    frame: &Frame,
+    row: &Row<N>,
+    number: N,
+    scale: N,
+    lines: &mut [N],
+) -> bool {
+    if number.is_zero() {
+        return true;
+    }
+    let factor = scale.over(row.den);
+    if !product_fits(number, factor, 20) {
+        return false;
+    }
+    take_column(&frame.columns, row.column, number.times(factor), lines);
+    true
+}
+
 fn add_times<N: Number>(numbers: &mut [N], others: &[N], times: N) {
     for place in 0..numbers.len() {
-        let other = at(others, place, N::of(0));
+        let other = number_at(others, place);
         if !other.is_zero() {
             numbers[place] = numbers[place].plus(other.times(times));
         }

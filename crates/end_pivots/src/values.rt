@@ -1,9 +1,9 @@
 use crate::frame::Frame;
-use crate::pivot_column::PivotColumn;
-use end_kernel::lists::fill;
-use end_kernel::number::common_scale;
+use crate::pivot_column::{PivotColumn, take_row};
 use end_kernel::start::take_column;
-use end_kernel::{Kernel, Number, at, common_divisor, filled};
+use end_kernel::{
+    Kernel, Number, common_divisor, common_scale, fill, filled, number_at, product_fits, put,
+};
 use entries::NoMemory;
 use std::alloc::Global;
 
@@ -35,20 +35,23 @@ impl<N: Number> Values<N> {
         self.are_known = false;
     }
 
-    /// Brings the values to what they are after a pivot, whose column has its numbers in the lines over a scale. Where they aren't whole
-    /// over the same scale as before, or a number is large, they are to be reckoned anew.
-    pub fn advance(&mut self, kernel: &Kernel<N>, own: N, column: &PivotColumn<N>, scale: N) {
-        self.are_known = self.are_known && self.advanced(kernel, own, column, scale);
+    /// Brings the values to what they are after a pivot. Where they aren't whole over the same scale as before, or a number is large, they
+    /// are to be reckoned anew.
+    pub fn advance(&mut self, kernel: &Kernel<N>, own: N, column: &PivotColumn<N>) {
+        self.are_known = self.are_known && self.advanced(kernel, own, column);
     }
 
-    fn advanced(&mut self, kernel: &Kernel<N>, own: N, column: &PivotColumn<N>, scale: N) -> bool {
-        let most = N::room() / 2;
+    fn advanced(&mut self, kernel: &Kernel<N>, own: N, column: &PivotColumn<N>) -> bool {
+        let half = N::room() / 2;
+        let Some(scale) = column.scale else {
+            return false;
+        };
         let Some(new) = scale_of(kernel) else {
             return false;
         };
         if !new.minus(self.scale).is_zero()
-            || own.bits().wrapping_add(self.scale.bits()) > most
-            || column.size.bits().wrapping_add(scale.bits()) > most
+            || !product_fits(own, self.scale, half)
+            || !product_fits(column.size, scale, half)
         {
             return false;
         }
@@ -62,12 +65,12 @@ impl<N: Number> Values<N> {
     fn take_times(&mut self, lines: &[N], times: N, den: N) -> bool {
         let numbers = self.numbers.as_mut_slice();
         for place in 0..numbers.len() {
-            let line = at(lines, place, N::of(0));
+            let line = number_at(lines, place);
             if !line.is_zero() {
                 let Some(less) = whole_part(line, times, den) else {
                     return false;
                 };
-                numbers[place] = numbers[place].minus(less);
+                put(numbers, place, number_at(numbers, place).minus(less));
             }
         }
         true
@@ -84,12 +87,8 @@ impl<N: Number> Values<N> {
         let right = (frame.columns.count() & 0xffff_ffff) as u32;
         take_column(&frame.columns, right, N::of(0).minus(scale), numbers);
         for row in &kernel.rows {
-            if !row.own.is_zero() {
-                let factor = scale.over(row.den);
-                if row.own.bits().wrapping_add(factor.bits()).wrapping_add(20) > N::room() {
-                    return false;
-                }
-                take_column(&frame.columns, row.column, row.own.times(factor), numbers);
+            if !take_row(frame, row, row.own, scale, numbers) {
+                return false;
             }
         }
         frame.start.forward(numbers);
@@ -120,7 +119,7 @@ impl<N: Number> Values<N> {
 // A number so many times over a denominator, where that is whole and fits.
 #[inline(always)]
 fn whole_part<N: Number>(number: N, times: N, den: N) -> Option<N> {
-    if number.bits().wrapping_add(times.bits()) > N::room() {
+    if !product_fits(number, times, 0) {
         return None;
     }
     let product = number.times(times);
@@ -140,7 +139,7 @@ fn scale_of<N: Number>(kernel: &Kernel<N>) -> Option<N> {
     let mut scale = N::of(1);
     for row in &kernel.rows {
         if !row.own.is_zero() {
-            scale = common_scale(scale, row.den, N::room() / 3 * 2)?;
+            scale = common_scale(scale, row.den)?;
         }
     }
     Some(scale)

@@ -2,9 +2,8 @@ use crate::frame::Frame;
 use crate::pivot_column::PivotColumn;
 use crate::pivot_row::PivotRow;
 use crate::pricing::{LEAST_WEIGHT, MOST_WEIGHT, PART_BITS, WHOLE, quotient};
-use end_kernel::lists::fill;
 use end_kernel::start::take_column;
-use end_kernel::{Kernel, NONE, Number, Row, at, filled, put};
+use end_kernel::{Kernel, NONE, Number, Row, at, fill, filled, number_at, put};
 use entries::NoMemory;
 use std::alloc::Global;
 
@@ -17,7 +16,7 @@ const MOST_NUMBER: i128 = 1 << 50;
 pub struct Weights {
     lines: Vec<i64>,
     /// What the start leaves of the row that enters, as multipliers of the lines, in parts.
-    crosses: Vec<i64>,
+    pub crosses: Vec<i64>,
     /// What the rows of the kernel take from that.
     more: Vec<i64>,
     /// The weight of the row that enters.
@@ -44,11 +43,6 @@ impl Weights {
         i64::narrowed(self.entered)
     }
 
-    /// What the start leaves of the row that enters.
-    pub fn crosses(&self) -> &[i64] {
-        &self.crosses
-    }
-
     /// Lays the weight of a line whose first column comes back.
     pub fn lay(&mut self, line: u32, weight: i64) {
         put(self.lines.as_mut_slice(), line as usize, weight);
@@ -56,9 +50,9 @@ impl Weights {
 
     /// Takes the row of a column that enters, which is the pivot row over its number there.
     pub fn take<N: Number>(&mut self, frame: &Frame, row: &PivotRow<N>, entering: u32) {
-        let size = at(&row.columns, entering as usize, N::of(1)).size();
-        self.entered = lay_row(self.crosses.as_mut_slice(), &row.lines, size.wide());
-        frame.start.forward(self.crosses.as_mut_slice());
+        let crosses = self.crosses.as_mut_slice();
+        self.entered = lay_row(crosses, &row.lines, row.size_in(entering).wide());
+        frame.start.forward(crosses);
     }
 
     /// Brings all weights to what they are after the pivot, where the column's numbers in the lines have a scale.
@@ -84,14 +78,13 @@ impl Weights {
     ) {
         let rows = kernel.rows.as_mut_slice();
         for place in 0..rows.len() {
-            let crossing = at(&column.crossings, place, N::of(0));
-            let product = at(&column.products, place, N::of(0));
-            self.change_row(frame, &mut rows[place], crossing, product);
+            self.change_row(frame, &mut rows[place], column.crossed(place));
         }
     }
 
     // The weight of one of them, which the column meets in a product.
-    fn change_row<N: Number>(&mut self, frame: &Frame, row: &mut Row<N>, crossing: N, product: N) {
+    fn change_row<N: Number>(&mut self, frame: &Frame, row: &mut Row<N>, crossed: (N, N)) {
+        let (product, crossing) = crossed;
         let cross = quotient(crossing.wide(), row.den.wide());
         if cross != 0 {
             let more = self.more.as_mut_slice();
@@ -122,12 +115,12 @@ fn lay_row<N: Number>(parts: &mut [i64], numbers: &[N], size: i128) -> i128 {
     let inverse = quotient(WHOLE.wrapping_mul(WHOLE), size);
     let mut sum = 0i128;
     for place in 0..parts.len() {
-        let number = at(numbers, place, N::of(0));
-        parts[place] = 0;
+        let number = number_at(numbers, place);
+        put(parts, place, 0);
         if !number.is_zero() {
             let part = number.wide().clamp(-MOST_NUMBER, MOST_NUMBER);
             let part = part.wrapping_mul(inverse).wrapping_shr(PART_BITS);
-            parts[place] = i64::narrowed(part.wrapping_neg());
+            put(parts, place, i64::narrowed(part.wrapping_neg()));
             sum = sum.wrapping_add(part.wrapping_mul(part).wrapping_shr(PART_BITS));
         }
     }

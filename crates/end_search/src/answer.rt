@@ -1,5 +1,5 @@
 use end_check::{Hint, PointHint, RefusalHint};
-use end_kernel::{Kernel, NONE, Number, at, filled, put};
+use end_kernel::{Kernel, NONE, Number, filled, number_at, put};
 use end_pivots::costs::first_costs;
 use end_pivots::{Costs, Frame, PivotRow, Values};
 use entries::{Entries, NoMemory};
@@ -42,7 +42,7 @@ pub(crate) fn dual_values<N: Number>(
 ) -> Result<Vec<i128>, NoMemory> {
     let lines = frame.columns.line_count();
     let mut duals = first_costs(alloc, &frame.start, costs, lines, above.den)?;
-    add_slots(kernel, &above.slots, duals.as_mut_slice());
+    add_slots(kernel, above, duals.as_mut_slice());
     frame.start.backward(duals.as_mut_slice());
     Ok(duals)
 }
@@ -91,10 +91,10 @@ fn lay_came<N: Number>(kernel: &Kernel<N>, scale: N, point: &mut [u64]) -> bool 
 }
 
 // Adds how the slots' lines weigh more than at the start.
-fn add_slots<N: Number>(kernel: &Kernel<N>, more: &[i128], weighed: &mut [i128]) {
+fn add_slots<N: Number>(kernel: &Kernel<N>, above: &Costs, weighed: &mut [i128]) {
     for slot in 0..kernel.lines.len() {
         let line = kernel.lines[slot] as usize;
-        let sum = at(weighed, line, 0).wrapping_add(at(more, slot, 0));
+        let sum = number_at(weighed, line).wrapping_add(above.of_slot(slot));
         put(weighed, line, sum);
     }
 }

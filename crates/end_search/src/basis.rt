@@ -1,3 +1,5 @@
+use crate::answer::dual_values;
+use crate::progress::Progress;
 use end_kernel::{Kernel, NONE, Number, at, put};
 use end_pivots::{Frame, Weights};
 use entries::NoMemory;
@@ -12,24 +14,38 @@ pub(crate) struct Basis {
     pub lacking: Vec<bool>,
     /// The weights of the rows of basic columns.
     weights: Vec<i64>,
+    /// The dual values of the lines, over the denominator of the costs.
+    pub duals: Vec<i128>,
 }
 
 impl Basis {
     pub(crate) fn new<N: Number>(
         alloc: Global,
         frame: &Frame,
+        costs: &[i128],
         kernel: &Kernel<N>,
-        weights: &Weights,
+        progress: &Progress,
     ) -> Result<Basis, NoMemory> {
         let mut basis = Basis {
+            duals: dual_values(alloc, frame, costs, kernel, &progress.costs)?,
             columns: Vec::new(alloc),
             lacking: Vec::new(alloc),
             weights: Vec::new(alloc),
         };
-        basis.push_columns(frame, kernel, weights)?;
-        basis.push_lines(frame, kernel)?;
-        basis.lay_rows(kernel);
+        basis.lay(frame, kernel, &progress.weights)?;
         Ok(basis)
+    }
+
+    // Lays all but the dual values.
+    fn lay<N: Number>(
+        &mut self,
+        frame: &Frame,
+        kernel: &Kernel<N>,
+        weights: &Weights,
+    ) -> Result<(), NoMemory> {
+        self.push_columns(frame, kernel, weights)?;
+        self.lay_rows(kernel);
+        self.push_lines(frame, kernel)
     }
 
     /// The weight of the row of a basic column.

@@ -1,7 +1,7 @@
 use crate::pivot::{pivot, take_row};
 use crate::progress::{Progress, Workspace};
-use end_kernel::{Kernel, Number, at};
-use end_pivots::{Frame, Leaving, Trial};
+use end_kernel::{Kernel, Number, number_at};
+use end_pivots::{Frame, Leaving};
 use entries::NoMemory;
 use std::alloc::Global;
 
@@ -9,19 +9,18 @@ use std::alloc::Global;
 const MOST_PASSES: u64 = 10;
 
 /// Pivots among ends of equal cost, each of which makes more columns come to whole numbers, so that fewer pairs are flown in part.
-/// At most so many pivots are made together. The values are those of the kernel before, and where all are whole nothing is tried.
+/// The values are those of the kernel before, and where all are whole nothing is tried.
 pub(crate) fn make_whole<N: Number>(
     alloc: Global,
     frame: &Frame,
     kernel: &mut Kernel<N>,
     progress: &mut Progress,
     workspace: &mut Workspace<N>,
-    steps: u64,
 ) -> Result<(), NoMemory> {
     for _pass in 0..MOST_PASSES {
         let before = progress.made;
         if workspace.values.are_whole(kernel)
-            || !pass(alloc, frame, kernel, progress, workspace, steps)?
+            || !pass(alloc, frame, kernel, progress, workspace)?
             || progress.made == before
         {
             return Ok(());
@@ -37,14 +36,13 @@ fn pass<N: Number>(
     kernel: &mut Kernel<N>,
     progress: &mut Progress,
     workspace: &mut Workspace<N>,
-    steps: u64,
 ) -> Result<bool, NoMemory> {
     for place in 0..progress.basic.len() {
         if progress.is_free(place) {
             let column = (place & 0xffff_ffff) as u32;
             let leaves = trial(frame, kernel, progress, workspace, column)?;
             if let Some(leaves) = leaves {
-                if !progress.may_pivot(steps)
+                if !progress.may_pivot()
                     || !enter(alloc, frame, kernel, progress, workspace, leaves, column)?
                 {
                     return Ok(false);
@@ -68,20 +66,18 @@ fn trial<N: Number>(
         frame,
         kernel,
         &workspace.row,
-        progress.weights.crosses(),
+        &progress.weights.crosses,
         column,
     )? {
         return Ok(None);
     }
-    let Some(scale) = workspace.column.lay_lines(frame, kernel) else {
-        return Ok(None);
-    };
-    let tried = Trial {
-        products: &workspace.column.products,
-        numbers: &workspace.column.lines,
-        scale,
-    };
-    Ok(tried.gaining(frame, kernel, &workspace.values))
+    Ok(match workspace.column.lay_lines(frame, kernel) {
+        Some(scale) => {
+            let values = &workspace.values;
+            workspace.column.gaining(frame, kernel, values, scale)
+        }
+        None => None,
+    })
 }
 
 // Brings the column in, and answers whether all fits and the values are those after it.
@@ -95,7 +91,7 @@ fn enter<N: Number>(
     column: u32,
 ) -> Result<bool, NoMemory> {
     if !take_row(frame, kernel, progress, &mut workspace.row, leaves)?
-        || !at(&workspace.row.columns, column as usize, N::of(0)).is_below_0()
+        || !number_at(&workspace.row.columns, column as usize).is_below_0()
         || !pivot(alloc, frame, kernel, progress, workspace, leaves, column)?
     {
         return Ok(false);

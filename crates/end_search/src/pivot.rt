@@ -1,5 +1,5 @@
 use crate::progress::{Progress, Workspace};
-use end_kernel::{Kernel, NONE, Number, Row, at, common_divisor, put};
+use end_kernel::{Kernel, NONE, Number, Row, common_divisor, put};
 use end_pivots::{CostStep, Frame, Leaving, PivotRow};
 use entries::NoMemory;
 use std::alloc::Global;
@@ -14,10 +14,7 @@ pub(crate) fn take_row<N: Number>(
 ) -> Result<bool, NoMemory> {
     let column = leaves.column(frame, kernel);
     put(progress.basic.as_mut_slice(), column as usize, false);
-    if !row.take(frame, kernel, leaves)? {
-        return Ok(false);
-    }
-    row.price(frame, kernel, leaves, &progress.basic)
+    row.take(frame, kernel, leaves, &progress.basic)
 }
 
 /// Brings a column into the basis, where all fits, and answers whether it does.
@@ -33,13 +30,17 @@ pub(crate) fn pivot<N: Number>(
     let Some(step) = step_of(frame, kernel, progress, workspace, column)? else {
         return Ok(false);
     };
-    let scale = change_weights(frame, kernel, progress, workspace);
+    if let Some(scale) = workspace.column.lay_lines(frame, kernel) {
+        let numbers = &workspace.column;
+        progress.weights.change(frame, kernel, numbers, scale);
+    }
     let weight = progress.weights.entered();
     let place = let_in(alloc, kernel, progress, workspace, leaves, column, weight)?;
-    progress.costs.open_slots(kernel.lines.len())?;
-    progress.costs.change(&workspace.row, step);
+    let slots = kernel.lines.len();
+    progress.costs.change(&workspace.row, step, slots)?;
     put(progress.basic.as_mut_slice(), column as usize, true);
-    advance_values(kernel, workspace, scale);
+    let own = workspace.row.taken.own;
+    workspace.values.advance(kernel, own, &workspace.column);
     if come_back(frame, kernel, progress, place)? {
         workspace.values.forget();
     }
@@ -56,7 +57,7 @@ fn step_of<N: Number>(
     column: u32,
 ) -> Result<Option<CostStep>, NoMemory> {
     progress.weights.take(frame, &workspace.row, column);
-    let crosses = progress.weights.crosses();
+    let crosses = &progress.weights.crosses;
     let row = &workspace.row;
     if !workspace.column.take(frame, kernel, row, crosses, column)?
         || !workspace.column.fits(kernel, row)
@@ -82,36 +83,6 @@ pub(crate) fn let_in<N: Number>(
     Ok(place)
 }
 
-// Lays the column's numbers in the lines, changes all weights by them, and answers their scale, where they fit.
-fn change_weights<N: Number>(
-    frame: &Frame,
-    kernel: &mut Kernel<N>,
-    progress: &mut Progress,
-    workspace: &mut Workspace<N>,
-) -> Option<N> {
-    match workspace.column.lay_lines(frame, kernel) {
-        Some(scale) => {
-            let column = &workspace.column;
-            progress.weights.change(frame, kernel, column, scale);
-            Some(scale)
-        }
-        None => None,
-    }
-}
-
-// Brings the values to what they are after the pivot, where the column's numbers in the lines have a scale.
-fn advance_values<N: Number>(kernel: &Kernel<N>, workspace: &mut Workspace<N>, scale: Option<N>) {
-    match scale {
-        Some(scale) => {
-            let own = workspace.row.own;
-            workspace
-                .values
-                .advance(kernel, own, &workspace.column, scale);
-        }
-        None => workspace.values.forget(),
-    }
-}
-
 // The place of the row that enters, with a slot for a line that leaves.
 fn open<N: Number>(kernel: &mut Kernel<N>, leaves: Leaving) -> Result<usize, NoMemory> {
     match leaves {
@@ -133,19 +104,17 @@ fn change_rows<N: Number>(
     before: u64,
 ) -> Result<u64, NoMemory> {
     workspace.seen.resize(kernel.lines.len(), 0)?;
-    let row = &workspace.row;
     let column = &workspace.column;
     let seen = workspace.seen.as_mut_slice();
-    let rows = kernel.rows.as_mut_slice();
-    let mut work = before.wrapping_add(row.work());
-    for place in 0..rows.len() {
-        let product = at(&column.products, place, N::of(0));
-        work = work
-            .wrapping_add(rows[place].parts.len() as u64)
-            .wrapping_add(1);
+    let mut work = before.wrapping_add(workspace.row.work());
+    let mut place = 0usize;
+    for row in kernel.rows.iter_mut() {
+        let product = column.product(place);
+        work = work.wrapping_add(row.parts.len() as u64).wrapping_add(1);
         if !product.is_zero() && place != leaves {
-            work = change_row(&mut rows[place], row, column.size, product, seen, work)?;
+            work = change_row(row, &workspace.row, column.size, product, seen, work)?;
         }
+        place = place.wrapping_add(1);
     }
     let done = work.wrapping_sub(before);
     Ok(before.wrapping_add(done.wrapping_mul(u64::from(N::room() / 62))))
@@ -164,8 +133,8 @@ fn change_row<N: Number>(
     let divisor = common_divisor(product, size);
     let factor = size.over(divisor);
     let times = product.over(divisor);
-    row.combine(pivot.taken(), factor, times, seen, work)?;
-    let parts = (row.parts.len() as u64).wrapping_add(pivot.parts.len() as u64);
+    row.combine(&pivot.taken, factor, times, seen, work)?;
+    let parts = (row.parts.len() as u64).wrapping_add(pivot.taken.parts.len() as u64);
     Ok(work.wrapping_add(parts.wrapping_mul(2)))
 }
 
@@ -178,8 +147,7 @@ fn lay_entered<N: Number>(
     weight: i64,
     place: usize,
 ) -> Result<(), NoMemory> {
-    let mut entered = row.entered(alloc, column)?;
-    entered.weight = weight;
+    let entered = row.entered(alloc, column, weight)?;
     if place < kernel.rows.len() {
         kernel.rows[place] = entered;
         return Ok(());

@@ -16,7 +16,9 @@ pub(crate) struct Progress {
     pub weights: Weights,
     /// Which real columns are in the basis for sure, so that all other rows have 0 there.
     pub basic: Vec<bool>,
-    /// How many pivots were made after the start.
+    /// How many pivots may be made after the start.
+    steps: u64,
+    /// How many were made.
     pub made: u64,
     /// How many numbers of rows were written or multiplied.
     pub work: u64,
@@ -30,6 +32,7 @@ impl Progress {
         alloc: Global,
         frame: &Frame,
         costs: &[i128],
+        steps: u64,
     ) -> Result<Option<Progress>, NoMemory> {
         let Some(costs) = Costs::new(alloc, frame, costs)? else {
             return Ok(None);
@@ -38,6 +41,7 @@ impl Progress {
             costs,
             weights: Weights::new(alloc, frame.columns.line_count())?,
             basic: frame.start.basic_columns(alloc)?,
+            steps,
             made: 0,
             work: 0,
             reinverted: 0,
@@ -46,7 +50,7 @@ impl Progress {
 
     /// Whether a column is out of the basis and may come in at no cost.
     pub(crate) fn is_free(&self, column: usize) -> bool {
-        !at(&self.basic, column, true) && at(&self.costs.columns, column, 1) == 0
+        !at(&self.basic, column, true) && at(&self.costs.numbers, column, 1) == 0
     }
 
     /// Whether so many columns came that the kernel should be made anew.
@@ -54,9 +58,9 @@ impl Progress {
         kernel.rows.len() >= self.reinverted.wrapping_add(MOST_ROWS)
     }
 
-    /// Whether one more pivot may be made of so many, and with the work that may be done.
-    pub(crate) fn may_pivot(&self, steps: u64) -> bool {
-        self.made < steps && self.work < MOST_WORK
+    /// Whether one more pivot may be made, and with the work that may be done.
+    pub(crate) fn may_pivot(&self) -> bool {
+        self.made < self.steps && self.work < MOST_WORK
     }
 }
 
@@ -75,7 +79,7 @@ impl<N: Number> Workspace<N> {
         Ok(Workspace {
             values: Values::new(alloc, frame.columns.line_count())?,
             row: PivotRow::new(alloc, frame)?,
-            column: PivotColumn::new(alloc, frame)?,
+            column: PivotColumn::new(alloc),
             seen: Vec::new(alloc),
         })
     }

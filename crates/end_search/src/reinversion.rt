@@ -1,4 +1,3 @@
-use crate::answer::dual_values;
 use crate::basis::Basis;
 use crate::pivot::let_in;
 use crate::progress::{Progress, Workspace};
@@ -18,34 +17,34 @@ pub(crate) fn reinvert<N: Number>(
     progress: &mut Progress,
     workspace: &mut Workspace<N>,
 ) -> Result<(), NoMemory> {
-    let duals = dual_values(alloc, frame, costs, kernel, &progress.costs)?;
-    exchange(alloc, frame, &duals, kernel, progress, workspace)?;
-    workspace.values.forget();
-    progress.reinverted = kernel.rows.len();
-    Ok(())
+    let basis = Basis::new(alloc, frame, costs, kernel, progress)?;
+    exchange(alloc, frame, &basis, kernel, progress, workspace)
 }
 
-// Exchanges start and kernel for those of the same basis, where its dual values are these.
+// Exchanges start and kernel for those of the same basis.
 fn exchange<N: Number>(
     alloc: Global,
     frame: &mut Frame,
-    duals: &[i128],
+    basis: &Basis,
     kernel: &mut Kernel<N>,
     progress: &mut Progress,
     workspace: &mut Workspace<N>,
 ) -> Result<(), NoMemory> {
-    let basis = Basis::new(alloc, frame, kernel, &progress.weights)?;
-    let start = start_of(alloc, frame, &basis)?;
-    let before = mem::replace(&mut frame.start, start);
-    let mut new = Kernel::new(alloc, frame.columns.line_count())?;
-    if rebuild(alloc, frame, &basis, &mut new, progress, workspace)? {
-        progress.costs.lay_slots(&new.lines, duals)?;
-        lay_weights(frame, &basis, &mut progress.weights);
-        *kernel = new;
-    } else {
-        frame.start = before;
+    let mut start = start_of(alloc, frame, basis)?;
+    let mut other = Kernel::new(alloc);
+    mem::swap(kernel, &mut other);
+    mem::swap(&mut frame.start, &mut start);
+    let fits = rebuild(alloc, frame, basis, kernel, progress, workspace);
+    if let Ok(false) = fits {
+        mem::swap(kernel, &mut other);
+        mem::swap(&mut frame.start, &mut start);
     }
-    Ok(())
+    workspace.values.forget();
+    progress.reinverted = kernel.rows.len();
+    match fits {
+        Ok(_) => Ok(()),
+        Err(error) => Err(error),
+    }
 }
 
 // A start of most columns of a basis.
@@ -65,7 +64,7 @@ fn lay_weights(frame: &Frame, basis: &Basis, weights: &mut Weights) {
     }
 }
 
-// Brings the basic columns that aren't the start's into a kernel without rows, and answers whether all fits.
+// Brings the basic columns that aren't the start's into a kernel without rows, lays costs and weights, and answers whether all fits.
 fn rebuild<N: Number>(
     alloc: Global,
     frame: &Frame,
@@ -87,6 +86,8 @@ fn rebuild<N: Number>(
             put(basic.as_mut_slice(), place, true);
         }
     }
+    lay_weights(frame, basis, &mut progress.weights);
+    progress.costs.lay_slots(&kernel.lines, &basis.duals)?;
     Ok(true)
 }
 
@@ -103,15 +104,13 @@ fn take_pivot<N: Number>(
         return Ok(None);
     };
     let row = &mut workspace.row;
-    if !row.take(frame, kernel, leaves)? || !row.price(frame, kernel, leaves, basic)? {
+    if !row.take(frame, kernel, leaves, basic)? {
         return Ok(None);
     }
     row.aim(column);
-    let fits = workspace
-        .column
-        .take(frame, kernel, &workspace.row, &[], column)?
-        && workspace.column.fits(kernel, &workspace.row);
-    Ok(fits.then_some(leaves))
+    workspace.column.size = row.size_in(column);
+    let fits = workspace.column.fits(kernel, &workspace.row);
+    Ok(if fits { Some(leaves) } else { None })
 }
 
 // What leaves for a column: what stands in a line that lacks nothing, where the column's number is least.
@@ -122,13 +121,10 @@ fn leaving_for<N: Number>(
     workspace: &mut Workspace<N>,
     column: u32,
 ) -> Result<Option<Leaving>, NoMemory> {
-    if !workspace
+    let fits = workspace
         .column
-        .take(frame, kernel, &workspace.row, &[], column)?
-    {
-        return Ok(None);
-    }
-    if workspace.column.lay_lines(frame, kernel).is_none() {
+        .take(frame, kernel, &workspace.row, &[], column)?;
+    if !fits || workspace.column.lay_lines(frame, kernel).is_none() {
         return Ok(None);
     }
     Ok(least_free(frame, kernel, basis, &workspace.column.lines))

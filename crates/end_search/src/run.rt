@@ -18,18 +18,17 @@ pub(crate) enum Ended {
     Outgrown,
 }
 
-/// Pivots until there is an end, a number is outgrown, so many steps are made, or the work is done that may be. The first cheapest
-/// point is made whole, as far as that goes, before it is told: the turns after it lead back to one if that went wrong.
+/// Pivots until there is an end, a number is outgrown, as many steps are made as may be, or the work is done that may be. The first
+/// cheapest point is made whole, as far as that goes, before it is told: the turns after it lead back to one if that went wrong.
 pub(crate) fn run<N: Number>(
     alloc: Global,
     frame: &mut Frame,
     costs: &[i128],
     kernel: &mut Kernel<N>,
     progress: &mut Progress,
-    steps: u64,
 ) -> Result<Ended, NoMemory> {
     let mut workspace = Workspace::new(alloc, frame)?;
-    run_in(alloc, frame, costs, kernel, progress, &mut workspace, steps)
+    run_in(alloc, frame, costs, kernel, progress, &mut workspace)
 }
 
 // The same in a workspace.
@@ -40,14 +39,20 @@ fn run_in<N: Number>(
     kernel: &mut Kernel<N>,
     progress: &mut Progress,
     workspace: &mut Workspace<N>,
-    steps: u64,
 ) -> Result<Ended, NoMemory> {
-    let mut end = last_turn(alloc, frame, costs, kernel, progress, workspace, steps)?;
+    let mut end = last_turn(alloc, frame, costs, kernel, progress, workspace)?;
     if let Turn::Best = end {
-        make_whole(alloc, frame, kernel, progress, workspace, steps)?;
-        end = last_turn(alloc, frame, costs, kernel, progress, workspace, steps)?;
+        make_whole(alloc, frame, kernel, progress, workspace)?;
+        end = last_turn(alloc, frame, costs, kernel, progress, workspace)?;
     }
-    told(alloc, frame, costs, kernel, progress, workspace, end)
+    let above = &progress.costs;
+    let values = &workspace.values;
+    Ok(match end {
+        Turn::Best => Ended::Answer(point_hint(alloc, frame, costs, kernel, above, values)?),
+        Turn::Refused => Ended::Answer(Some(refusal_hint(alloc, &workspace.row)?)),
+        Turn::Outgrown => Ended::Outgrown,
+        Turn::Spent | Turn::Pivoted => Ended::Answer(None),
+    })
 }
 
 // The first turn that makes no pivot.
@@ -58,43 +63,16 @@ fn last_turn<N: Number>(
     kernel: &mut Kernel<N>,
     progress: &mut Progress,
     workspace: &mut Workspace<N>,
-    steps: u64,
 ) -> Result<Turn, NoMemory> {
     for _turn in 0..u64::MAX {
         if progress.is_reinversion_due(kernel) {
             reinvert(alloc, frame, costs, kernel, progress, workspace)?;
         }
-        let may_pivot = progress.may_pivot(steps);
+        let may_pivot = progress.may_pivot();
         match take_turn(alloc, frame, kernel, progress, workspace, may_pivot)? {
             Turn::Pivoted => {}
             end => return Ok(end),
         }
     }
     Ok(Turn::Spent)
-}
-
-// What a run is told as that ends with a turn.
-fn told<N: Number>(
-    alloc: Global,
-    frame: &Frame,
-    costs: &[i128],
-    kernel: &Kernel<N>,
-    progress: &Progress,
-    workspace: &Workspace<N>,
-    end: Turn,
-) -> Result<Ended, NoMemory> {
-    match end {
-        Turn::Best => Ok(Ended::Answer(point_hint(
-            alloc,
-            frame,
-            costs,
-            kernel,
-            &progress.costs,
-            &workspace.values,
-        )?)),
-        Turn::Refused => Ok(Ended::Answer(Some(refusal_hint(alloc, &workspace.row)?))),
-        Turn::Outgrown => Ok(Ended::Outgrown),
-        Turn::Spent => Ok(Ended::Answer(None)),
-        Turn::Pivoted => Ok(Ended::Answer(None)),
-    }
 }

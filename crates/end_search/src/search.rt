@@ -18,40 +18,30 @@ pub fn find(alloc: Global, program: &Program, steps: u64) -> Result<Option<Hint>
     if steps == 0 {
         return Ok(None);
     }
+    let places = start_places(alloc, program)?;
     let Some(columns) = Columns::new(alloc, &program.rows)? else {
         return Ok(None);
     };
-    let places = start_places(alloc, program)?;
     let start = Start::new(alloc, &columns, &places)?;
     let mut frame = Frame { columns, start };
     search(alloc, &mut frame, program.rows.costs.as_slice(), steps)
 }
 
-/// An end of lines from a start, where one is found.
+// An end of lines from a start, where one is found. It begins in numbers of 64 bits.
 fn search(
     alloc: Global,
     frame: &mut Frame,
     costs: &[i128],
     steps: u64,
 ) -> Result<Option<Hint>, NoMemory> {
-    match Progress::new(alloc, frame, costs)? {
-        Some(mut progress) => begin(alloc, frame, costs, &mut progress, steps),
-        None => Ok(None),
-    }
-}
-
-// Begins in numbers of 64 bits.
-fn begin(
-    alloc: Global,
-    frame: &mut Frame,
-    costs: &[i128],
-    progress: &mut Progress,
-    steps: u64,
-) -> Result<Option<Hint>, NoMemory> {
-    let mut kernel: Kernel<i64> = Kernel::new(alloc, frame.columns.line_count())?;
-    match run(alloc, frame, costs, &mut kernel, progress, steps)? {
-        Ended::Answer(hint) => Ok(hint),
-        Ended::Outgrown => go_on(alloc, frame, costs, &kernel, progress, steps),
+    let Some(mut progress) = Progress::new(alloc, frame, costs, steps)? else {
+        return Ok(None);
+    };
+    let mut kernel: Kernel<i64> = Kernel::new(alloc);
+    match run(alloc, frame, costs, &mut kernel, &mut progress) {
+        Ok(Ended::Answer(hint)) => Ok(hint),
+        Ok(Ended::Outgrown) => go_on(alloc, frame, costs, &mut kernel, &mut progress),
+        Err(error) => Err(error),
     }
 }
 
@@ -60,13 +50,14 @@ fn go_on(
     alloc: Global,
     frame: &mut Frame,
     costs: &[i128],
-    kernel: &Kernel<i64>,
+    kernel: &mut Kernel<i64>,
     progress: &mut Progress,
-    steps: u64,
 ) -> Result<Option<Hint>, NoMemory> {
-    let mut wide = kernel.widened(alloc)?;
-    match run(alloc, frame, costs, &mut wide, progress, steps)? {
-        Ended::Answer(hint) => Ok(hint),
-        Ended::Outgrown => Ok(None),
+    let mut wide = Kernel::new(alloc);
+    kernel.widen(alloc, &mut wide)?;
+    match run(alloc, frame, costs, &mut wide, progress) {
+        Ok(Ended::Answer(hint)) => Ok(hint),
+        Ok(Ended::Outgrown) => Ok(None),
+        Err(error) => Err(error),
     }
 }
