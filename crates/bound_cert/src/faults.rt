@@ -4,9 +4,10 @@ ghost use Rattle.bound_cert.specs.declared.faults.Stop.TheVariants as stop;
 
 use entries::NoMemory as OutOfMemory;
 use std::alloc::{AllocError, AllocFailed};
+use thiserror::Error;
 
 /// The first fault of a proof's text.
-#[derive(Clone, Copy)]
+#[derive(Clone, Copy, Debug, PartialEq, Eq)]
 pub struct CertFault {
     /// The number of the line, from 1. A line that is missing has the number that it would have.
     pub line: u64,
@@ -15,9 +16,11 @@ pub struct CertFault {
 }
 
 /// Why a proof's text could not be read.
-#[derive(Clone, Copy)]
+#[derive(Clone, Copy, Debug, PartialEq, Eq, Error)]
 pub enum CertError {
+    #[error("bad proof: {0:?}")]
     Fault(CertFault),
+    #[error("out of memory")]
     NoMemory,
 }
 

@@ -18,7 +18,7 @@ pub use divider::{Divider, odd_part};
 pub use kernel::Kernel;
 pub use lists::{at, fill, filled, put, reset};
 pub use number::{Number, common_divisor, common_scale, number_at, product_fits};
-pub use row::{Part, Row};
+pub use row::{Part, Row, Sides};
 pub use start::{NONE, Place, Start};
 pub use taken::Taken;
 pub use triangle::triangular_places;

@@ -27,6 +27,23 @@ pub struct Row<N> {
     pub weight: i64,
 }
 
+/// A number of the pivot column, and one of another sum over lines beside it.
+#[derive(Clone, Copy)]
+pub struct Sides<N> {
+    pub column: N,
+    pub other: N,
+}
+
+impl<N: Number> Sides<N> {
+    #[inline(always)]
+    pub fn none() -> Sides<N> {
+        Sides {
+            column: N::of(0),
+            other: N::of(0),
+        }
+    }
+}
+
 impl<N: Number> Row<N> {
     /// The row of a column with a weight, brought to lowest terms.
     pub fn new(column: u32, own: N, parts: Vec<Part<N>>, den: N, weight: i64) -> Row<N> {
@@ -62,18 +79,18 @@ impl<N: Number> Row<N> {
         Ok(())
     }
 
-    /// What the row's parts and the first numbers of all slots come to, and what they and the second ones do.
-    pub fn across(&self, numbers: &[(N, N)]) -> (N, N) {
-        let none = (N::of(0), N::of(0));
-        let mut sums = none;
+    /// What the row's parts and each of two sides come to, slot by slot.
+    pub fn across(&self, sides: &[Sides<N>]) -> Sides<N> {
+        let none = Sides::none();
+        let mut sum = none;
         for part in &self.parts {
-            let (first, second) = at(numbers, part.slot as usize, none);
-            sums = (
-                sums.0.plus(first.times(part.number)),
-                sums.1.plus(second.times(part.number)),
-            );
+            let side = at(sides, part.slot as usize, none);
+            sum = Sides {
+                column: sum.column.plus(side.column.times(part.number)),
+                other: sum.other.plus(side.other.times(part.number)),
+            };
         }
-        sums
+        sum
     }
 
     /// Subtracts the row's parts, so many times, from numbers by all slots.

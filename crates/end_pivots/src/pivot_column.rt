@@ -2,7 +2,7 @@ use crate::frame::Frame;
 use crate::pivot_row::PivotRow;
 use end_kernel::start::take_column;
 use end_kernel::{
-    Kernel, Number, Row, at, common_divisor, common_scale, number_at, product_fits, reset,
+    Kernel, Number, Row, Sides, at, common_divisor, common_scale, number_at, product_fits, reset,
 };
 use entries::NoMemory;
 use std::alloc::Global;
@@ -13,9 +13,9 @@ pub struct PivotColumn<N> {
     /// The size of its number in the pivot row.
     pub size: N,
     /// Its number in each row, and what the row comes to in a sum over lines beside it, both times the row's denominator.
-    rows: Vec<(N, N)>,
+    rows: Vec<Sides<N>>,
     /// Its numbers in the slots as the start has them, beside those of the other sum.
-    slots: Vec<(N, N)>,
+    slots: Vec<Sides<N>>,
     sums: Vec<N>,
     /// Its numbers in the lines, over a scale.
     pub lines: Vec<N>,
@@ -38,13 +38,13 @@ impl<N: Number> PivotColumn<N> {
     /// Its number in a row, times the row's denominator.
     #[inline(always)]
     pub fn product(&self, row: usize) -> N {
-        self.crossed(row).0
+        self.crossed(row).column
     }
 
     /// Its number in a row, and what the row comes to in the other sum, both times the row's denominator.
     #[inline(always)]
-    pub fn crossed(&self, row: usize) -> (N, N) {
-        at(&self.rows, row, (N::of(0), N::of(0)))
+    pub fn crossed(&self, row: usize) -> Sides<N> {
+        at(&self.rows, row, Sides::none())
     }
 
     /// Takes a column, and answers whether its products fit. What the start leaves of another sum is for the crossings.
@@ -87,7 +87,7 @@ impl<N: Number> PivotColumn<N> {
             let column = number_at(&self.sums, place);
             sizes = sizes.either(column.size());
             let other = N::narrowed(i128::from(at(beside, place, 0)));
-            self.slots.push((column, other))?;
+            self.slots.push(Sides { column, other })?;
         }
         Ok(sizes)
     }

@@ -3,7 +3,7 @@ use crate::pivot_column::PivotColumn;
 use crate::pivot_row::PivotRow;
 use crate::pricing::{LEAST_WEIGHT, MOST_WEIGHT, PART_BITS, WHOLE, quotient};
 use end_kernel::start::take_column;
-use end_kernel::{Kernel, NONE, Number, Row, at, fill, filled, number_at, put};
+use end_kernel::{Kernel, NONE, Number, Row, Sides, at, fill, filled, number_at, put};
 use entries::NoMemory;
 use std::alloc::Global;
 
@@ -83,9 +83,9 @@ impl Weights {
     }
 
     // The weight of one of them, which the column meets in a product.
-    fn change_row<N: Number>(&mut self, frame: &Frame, row: &mut Row<N>, crossed: (N, N)) {
-        let (product, crossing) = crossed;
-        let cross = quotient(crossing.wide(), row.den.wide());
+    fn change_row<N: Number>(&mut self, frame: &Frame, row: &mut Row<N>, crossed: Sides<N>) {
+        let product = crossed.column;
+        let cross = quotient(crossed.other.wide(), row.den.wide());
         if cross != 0 {
             let more = self.more.as_mut_slice();
             take_column(&frame.columns, row.column, i64::narrowed(cross), more);
