@@ -156,7 +156,7 @@ impl Start {
 fn push_others(column: &[Unit], line: u32, others: &mut Units) -> Result<(), NoMemory> {
     for unit in column {
         if unit.place != line {
-            others.push(*unit)?;
+            others.units.push(*unit)?;
         }
     }
     others.end()

@@ -41,7 +41,7 @@ impl Peeling {
         self.count(columns, lacking)?;
         for line in 0..columns.line_count() {
             self.place_single(columns)?;
-            self.leave_one(columns, line)?;
+            self.leave(columns, (line & 0xffff_ffff) as u32, 1)?;
         }
         self.place_single(columns)
     }
@@ -68,30 +68,20 @@ impl Peeling {
             let Some(line) = self.single.pop() else {
                 return Ok(());
             };
-            self.place_in(columns, line)?;
+            self.leave(columns, line, 0)?;
         }
         Ok(())
     }
 
-    // Places the column that is left in a line, if its number lets it, and else passes over it.
-    fn place_in(&mut self, columns: &Columns, line: u32) -> Result<(), NoMemory> {
+    // Passes over columns until so many are left in a line. Where none is to be left the last one is placed, if its number lets it.
+    fn leave(&mut self, columns: &Columns, line: u32, most: u32) -> Result<(), NoMemory> {
         for unit in columns.across(line as usize) {
             let column = unit.place;
-            if at(&self.left, column as usize, false) {
-                if unit.number == 1 || unit.number == -1 {
+            if at(&self.counts, line as usize, 0) > most && at(&self.left, column as usize, false) {
+                if most == 0 && (unit.number == 1 || unit.number == -1) {
                     self.places.push(Place { line, column })?;
                 }
-                return self.remove(columns, column);
-            }
-        }
-        Ok(())
-    }
-
-    // Passes over columns until one is left in a line.
-    fn leave_one(&mut self, columns: &Columns, line: usize) -> Result<(), NoMemory> {
-        for unit in columns.across(line) {
-            if at(&self.counts, line, 0) > 1 && at(&self.left, unit.place as usize, false) {
-                self.remove(columns, unit.place)?;
+                self.remove(columns, column)?;
             }
         }
         Ok(())
