@@ -6,7 +6,7 @@ use entries::NoMemory as OutOfMemory;
 use std::alloc::{AllocError, AllocFailed};
 
 /// The first fault of a proof's text.
-#[derive(Clone, Copy)]
+#[derive(Clone, Copy, Debug)]
 pub struct CertFault {
     /// The number of the line, from 1. A line that is missing has the number that it would have.
     pub line: u64,
@@ -15,7 +15,7 @@ pub struct CertFault {
 }
 
 /// Why a proof's text could not be read.
-#[derive(Clone, Copy)]
+#[derive(Clone, Copy, Debug)]
 pub enum CertError {
     Fault(CertFault),
     NoMemory,
