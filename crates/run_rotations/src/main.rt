@@ -41,12 +41,7 @@ fn main(rt: HostRuntime) -> Result<()> {
 }
 
 /// Prints a line for each fleet of a legal plan.
-fn print_rotations(
-    rt: &impl Print,
-    alloc: Global,
-    tables: &Tables,
-    plan: &Assignment,
-) -> Result<()>
+fn print_rotations(rt: &impl Print, alloc: Global, tables: &Tables, plan: &Assignment) -> Result<()>
     requires plain { IsPlain tables.now }
     requires legal { IsLegal tables.now plan.now }
 {
