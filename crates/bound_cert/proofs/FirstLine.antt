@@ -1,5 +1,6 @@
 -- The first line that is left, by what stands behind it.
-use Rattle.bound_cert.proofs.ReadOn.{chosen, failed, fails_by, refused}
+use Rattle.bound_cert.proofs.ReadOn.{failed, fails_by}
+use Rattle.proof_lines.proofs.Choosing.{chosen, refused}
 use Rattle.bound_cert.specs.Lines.{◌>>=◌, Fails, Left, fits, line_due, next_line, of_seen, stopped}
 use Rattle.bound_cert.specs.declared.faults.Stop.{Stop}
 use Rattle.bound_cert.specs.Nodes.{head_is, headed, version_of}

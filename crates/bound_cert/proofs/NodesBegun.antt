@@ -2,7 +2,8 @@
 use Rattle.bound_cert.proofs.Completing.{mixed_goes, one_mixed, prices_go}
 use Rattle.bound_cert.proofs.Endings.{Completes, EndsBy, MayAt, Stays, alike_after, ends_lift, ends_map, ends_read, ends_then, not_there, some_more, value_of}
 use Rattle.bound_cert.proofs.LineTwins.{alike_self, head_twin}
-use Rattle.bound_cert.proofs.ReadOn.{bound, chosen, refused}
+use Rattle.bound_cert.proofs.ReadOn.{bound}
+use Rattle.proof_lines.proofs.Choosing.{chosen, refused}
 use Rattle.bound_cert.proofs.Shrinking.{Shrinks, mixed_shrinks, node_takes, nodes_shrink, shrinks_if}
 use Rattle.bound_cert.proofs.TextNodes.{node_was}
 use Rattle.bound_cert.proofs.WrittenLines.{names, texts}

@@ -10,6 +10,7 @@ use Rattle.proof_lines.specs.Known.{Naming}
 use Rattle.proof_lines.specs.declared.line.Line.{Line}
 use Rattle.proof_lines.specs.declared.line.Version.{Version}
 use Rattle.proof_lines.specs.Words.{Word, seen, words_of}
+use Rattle.proof_lines.proofs.Choosing.{chosen, refused}
 use Rattle.std.specs.Prelude.{IfOk}
 use Rattle.std.proofs.Common.{[], ◌++◌, ◌+◌, ◌<◌, ◌∙◌, ◌∷◌, ◌≡◌, Bool, Bor, Err, List, None, Ok, Option, Some, add-one, ap, append_assoc, arith, cond, drop, false, length, pos, refl, replicate, Result, subst, suc, sym, true, zero, ℕ, ℤ}
 use Rattle.bound_cert.specs.declared.faults.Stop.TheVariants as stop
@@ -21,14 +22,6 @@ begins v left kind = fits kind (first_form v left)
 pub some_left : (v : Version) (left : Left) (kind : Due) → begins v left kind ≡ true → 0 < length left
 some_left v [] kind is = absurd (cc is)
 some_left v (line ∷ rest) kind is = omega arith
-
-pub chosen : {A : Type 0} (b : Bool) (x y : A) → b ≡ true → cond b x y ≡ x
-chosen true x y is = refl
-chosen false x y is = absurd (cc is)
-
-pub refused : {A : Type 0} (b : Bool) (x y : A) → b ≡ false → cond b x y ≡ y
-refused true x y is = absurd (cc is)
-refused false x y is = refl
 
 pub bound : {A B : Type 0} (r : Reading A) (x : A) (f : A → Reading B) → r ≡ Ok x → (r >>= f) ≡ f x
 bound r x f is = ap (λ r. r >>= f) is

@@ -1,5 +1,6 @@
 -- A node or a tree put into its place among those that wait.
-use Rattle.bound_cert.proofs.ReadOn.{bound, chosen, failed, fails_by, refused}
+use Rattle.bound_cert.proofs.ReadOn.{bound, failed, fails_by}
+use Rattle.proof_lines.proofs.Choosing.{chosen, refused}
 use Rattle.bound_cert.specs.Lines.{Fails, Gives, Left, Reading, Stopped, stopped}
 use Rattle.bound_cert.specs.Nodes.{Above, above_of, above_with, after_node, after_tree, first_nodes, has_first, inner_node, nodes_from, parent_nodes, waiting_nodes}
 use Rattle.bound_cert.specs.ReadTree.{IsGrown, IsInnerOf, StillWaits}

@@ -1,6 +1,7 @@
 -- A line that was written, cut and read again.
 use Rattle.bound_cert.proofs.Cut.{no_line_feed}
-use Rattle.bound_cert.proofs.ReadOn.{begins, chosen}
+use Rattle.bound_cert.proofs.ReadOn.{begins}
+use Rattle.proof_lines.proofs.Choosing.{chosen}
 use Rattle.bound_cert.specs.Lines.{Left, fits, left_of, line_due, may_stand, of_seen}
 use Rattle.bound_cert.specs.ProofText.{lines_of}
 use Rattle.bound_cert.specs.Reading.{first_words}

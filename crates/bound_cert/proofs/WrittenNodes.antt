@@ -1,5 +1,6 @@
 -- A node in written order is what its lines read as.
-use Rattle.bound_cert.proofs.ReadOn.{bound, chosen}
+use Rattle.bound_cert.proofs.ReadOn.{bound}
+use Rattle.proof_lines.proofs.Choosing.{chosen}
 use Rattle.bound_cert.proofs.WrittenLines.{begins_else, line_read, names, texts, texts_append}
 use Rattle.bound_cert.proofs.WrittenPrices.{IsBehind, mixed_read, prices_read, some_behind}
 use Rattle.bound_cert.specs.Lines.{Left, line_due, may_stand}

@@ -1,5 +1,6 @@
 -- Prices and fractional assignments in written order are what their lines read as.
-use Rattle.bound_cert.proofs.ReadOn.{begins, bound, chosen, entries_end, entries_more, padded_more, refused}
+use Rattle.bound_cert.proofs.ReadOn.{begins, bound, entries_end, entries_more, padded_more}
+use Rattle.proof_lines.proofs.Choosing.{chosen, refused}
 use Rattle.bound_cert.proofs.WrittenLines.{begins_as, begins_else, line_read, names, texts, texts_append}
 use Rattle.bound_cert.specs.Lines.{Left, line_due, may_stand}
 use Rattle.bound_cert.specs.ProofText.{ArePricesIn, at_line, charge_line, mixed_lines, price_lines, rent_lines, rent_lines_at, weight_line}

@@ -2,7 +2,8 @@
 use Rattle.bound_cert.proofs.LinesOfWords.{lines_named}
 use Rattle.bound_cert.proofs.NodesOfTables.{IsNodeOf, tree_of}
 use Rattle.bound_cert.proofs.ReadBack.{ok_same}
-use Rattle.bound_cert.proofs.ReadOn.{bound, refused}
+use Rattle.bound_cert.proofs.ReadOn.{bound}
+use Rattle.proof_lines.proofs.Choosing.{refused}
 use Rattle.bound_cert.proofs.WrittenLines.{left_of_lines, line_read, names, texts, texts_append}
 use Rattle.bound_cert.proofs.WrittenNodes.{before_node, behind_line, node_read}
 use Rattle.bound_cert.proofs.WrittenPrices.{IsBehind, steps_of}

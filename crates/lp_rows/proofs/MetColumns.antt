@@ -3,7 +3,6 @@ use Rattle.std.proofs.Common.{◌≡◌, ℕ, ◌+◌, ◌<◌, ◌≤◌, Bool,
 use Rattle.std.proofs.lemmas.List.{get_or-map, get_or_past}
 use Rattle.std.proofs.lemmas.Bool.Decides.{nat_tests}
 use Rattle.sums.specs.Places.{list_below}
-use Rattle.sums.proofs.Tests.{same_tests}
 use Rattle.fleet_model.specs.declared.parts.Pair.{Pair}
 use Rattle.fleet_model.specs.declared.tables.Tables.{Tables}
 use Rattle.fleet_model.specs.Schedule.{fleet_by, leg_of}
@@ -51,8 +50,8 @@ first_fails : (s x : Bool) → (s || s) ≡ false → (s && x) ≡ false
 first_fails false x e = refl
 first_fails true x e = absurd (cc e)
 
-turned : (a b : ℕ) → (a == b) ≡ (b == a)
-turned a b = same_tests (a == b) (b == a) (λ e. grind (arith, nat_tests)) (λ e. grind (arith, nat_tests))
+pub turned : (a b : ℕ) → (a == b) ≡ (b == a)
+turned a b = grind (arith, nat_tests)
 
 arc_elsewhere : (f : Bool) (a n : ℕ) → (f && ((a == n) || (a == n))) ≡ false → (x : Bool) → (f && ((n == a) && x)) ≡ false
 arc_elsewhere f a n e x = subst (λ s. (f && (s && x)) ≡ false) (turned a n) (one_fails f (a == n) (a == n) e x)

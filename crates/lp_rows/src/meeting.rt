@@ -72,7 +72,7 @@ fn touched_by(tables: &Tables, column: Column) -> Touched
     }
 }
 
-/// The columns that a line meets, by number, rising: in all others it has none.
+/// The columns that a line meets, by number, rising: in all others it has no number.
 #[derive(Drop)]
 pub(crate) struct Met {
     pub line: Line,

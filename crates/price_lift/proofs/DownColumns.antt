@@ -20,15 +20,13 @@ use Rattle.lp_rows.specs.Entries.{IsNode, IsPark, balance_entry, comes_to_node, 
 use Rattle.lp_rows.specs.Layout.{Starts, node_at, line_at, park_of_number}
 use Rattle.lp_rows.specs.Points.{node_count, park_count, priced_count}
 use Rattle.lp_rows.proofs.ListSums.{all_zero}
+use Rattle.lp_rows.proofs.MetColumns.{turned}
 use Rattle.lp_rows.proofs.Picks.{pick_nodes}
 use Rattle.lp_rows.proofs.LinePlaces.{balance_there, before, count_there, cover_there, node_there, node_within, over_lines, parking_there}
 use Rattle.lp_rows.proofs.Rooms.{two_deep}
 use Rattle.price_lift.proofs.Parks.{number_of_park, pick_park, same_as}
 
 -- ---- tests
-flip : (a b : ℕ) → (a == b) ≡ (b == a)
-flip a b = grind (arith, nat_tests)
-
 times_one_if : (b : Bool) (z : ℤ) → z *ℤ one_if b ≡ where_true b z
 times_one_if true z = times_one z
 times_one_if false z = *ℤ-zero z
@@ -116,14 +114,14 @@ module _ (t : Tables) (starts : Starts) (y : ℕ → ℤ) where
       over_nodes-same (λ f s k. of_node f s k *ℤ one_if (test f s k)) (λ f s k. where_true (a == f) (where_true (b == s) (where_true (is_in t (starts f s) k m) (of_node f s k))))
       (λ f s k known within below.
       times_one_if (test f s k) (of_node f s k)
-      ∙ ap (λ c. where_true c (of_node f s k)) (is f s k ∙ ap (λ c. c && ((b == s) && is_in t (starts f s) k m)) (flip f a))
+      ∙ ap (λ c. where_true c (of_node f s k)) (is f s k ∙ ap (λ c. c && ((b == s) && is_in t (starts f s) k m)) (turned f a))
       ∙ three_tests (a == f) (b == s) (is_in t (starts f s) k m) (of_node f s k))
       ∙ pick_nodes (fleets_in t) (stations_in t) a b (λ f s. length (starts f s)) (λ f s k. where_true (is_in t (starts f s) k m) (of_node f s k)) here there
 
   flight_covers : (p : Pair) → IsPair t p → sum_below_ℤ (λ l. y l *ℤ cover_entry l (Flight p)) (legs_in t) ≡ y p.leg
   flight_covers p pair =
       sum_below_ℤ-same (λ l. y l *ℤ one_if (l == p.leg)) (λ l. where_true (p.leg == l) (y l)) (legs_in t)
-      (λ l below. times_one_if (l == p.leg) (y l) ∙ ap (λ b. where_true b (y l)) (flip l p.leg))
+      (λ l below. times_one_if (l == p.leg) (y l) ∙ ap (λ b. where_true b (y l)) (turned l p.leg))
       ∙ sum_below_ℤ-one p.leg y (legs_in t) pair.leg
 
   flight_parkings : (p : Pair) → sum_below_ℤ (λ k. of_park k *ℤ entry_of t starts (Parking (park_of_number t k)) (Flight p)) (park_count t) ≡ pos 0
@@ -144,7 +142,7 @@ module _ (t : Tables) (starts : Starts) (y : ℕ → ℤ) where
     flight_counts : sum_below_ℤ (λ f. of_fleet f *ℤ count_entry t starts f (Flight p)) (fleets_in t) ≡ of_fleet (fleet_by t p) *ℤ pos (laps_of t p)
     flight_counts =
         sum_below_ℤ-same (λ f. of_fleet f *ℤ (if f == fleet_by t p then pos (laps_of t p) else pos 0)) (λ f. where_true (fleet_by t p == f) (of_fleet f *ℤ pos (laps_of t p))) (fleets_in t)
-        (λ f known. times_test (f == fleet_by t p) (of_fleet f) (pos (laps_of t p)) ∙ ap (λ b. where_true b (of_fleet f *ℤ pos (laps_of t p))) (flip f (fleet_by t p)))
+        (λ f known. times_test (f == fleet_by t p) (of_fleet f) (pos (laps_of t p)) ∙ ap (λ b. where_true b (of_fleet f *ℤ pos (laps_of t p))) (turned f (fleet_by t p)))
         ∙ sum_below_ℤ-one (fleet_by t p) (λ f. of_fleet f *ℤ pos (laps_of t p)) (fleets_in t) flown.by
 
     pub down_flight : down (λ line. entry_of t starts line (Flight p))
@@ -192,8 +190,8 @@ module _ (t : Tables) (starts : Starts) (y : ℕ → ℤ) where
         over_nodes-same (λ f s k. of_node f s k *ℤ one_if (test f s k)) (λ f s k. where_true (a.fleet == f) (where_true (a.station == s) (where_true (place (length (starts f s)) == k) (of_node f s k))))
         (λ f s k known within below.
         times_one_if (test f s k) (of_node f s k)
-        ∙ ap (λ c. where_true c (of_node f s k)) (is f s k ∙ ap (λ c. c && ((s == a.station) && (k == place (length (starts f s))))) (flip f a.fleet)
-        ∙ ap (λ c. (a.fleet == f) && (c && (k == place (length (starts f s))))) (flip s a.station) ∙ ap (λ c. (a.fleet == f) && ((a.station == s) && c)) (flip k (place (length (starts f s)))))
+        ∙ ap (λ c. where_true c (of_node f s k)) (is f s k ∙ ap (λ c. c && ((s == a.station) && (k == place (length (starts f s))))) (turned f a.fleet)
+        ∙ ap (λ c. (a.fleet == f) && (c && (k == place (length (starts f s))))) (turned s a.station) ∙ ap (λ c. (a.fleet == f) && ((a.station == s) && c)) (turned k (place (length (starts f s)))))
         ∙ three_tests (a.fleet == f) (a.station == s) (place (length (starts f s)) == k) (of_node f s k))
         ∙ pick_nodes (fleets_in t) (stations_in t) a.fleet a.station (λ f s. length (starts f s)) (λ f s k. where_true (place (length (starts f s)) == k) (of_node f s k)) is_node.fleet is_node.station
         ∙ sum_below_ℤ-one (place (length (starts a.fleet a.station))) (of_node a.fleet a.station) (length (starts a.fleet a.station)) short
@@ -212,7 +210,7 @@ module _ (t : Tables) (starts : Starts) (y : ℕ → ℤ) where
     ground_counts =
         sum_below_ℤ-same (λ f. of_fleet f *ℤ one_if (passes_start starts f a)) (λ f. where_true (a.fleet == f) (where_true (length (starts f a.station) == a.place + 1) (of_fleet f))) (fleets_in t)
         (λ f known. times_one_if (passes_start starts f a) (of_fleet f) ∙ two_deep (f == a.fleet) (length (starts f a.station) == a.place + 1) (of_fleet f)
-        ∙ ap (λ c. where_true c (where_true (length (starts f a.station) == a.place + 1) (of_fleet f))) (flip f a.fleet))
+        ∙ ap (λ c. where_true c (where_true (length (starts f a.station) == a.place + 1) (of_fleet f))) (turned f a.fleet))
         ∙ sum_below_ℤ-one a.fleet (λ f. where_true (length (starts f a.station) == a.place + 1) (of_fleet f)) (fleets_in t) is_node.fleet
 
     pub down_ground : down (λ line. entry_of t starts line (Ground a))
@@ -225,7 +223,7 @@ module _ (t : Tables) (starts : Starts) (y : ℕ → ℤ) where
   -- ---- a slack
   pub down_slack : (g : ℕ) → g < fleets_in t → down (λ line. entry_of t starts line (Slack g)) ≡ of_fleet g
   down_slack g known =
-      let counts = sum_below_ℤ-same (λ f. of_fleet f *ℤ one_if (f == g)) (λ f. where_true (g == f) (of_fleet f)) (fleets_in t) (λ f less. times_one_if (f == g) (of_fleet f) ∙ ap (λ b. where_true b (of_fleet f)) (flip f g))
+      let counts = sum_below_ℤ-same (λ f. of_fleet f *ℤ one_if (f == g)) (λ f. where_true (g == f) (of_fleet f)) (fleets_in t) (λ f less. times_one_if (f == g) (of_fleet f) ∙ ap (λ b. where_true b (of_fleet f)) (turned f g))
       ∙ sum_below_ℤ-one g of_fleet (fleets_in t) known in
       by_kinds (λ line. entry_of t starts line (Slack g)) ∙ omega (arith, ints, no_covers (λ line. entry_of t starts line (Slack g)) (λ l. refl), no_balances (λ line. entry_of t starts line (Slack g)) (λ n. refl), counts, no_parkings (λ line. entry_of t starts line (Slack g)) (λ p. refl))
 
