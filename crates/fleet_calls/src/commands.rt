@@ -1,5 +1,4 @@
-//! What words ask for, and that words past a limit ask for nothing. Further words that ask for nothing stand with the
-//! runs of the program.
+//! What words ask for. Words that ask for nothing stand with the runs of the program.
 use command_words::{Command, RotationLimits, SearchLimits, SolveOptions, command_of};
 use fleet_model::{Settings, TableOptions};
 use std::alloc::Global;
@@ -61,20 +60,6 @@ const SOLVE: &[SolveLine] = &[
     ),
     (
         (
-            "fleetplan solve d --nodes 1000000",
-            "d",
-            180,
-            1,
-            60,
-            3,
-            200_000,
-        ),
-        1_000_000,
-        Some(20_000),
-        false,
-    ),
-    (
-        (
             "fleetplan solve --pivots 0 d --nodes 0",
             "d",
             180,
@@ -85,34 +70,6 @@ const SOLVE: &[SolveLine] = &[
         ),
         0,
         Some(0),
-        false,
-    ),
-    (
-        (
-            "fleetplan solve d --pivots 1000000",
-            "d",
-            180,
-            1,
-            60,
-            3,
-            200_000,
-        ),
-        1000,
-        Some(1_000_000),
-        false,
-    ),
-    (
-        (
-            "fleetplan solve d --through-max 0",
-            "d",
-            180,
-            1,
-            0,
-            3,
-            200_000,
-        ),
-        1000,
-        Some(20_000),
         false,
     ),
     (
@@ -136,12 +93,6 @@ const SOLVE: &[SolveLine] = &[
         false,
     ),
     (
-        ("fleetplan solve --days 1 d", "d", 180, 1, 60, 1, 200_000),
-        1000,
-        Some(20_000),
-        false,
-    ),
-    (
         (
             "fleetplan solve d --days 30 --visits 0",
             "d",
@@ -154,40 +105,6 @@ const SOLVE: &[SolveLine] = &[
         1000,
         Some(20_000),
         false,
-    ),
-    (
-        (
-            "fleetplan solve d --visits=1000000",
-            "d",
-            180,
-            1,
-            60,
-            3,
-            1_000_000,
-        ),
-        1000,
-        Some(20_000),
-        false,
-    ),
-    (
-        ("fleetplan solve d --json", "d", 180, 1, 60, 3, 200_000),
-        1000,
-        Some(20_000),
-        true,
-    ),
-    (
-        (
-            "fleetplan solve --json --days 2 --visits 1 d",
-            "d",
-            180,
-            1,
-            60,
-            2,
-            1,
-        ),
-        1000,
-        Some(20_000),
-        true,
     ),
     (
         (
@@ -205,20 +122,6 @@ const SOLVE: &[SolveLine] = &[
     ),
     (
         (
-            "fleetplan solve --all-pivots d",
-            "d",
-            180,
-            1,
-            60,
-            3,
-            200_000,
-        ),
-        1000,
-        None,
-        false,
-    ),
-    (
-        (
             "fleetplan solve d --pivots 0 --json --all-pivots",
             "d",
             180,
@@ -231,83 +134,6 @@ const SOLVE: &[SolveLine] = &[
         None,
         true,
     ),
-];
-
-const NOTHING: &[&str] = &[
-    "fleetplan solve d --all-pivots --all-pivots",
-    "fleetplan solve d --all-pivots=x",
-    "fleetplan solve d --all-pivots --pivots 1000001",
-    "fleetplan check d --all-pivots",
-    "fleetplan judge d --all-pivots",
-    "fleetplan whatif d F1 1 --all-pivots",
-    "fleetplan tails d 2025-02-28 2 --all-pivots",
-    "fleetplan make d 1 2 --all-pivots",
-    "fleetplan solve d --through-max 1440",
-    "fleetplan solve d --through-max 60 --through-max 60",
-    "fleetplan judge d --period 0",
-    "fleetplan judge d --period 8",
-    "fleetplan judge d --period -1",
-    "fleetplan judge d --period +1",
-    "fleetplan judge d --period",
-    "fleetplan judge d --period=",
-    "fleetplan judge d --period 1 --period 1",
-    "fleetplan check d --period 8",
-    "fleetplan solve d --period 0",
-    "fleetplan tails d 2025-02-28 2 --period 8",
-    "fleetplan make d 1 2 --period 1",
-    "fleetplan solve d --days 0",
-    "fleetplan solve d --days 31",
-    "fleetplan solve d --days +3",
-    "fleetplan solve d --days",
-    "fleetplan solve d --visits 1000001",
-    "fleetplan solve d --visits -1",
-    "fleetplan solve d --json --json",
-    "fleetplan solve d --json=x",
-    "fleetplan solve d --json=true",
-    "fleetplan solve d --json true",
-    "fleetplan judge d --json",
-    "fleetplan judge d --through-max 60",
-    "fleetplan check d --days 3",
-    "fleetplan check d --visits 5",
-    "fleetplan tails d",
-    "fleetplan tails d 2025-02-28",
-    "fleetplan tails d 2025-02-28 2 3",
-    "fleetplan whatif d F1",
-    "fleetplan whatif d F1 501",
-    "fleetplan whatif d F1 -- -1",
-    "fleetplan whatif d F1 1 2",
-    "fleetplan whatif d F1 1 --nodes 5",
-    "fleetplan tails d 2025-02-28 2 --json",
-    "fleetplan tails d 2025-02-28 2 --nodes 5",
-    "fleetplan tails d 2025-02-28 2 --days 31",
-    "fleetplan tails d 2025-02-28 0",
-    "fleetplan tails d 2025-02-28 367",
-    "fleetplan tails d 2025-02-28 000000000000000000002",
-    "fleetplan due d",
-    "fleetplan due d 2025-02-28 0",
-    "fleetplan due d 2025-02-28 367",
-    "fleetplan due d 2025-02-29 1",
-    "fleetplan due d 2025-02-28 2 --json",
-    "fleetplan due d 2025-02-28 2 --days 31",
-    "fleetplan due d T1 2025-02-28 2",
-    "fleetplan tails d 2025-02-28 +2",
-    "fleetplan tails d 2025-02-28 -- -2",
-    "fleetplan tails d 2025-02-29 1",
-    "fleetplan tails d 1900-02-29 1",
-    "fleetplan tails d 2025-04-31 1",
-    "fleetplan tails d 2025-13-01 1",
-    "fleetplan tails d 2025-00-01 1",
-    "fleetplan tails d 2025-01-00 1",
-    "fleetplan tails d 0000-01-01 1",
-    "fleetplan tails d 9999-12-31 2",
-    "fleetplan tails d 9999-01-01 366",
-    "fleetplan tails d 2025-2-28 1",
-    "fleetplan tails d 2025-02-028 1",
-    "fleetplan tails d 02025-02-28 1",
-    "fleetplan tails d 2025/02/28 1",
-    "fleetplan tails d 20250228 1",
-    "fleetplan tails d +025-02-28 1",
-    "fleetplan tails d 2025-02-2x 1",
 ];
 
 fn words_of(alloc: Global, line: &str) -> Result<Vec<String>, Fail> {
@@ -384,14 +210,6 @@ fn lines_that_solve(rt: HostRuntime) -> Result<(), Fail> {
             },
         };
         assert_asks(&rt, line, &Some(wanted))?;
-    }
-    Ok(())
-}
-
-#[test]
-fn lines_that_ask_for_nothing(rt: HostRuntime) -> Result<(), Fail> {
-    for line in NOTHING {
-        assert_asks(&rt, line, &None)?;
     }
     Ok(())
 }

@@ -187,7 +187,6 @@ const ROTATED: &[Twice] = &[
         Begin(b"outcome: optimal\n"),
         &[],
     ),
-    (BANK_APART, SOLVE, DONE, Begin(b"outcome: optimal\n"), &[]),
     (
         SIX_PLANNED,
         "fleetplan tails d 2025-02-28 5 --day-start 00:00 --days 3",
@@ -195,6 +194,15 @@ const ROTATED: &[Twice] = &[
         Begin(b"2025-02-28 F1/1: "),
         &[],
     ),
+];
+
+#[test]
+fn rotations_are_made_twice(rt: HostRuntime) -> Result<(), Fail> {
+    run_twice(&rt, ROTATED)
+}
+
+const THROUGH_A_BANK: &[Twice] = &[
+    (BANK_APART, SOLVE, DONE, Begin(b"outcome: optimal\n"), &[]),
     (
         BANK_APART,
         "fleetplan tails d 2025-02-28 3 --day-start 00:00",
@@ -205,6 +213,6 @@ const ROTATED: &[Twice] = &[
 ];
 
 #[test]
-fn rotations_are_made_twice(rt: HostRuntime) -> Result<(), Fail> {
-    run_twice(&rt, ROTATED)
+fn through_pairs_are_chosen_twice(rt: HostRuntime) -> Result<(), Fail> {
+    run_twice(&rt, THROUGH_A_BANK)
 }

@@ -55,6 +55,10 @@ const NOTHING_TO_JUDGE: &[&str] = &[
     "fleetplan judge d --day-starts 00:00",
     "fleetplan judge d --day-start 00:00 --day-start 00:00",
     "fleetplan judge d --period 8",
+    "fleetplan judge d --period 0",
+    "fleetplan judge d --period +1",
+    "fleetplan judge d --period=",
+    "fleetplan judge d --period 1 --period 1",
     "fleetplan judge d --windows --windows",
     "fleetplan judge d --windows=true",
     "fleetplan judge d --windows true",
@@ -64,6 +68,8 @@ const NOTHING_TO_JUDGE: &[&str] = &[
     "fleetplan judge d --nodes 1",
     "fleetplan judge d --json",
     "fleetplan judge d --days 3",
+    "fleetplan judge d --through-max 60",
+    "fleetplan judge d --all-pivots",
     "fleetplan judge d -- --day-start 00:00",
     "fleetplan judge d --help",
     "fleetplan judge d -h",
@@ -78,12 +84,14 @@ const NOTHING_TO_CHECK: &[&str] = &[
     "fleetplan check d --day-start 24:00",
     "fleetplan check d --day-start 00:00 --day-start 00:00",
     "fleetplan check d --period 0",
+    "fleetplan check d --period 8",
     "fleetplan check d --windows --optional --windows",
     "fleetplan check d --optional=true",
     "fleetplan check d --nodes 1",
     "fleetplan check d --pivots 0",
     "fleetplan check d --json",
     "fleetplan check d --visits 0",
+    "fleetplan check d --days 3",
     "fleetplan check d --all-pivots",
     "fleetplan check d -- --day-start 00:00",
     "fleetplan check --help",
@@ -110,6 +118,7 @@ const NOTHING_TO_SOLVE: &[&str] = &[
     "fleetplan solve d --all-pivots --pivots 1000001",
     "fleetplan solve d --day-start 24:00",
     "fleetplan solve d --period 2 --period 2",
+    "fleetplan solve d --period 0",
     "fleetplan solve d --windows --windows",
     "fleetplan solve d --optional 1",
     "fleetplan solve d --day-start",
@@ -126,8 +135,10 @@ const NO_ROTATIONS_TO_SOLVE: &[&str] = &[
     "fleetplan solve d --days 3 --days 3",
     "fleetplan solve d --visits 1000001",
     "fleetplan solve d --visits=",
+    "fleetplan solve d --visits -1",
     "fleetplan solve d --through-max 1440",
     "fleetplan solve d --through-max -1",
+    "fleetplan solve d --through-max 60 --through-max 60",
     "fleetplan solve d --through-max 01:00",
     "fleetplan solve d --json --json",
     "fleetplan solve d --json=true",
@@ -148,13 +159,25 @@ const NOTHING_TO_FLY: &[&str] = &[
     "fleetplan tails d 2025-02-28 1 --through-max 1440",
     "fleetplan tails d 2025-02-28 1 --day-start 24:00",
     "fleetplan tails d 2025-02-28 1 --period -1",
+    "fleetplan tails d 2025-02-28 1 --period 8",
     "fleetplan tails d 2025-02-28 1 --optional --optional",
     "fleetplan tails d 2025-02-28 1 --windows=1",
-    "fleetplan due d 2025-02-28 1 --windows --windows",
     "fleetplan tails d 2025-02-28 1 --nodes 1",
     "fleetplan tails d 2025-02-28 1 --pivots 0",
+    "fleetplan tails d 2025-02-28 1 --all-pivots",
     "fleetplan tails d 2025-02-28 1 --json",
     "fleetplan tails d 2025-02-28 1 --help",
+];
+
+const NOTHING_DUE: &[&str] = &[
+    "fleetplan due d",
+    "fleetplan due d T1 2025-02-28 2",
+    "fleetplan due d 2025-02-28 0",
+    "fleetplan due d 2025-02-28 367",
+    "fleetplan due d 2025-02-29 1",
+    "fleetplan due d 2025-02-28 2 --json",
+    "fleetplan due d 2025-02-28 2 --days 31",
+    "fleetplan due d 2025-02-28 1 --windows --windows",
 ];
 
 // No even number of legs up to 1,000, no number of 31 bits, and no option.
@@ -179,6 +202,7 @@ const NOTHING_TO_MAKE: &[&str] = &[
     "fleetplan make d 1 2 --days 3",
     "fleetplan make d 1 2 --through-max 60",
     "fleetplan make d 1 2 --nodes 1",
+    "fleetplan make d 1 2 --all-pivots",
     "fleetplan make d 1 2 --json",
     "fleetplan make d 1 2 --help",
 ];
@@ -192,6 +216,7 @@ const NOTHING_TO_ASK: &[&str] = &[
     "fleetplan whatif d 1 F1",
     "fleetplan whatif d F1 501",
     "fleetplan whatif d F1 -1",
+    "fleetplan whatif d F1 -- -1",
     "fleetplan whatif d F1 +1",
     "fleetplan whatif d F1 one",
     "fleetplan whatif d F1 000000000000000000001",
@@ -203,6 +228,7 @@ const NOTHING_TO_ASK: &[&str] = &[
     "fleetplan whatif d F1 1 --through-max 60",
     "fleetplan whatif d F1 1 --days 3",
     "fleetplan whatif d F1 1 --nodes 1",
+    "fleetplan whatif d F1 1 --all-pivots",
     "fleetplan whatif d F1 1 --json",
     "fleetplan whatif d F1 1 --help",
     "fleetplan what-if d F1 1",
@@ -213,6 +239,7 @@ const NO_DATES: &[&str] = &[
     "fleetplan tails d 2025-02-28 0",
     "fleetplan tails d 2025-02-28 367",
     "fleetplan tails d 2025-02-28 -1",
+    "fleetplan tails d 2025-02-28 -- -1",
     "fleetplan tails d 2025-02-28 +1",
     "fleetplan tails d 2025-02-28 1.0",
     "fleetplan tails d 2025-02-28 000000000000000000001",
@@ -227,6 +254,9 @@ const NO_DATES: &[&str] = &[
     "fleetplan tails d 9999-01-01 366",
     "fleetplan tails d 10000-01-01 1",
     "fleetplan tails d 2025-2-28 1",
+    "fleetplan tails d 2025-02-028 1",
+    "fleetplan tails d 02025-02-28 1",
+    "fleetplan tails d 2025-02-2x 1",
     "fleetplan tails d 2025/02/28 1",
     "fleetplan tails d 20250228 1",
     "fleetplan tails d +025-02-28 1",
@@ -327,6 +357,7 @@ fn lines_without_dates(rt: HostRuntime) -> Result<(), Fail> {
 
 #[test]
 fn lines_without_another_size(rt: HostRuntime) -> Result<(), Fail> {
+    run_lines(&rt, NOTHING_DUE, REFUSED_WORDS)?;
     run_lines(&rt, NOTHING_TO_ASK, REFUSED_WORDS)
 }
 
