@@ -103,8 +103,8 @@ pub const SOLVED: &[Case] = &[
     ),
 ];
 
-/// The plan's text comes first, then its verdict, then the tree, which breaks a rule in all of these but the last two.
-pub const REFUSED_PLANS: &[Case] = &[
+/// The plan's text comes first, then its verdict, then the tree, which breaks a rule in all of these.
+pub const BESIDE_A_BROKEN_PROOF: &[Case] = &[
     (
         &[BROKEN, Laid::Bytes(Plan, b"flight,fleet\nX1,F1\nX1,F1\n")],
         REFUSED,
@@ -138,7 +138,10 @@ pub const REFUSED_PLANS: &[Case] = &[
         b"not allowed: X2\n",
     ),
     (&[BROKEN], REFUSED, b"broken: node 1 rule 5\n"),
-    // Beside a proof that holds of another plan.
+];
+
+/// The same beside a proof that holds of another plan.
+pub const BESIDE_ANOTHER_PROOF: &[Case] = &[
     (
         &[PRICED, Laid::Bytes(Plan, b"flight,fleet\nX1,F1\nX1,F1\n")],
         REFUSED,

@@ -27,7 +27,9 @@ const GAINS: Laid<'static> = Laid::Bytes(
     b"flight,fleet,cost\nX1,F2,-1000000000000\nX2,F2,-1000000000000\n",
 );
 
-/// Plans over the tables of the first run. Each row with status 0 also refuses a program that always wants memory.
+// Each row with status 0 also refuses a program that always wants memory.
+
+/// Plans over the tables of the first run.
 pub const PLANS: &[Case] = &[
     (&[], DONE, LEGAL),
     (&[Laid::Away(Legs)], FAULT, b"fault: legs.csv\n"),
@@ -49,6 +51,10 @@ pub const PLANS: &[Case] = &[
         REFUSED,
         b"too many: F2 used 1 of 0\n",
     ),
+];
+
+/// Plans by what their pairs cost, of which some have no cost.
+pub const BY_COSTS: &[Case] = &[
     (&[THREE_COSTS, SECOND_FLEET], REFUSED, b"not allowed: X2\n"),
     // Said before unbalanced.
     (&[THREE_COSTS, THERE], REFUSED, b"not allowed: X2\n"),

@@ -119,7 +119,11 @@ const NIGHTS: &[Case] = &[
 
 #[test]
 fn nights_with_room(rt: HostRuntime) -> Result<(), Fail> {
-    run_cases(&rt, JUDGE, ROUND_TRIPS)?;
+    run_cases(&rt, JUDGE, ROUND_TRIPS)
+}
+
+#[test]
+fn nights_of_two_aircraft(rt: HostRuntime) -> Result<(), Fail> {
     run_cases(&rt, JUDGE, NIGHTS)
 }
 

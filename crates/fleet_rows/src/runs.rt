@@ -12,6 +12,11 @@ fn plans_that_are_judged(rt: HostRuntime) -> Result<(), Fail> {
 }
 
 #[test]
+fn plans_by_their_costs(rt: HostRuntime) -> Result<(), Fail> {
+    run_cases(&rt, JUDGE, judging::BY_COSTS)
+}
+
+#[test]
 fn plans_of_two_fleets(rt: HostRuntime) -> Result<(), Fail> {
     run_cases(&rt, JUDGE, judging::TWO_FLEETS)
 }
@@ -28,7 +33,11 @@ fn fleets_in_use(rt: HostRuntime) -> Result<(), Fail> {
 
 #[test]
 fn files_in_their_order(rt: HostRuntime) -> Result<(), Fail> {
-    run_cases(&rt, JUDGE, files::ORDER)?;
+    run_cases(&rt, JUDGE, files::ORDER)
+}
+
+#[test]
+fn faults_in_their_order(rt: HostRuntime) -> Result<(), Fail> {
     run_cases(&rt, JUDGE, faults::ORDER)
 }
 
@@ -48,8 +57,13 @@ const CHECK_FROM_THREE: &str = "fleetplan check d";
 const CHECK_FROM_NINE: &str = "fleetplan check d --day-start 09:00";
 
 #[test]
-fn plans_beside_a_proof(rt: HostRuntime) -> Result<(), Fail> {
-    run_cases(&rt, CHECK, checking::REFUSED_PLANS)
+fn plans_beside_a_broken_proof(rt: HostRuntime) -> Result<(), Fail> {
+    run_cases(&rt, CHECK, checking::BESIDE_A_BROKEN_PROOF)
+}
+
+#[test]
+fn plans_beside_another_proof(rt: HostRuntime) -> Result<(), Fail> {
+    run_cases(&rt, CHECK, checking::BESIDE_ANOTHER_PROOF)
 }
 
 #[test]

@@ -254,7 +254,11 @@ fn bounds_of_prices(rt: HostRuntime) -> Result<(), Fail> {
 
 #[test]
 fn refuted_leaves(rt: HostRuntime) -> Result<(), Fail> {
-    run_asked(&rt, REFUTED_LEAVES)?;
+    run_asked(&rt, REFUTED_LEAVES)
+}
+
+#[test]
+fn fleets_that_are_unknown(rt: HostRuntime) -> Result<(), Fail> {
     run_asked(&rt, FLEETS)
 }
 
