@@ -153,7 +153,7 @@ pub fn assert_asks<R: Abort + Alloc<A = Global>>(
     let words = words_of(rt.alloc(), line)?;
     match command_of(rt.alloc(), words.as_slice()) {
         Ok(command) => {
-            assert!(rt; command == *wanted, "{line}: {command:?}");
+            assert!(rt; command == *wanted, "{line}");
             Ok(())
         }
         Err(error) => Err(Fail::from(error)),
