@@ -8,6 +8,8 @@ import time
 # Seconds of a crate that the file lacks, and how many planned seconds have to be over before a pace is told.
 UNKNOWN = 40
 FIRST = 60
+# The file tells what `rt ci` took. `rt lib` and `rt run` load more: by so much longer two builds of 2026-11-30 took for the last two.
+LOADING = {"fleet_cli": 1.6, "fleetplan": 2.7}
 
 
 def seconds_in(file):
@@ -24,7 +26,7 @@ class Forecast:
 
     def __init__(self, file, below, program, processors):
         found = seconds_in(file)
-        self.seconds = {it: found.get(it, UNKNOWN) for it in (*below, program)}
+        self.seconds = {it: LOADING.get(it, 1) * found.get(it, UNKNOWN) for it in (*below, program)}
         self.program = program
         self.below, self.processors, self.began = below, processors, time.monotonic()
 
