@@ -27,9 +27,7 @@ const GAINS: Laid<'static> = Laid::Bytes(
     b"flight,fleet,cost\nX1,F2,-1000000000000\nX2,F2,-1000000000000\n",
 );
 
-// Each row with status 0 also refuses a program that always wants memory.
-
-/// Plans over the tables of the first run.
+/// Plans over the tables of the first run. Each row with status 0 also refuses a program that always wants memory.
 pub const PLANS: &[Case] = &[
     (&[], DONE, LEGAL),
     (&[Laid::Away(Legs)], FAULT, b"fault: legs.csv\n"),

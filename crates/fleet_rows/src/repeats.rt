@@ -201,6 +201,7 @@ fn rotations_are_made_twice(rt: HostRuntime) -> Result<(), Fail> {
     run_twice(&rt, ROTATED)
 }
 
+// The same of through pairs that are chosen.
 const THROUGH_A_BANK: &[Twice] = &[
     (BANK_APART, SOLVE, DONE, Begin(b"outcome: optimal\n"), &[]),
     (

@@ -58,6 +58,8 @@ const NOTHING_TO_JUDGE: &[&str] = &[
     "fleetplan judge d --period 0",
     "fleetplan judge d --period +1",
     "fleetplan judge d --period=",
+    "fleetplan judge d --period",
+    "fleetplan judge d --period -1",
     "fleetplan judge d --period 1 --period 1",
     "fleetplan judge d --windows --windows",
     "fleetplan judge d --windows=true",
@@ -352,12 +354,12 @@ fn lines_without_rotations(rt: HostRuntime) -> Result<(), Fail> {
 #[test]
 fn lines_without_dates(rt: HostRuntime) -> Result<(), Fail> {
     run_lines(&rt, NOTHING_TO_FLY, REFUSED_WORDS)?;
+    run_lines(&rt, NOTHING_DUE, REFUSED_WORDS)?;
     run_lines(&rt, NO_DATES, REFUSED_WORDS)
 }
 
 #[test]
 fn lines_without_another_size(rt: HostRuntime) -> Result<(), Fail> {
-    run_lines(&rt, NOTHING_DUE, REFUSED_WORDS)?;
     run_lines(&rt, NOTHING_TO_ASK, REFUSED_WORDS)
 }
 
