@@ -120,10 +120,10 @@ module _ (v : Version) (t : Tables) where
   inner_first above x a read e = by_node read.0 (node_was v t above (x ∷ a) read e).order (node_was v t above (x ∷ a) read e).text
     where
       by_node : (n : Node) → IsNodeInOrder t n → x ∷ a ≡ texts t (node_lines t n) ++ read.1 → 0 < inner_of n → is_inner_line x ≡ true
-      by_node (node.Trim leg fleet) order text some =
-          ap (λ y. is_inner_line y) (first_same x (line_bytes t (says.Trim leg fleet)) _ _ text) ∙ inner_line (says.Trim leg fleet) order refl
-      by_node (node.Split leg fleet prices mixed) order text some =
-          ap (λ y. is_inner_line y) (first_same x (line_bytes t (says.Split leg fleet)) _ _ text) ∙ inner_line (says.Split leg fleet) order.0 refl
+      by_node (node.Trim leg choice) order text some =
+          ap (λ y. is_inner_line y) (first_same x (line_bytes t (says.Trim leg choice)) _ _ text) ∙ inner_line (says.Trim leg choice) order refl
+      by_node (node.Split leg choice prices mixed) order text some =
+          ap (λ y. is_inner_line y) (first_same x (line_bytes t (says.Split leg choice)) _ _ text) ∙ inner_line (says.Split leg choice) order.0 refl
       by_node other order text some = absurd (omega (arith, some))
 
   inner_counts : (above : ℕ) (x : List ℕ) (p a : Left) (read : Node × Left) → node_at (names v t) above (x ∷ a) ≡ Ok read → inner_of read.0 + count_by is_inner_line p ≤ count_by is_inner_line (x ∷ p)
@@ -134,9 +134,9 @@ module _ (v : Version) (t : Tables) where
       by_size (suc k) some = omega (arith, at_most_one (is_inner read.0), count_inner x p (inner_first above x a read e (omega (arith, some))))
 
   lines_count : (n : Node) → IsNodeInOrder t n → inner_of n ≤ count_by is_inner_line (texts t (node_lines t n))
-  lines_count (node.Trim leg fleet) order = omega (arith, count_inner (line_bytes t (says.Trim leg fleet)) [] (inner_line (says.Trim leg fleet) order refl))
-  lines_count (node.Split leg fleet prices mixed) order =
-      omega (arith, count_inner (line_bytes t (says.Split leg fleet)) (texts t (price_lines t prices ++ mixed_lines mixed)) (inner_line (says.Split leg fleet) order.0 refl))
+  lines_count (node.Trim leg choice) order = omega (arith, count_inner (line_bytes t (says.Trim leg choice)) [] (inner_line (says.Trim leg choice) order refl))
+  lines_count (node.Split leg choice prices mixed) order =
+      omega (arith, count_inner (line_bytes t (says.Split leg choice)) (texts t (price_lines t prices ++ mixed_lines mixed)) (inner_line (says.Split leg choice) order.0 refl))
   lines_count other order = omega arith
 
   node_counts : (above : ℕ) (n : Node) (p rest end : Left) → node_at (names v t) above (p ++ end) ≡ Ok (n, rest ++ end) → inner_of n + count_by is_inner_line rest ≤ count_by is_inner_line p

@@ -18,8 +18,8 @@ IsNodeOf t node.Sole = ⊤
 IsNodeOf t (node.Refuted prices) = ArePricesOf t prices
 IsNodeOf t (node.Priced prices) = ArePricesOf t prices
 IsNodeOf t (node.Open prices why) = ArePricesOf t prices × IsCauseOf t why
-IsNodeOf t (node.Trim leg fleet) = IsPair t (leg_on leg fleet)
-IsNodeOf t (node.Split leg fleet prices mixed) = IsPair t (leg_on leg fleet) × ArePricesOf t prices × IsMixedOf t mixed
+IsNodeOf t (node.Trim leg choice) = IsPair t (leg_on leg choice)
+IsNodeOf t (node.Split leg choice prices mixed) = IsPair t (leg_on leg choice) × ArePricesOf t prices × IsMixedOf t mixed
 
 -- a tree whose nodes are of the tables is
 pub left_part : {X : Type 0} (P : X → Type 0) (xs ys : List X) → All P (xs ++ ys) → All P xs
@@ -36,15 +36,15 @@ tree_of t tree.Sole are = tt
 tree_of t (tree.Refuted prices) are = All-head (IsNodeOf t) (node.Refuted prices) [] are
 tree_of t (tree.Priced prices) are = All-head (IsNodeOf t) (node.Priced prices) [] are
 tree_of t (tree.Open prices why) are = All-head (IsNodeOf t) (node.Open prices why) [] are
-tree_of t (tree.Trim' leg fleet p with_pair q without) are =
+tree_of t (tree.Trim' leg choice p with_pair q without) are =
     let nodes = nodes_of with_pair ++ nodes_of without in
-    let first = All-head (IsNodeOf t) (node.Trim leg fleet) nodes are in
-    let others = All-tail (IsNodeOf t) (node.Trim leg fleet) nodes are in
+    let first = All-head (IsNodeOf t) (node.Trim leg choice) nodes are in
+    let others = All-tail (IsNodeOf t) (node.Trim leg choice) nodes are in
     (first, tree_of t with_pair (left_part (IsNodeOf t) (nodes_of with_pair) (nodes_of without) others), tree_of t without (right_part (IsNodeOf t) (nodes_of with_pair) (nodes_of without) others))
-tree_of t (tree.Split' leg fleet prices mixed p with_pair q without) are =
+tree_of t (tree.Split' leg choice prices mixed p with_pair q without) are =
     let nodes = nodes_of with_pair ++ nodes_of without in
-    let first = All-head (IsNodeOf t) (node.Split leg fleet prices mixed) nodes are in
-    let others = All-tail (IsNodeOf t) (node.Split leg fleet prices mixed) nodes are in
+    let first = All-head (IsNodeOf t) (node.Split leg choice prices mixed) nodes are in
+    let others = All-tail (IsNodeOf t) (node.Split leg choice prices mixed) nodes are in
     (first.0, first.1, first.2, tree_of t with_pair (left_part (IsNodeOf t) (nodes_of with_pair) (nodes_of without) others), tree_of t without (right_part (IsNodeOf t) (nodes_of with_pair) (nodes_of without) others))
 
 -- .. and its nodes are where it is
@@ -57,9 +57,9 @@ nodes_are t tree.Sole is = one_node t node.Sole tt
 nodes_are t (tree.Refuted prices) is = one_node t (node.Refuted prices) is
 nodes_are t (tree.Priced prices) is = one_node t (node.Priced prices) is
 nodes_are t (tree.Open prices why) is = one_node t (node.Open prices why) is
-nodes_are t (tree.Trim' leg fleet p with_pair q without) is =
-    All-cons (IsNodeOf t) (node.Trim leg fleet) (nodes_of with_pair ++ nodes_of without) is.0
+nodes_are t (tree.Trim' leg choice p with_pair q without) is =
+    All-cons (IsNodeOf t) (node.Trim leg choice) (nodes_of with_pair ++ nodes_of without) is.0
     (All-append (IsNodeOf t) (nodes_of with_pair) (nodes_of without) (nodes_are t with_pair is.1) (nodes_are t without is.2))
-nodes_are t (tree.Split' leg fleet prices mixed p with_pair q without) is =
-    All-cons (IsNodeOf t) (node.Split leg fleet prices mixed) (nodes_of with_pair ++ nodes_of without) (is.0, is.1, is.2)
+nodes_are t (tree.Split' leg choice prices mixed p with_pair q without) is =
+    All-cons (IsNodeOf t) (node.Split leg choice prices mixed) (nodes_of with_pair ++ nodes_of without) (is.0, is.1, is.2)
     (All-append (IsNodeOf t) (nodes_of with_pair) (nodes_of without) (nodes_are t with_pair is.3) (nodes_are t without is.4))

@@ -88,15 +88,15 @@ module _ (v : Version) (t : Tables) where
       → middle ≡ texts t (mixed_lines mixed) ++ behind → IsLineOf t (first_line (head.Mixed h)) → BodyWas v t (head.Mixed h) rest (mixed_node h prices mixed, behind)
   mixed_node_was fraction.Nodes prices mixed rest middle behind order tells other e f is =
       record { order = (order, (other)); tells = tells; text = prices_and_mixed says.OpenNodes prices mixed rest middle behind e f }
-  mixed_node_was (fraction.Split leg fleet) prices mixed rest middle behind order tells other e f is =
-      record { order = (is.named, order, other); tells = tells; text = prices_and_mixed (says.Split leg fleet) prices mixed rest middle behind e f }
+  mixed_node_was (fraction.Split leg choice) prices mixed rest middle behind order tells other e f is =
+      record { order = (is.named, order, other); tells = tells; text = prices_and_mixed (says.Split leg choice) prices mixed rest middle behind e f }
 
   body_was : (h : Head) (rest : Left) (read : Node × Left) → body_at (names v t) h rest ≡ Ok read → IsLineOf t (first_line h) → BodyWas v t h rest read
   unfolding body_at
   body_was (head.Alone (alone.Bare leg)) rest read e is = subst (λ r. BodyWas v t (head.Alone (alone.Bare leg)) rest r) (ok_same (node.Bare leg, rest) read e) (record { order = is.named; tells = tt; text = refl })
   body_was (head.Alone alone.Sole) rest read e is = subst (λ r. BodyWas v t (head.Alone alone.Sole) rest r) (ok_same (node.Sole, rest) read e) (record { order = tt; tells = tt; text = refl })
-  body_was (head.Alone (alone.Trim leg fleet)) rest read e is =
-      subst (λ r. BodyWas v t (head.Alone (alone.Trim leg fleet)) rest r) (ok_same (node.Trim leg fleet, rest) read e) (record { order = is.named; tells = tt; text = refl })
+  body_was (head.Alone (alone.Trim leg choice)) rest read e is =
+      subst (λ r. BodyWas v t (head.Alone (alone.Trim leg choice)) rest r) (ok_same (node.Trim leg choice, rest) read e) (record { order = is.named; tells = tt; text = refl })
   body_was (head.Priced h) rest read e is =
       let prices = goes (prices_at (names v t) rest) _ read e in
       let was = prices_were v t rest prices.value prices.is in

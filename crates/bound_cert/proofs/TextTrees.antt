@@ -89,12 +89,12 @@ leaf_depth : (above : ℕ) → above ≤ MAX_DEPTH → above + 0 ≤ MAX_DEPTH
 leaf_depth above le = omega (arith, le)
 
 depth_is : (whole : Tree) (above : Above) (more : List Node) → Within above (nodes_of whole ++ more) → Deep above whole more
-depth_is (tree.Trim' leg fleet p with_pair q without) above more within =
+depth_is (tree.Trim' leg choice p with_pair q without) above more within =
     let others = subst (λ nodes. Within (false ∷ above) nodes) (append_assoc (nodes_of with_pair) (nodes_of without) more) within.1 in
     let first = depth_is with_pair (false ∷ above) (nodes_of without ++ more) others in
     let second = depth_is without (true ∷ above) more first.behind in
     record { depth = both_depths (length above) MAX_DEPTH (depth_of with_pair) (depth_of without) first.depth second.depth; behind = second.behind }
-depth_is (tree.Split' leg fleet prices mixed p with_pair q without) above more within =
+depth_is (tree.Split' leg choice prices mixed p with_pair q without) above more within =
     let others = subst (λ nodes. Within (false ∷ above) nodes) (append_assoc (nodes_of with_pair) (nodes_of without) more) within.1 in
     let first = depth_is with_pair (false ∷ above) (nodes_of without ++ more) others in
     let second = depth_is without (true ∷ above) more first.behind in

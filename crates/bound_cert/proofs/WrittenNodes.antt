@@ -39,26 +39,26 @@ use Rattle.proof_lines.specs.declared.line.Line.TheVariants as says
 abbrev pub first_line : Head → Line
 first_line (head.Alone (alone.Bare leg)) = says.Bare leg
 first_line (head.Alone alone.Sole) = says.Sole
-first_line (head.Alone (alone.Trim leg fleet)) = says.Trim leg fleet
+first_line (head.Alone (alone.Trim leg choice)) = says.Trim leg choice
 first_line (head.Priced priced.Refuted) = says.Refuted
 first_line (head.Priced priced.Closed) = says.Priced
 first_line (head.Priced (priced.Pivots made)) = says.OpenPivots made
 first_line (head.Priced (priced.Grew pivots row column)) = says.OpenGrew pivots row column
 first_line (head.Priced (priced.Lift step at)) = says.OpenLift step at
 first_line (head.Mixed fraction.Nodes) = says.OpenNodes
-first_line (head.Mixed (fraction.Split leg fleet)) = says.Split leg fleet
+first_line (head.Mixed (fraction.Split leg choice)) = says.Split leg choice
 
 head_read : (h : Head) (left : Left) → head_of (first_line h) left ≡ Ok h
 head_read (head.Alone (alone.Bare leg)) left = refl
 head_read (head.Alone alone.Sole) left = refl
-head_read (head.Alone (alone.Trim leg fleet)) left = refl
+head_read (head.Alone (alone.Trim leg choice)) left = refl
 head_read (head.Priced priced.Refuted) left = refl
 head_read (head.Priced priced.Closed) left = refl
 head_read (head.Priced (priced.Pivots made)) left = refl
 head_read (head.Priced (priced.Grew pivots row column)) left = refl
 head_read (head.Priced (priced.Lift step at)) left = refl
 head_read (head.Mixed fraction.Nodes) left = refl
-head_read (head.Mixed (fraction.Split leg fleet)) left = refl
+head_read (head.Mixed (fraction.Split leg choice)) left = refl
 
 -- it may stand where a node is due, in each version, and begins no rent, charge, step or weight
 record BeginsNode (form : Form) : Type 0 where
@@ -72,14 +72,14 @@ record BeginsNode (form : Form) : Type 0 where
 begins_node : (h : Head) → BeginsNode (form_of (first_line h))
 begins_node (head.Alone (alone.Bare leg)) = record { node = refl; no_rent = refl; no_charge = refl; no_step = refl; no_weight = refl; of_version = λ v. refl }
 begins_node (head.Alone alone.Sole) = record { node = refl; no_rent = refl; no_charge = refl; no_step = refl; no_weight = refl; of_version = λ v. refl }
-begins_node (head.Alone (alone.Trim leg fleet)) = record { node = refl; no_rent = refl; no_charge = refl; no_step = refl; no_weight = refl; of_version = λ v. refl }
+begins_node (head.Alone (alone.Trim leg choice)) = record { node = refl; no_rent = refl; no_charge = refl; no_step = refl; no_weight = refl; of_version = λ v. refl }
 begins_node (head.Priced priced.Refuted) = record { node = refl; no_rent = refl; no_charge = refl; no_step = refl; no_weight = refl; of_version = λ v. refl }
 begins_node (head.Priced priced.Closed) = record { node = refl; no_rent = refl; no_charge = refl; no_step = refl; no_weight = refl; of_version = λ v. refl }
 begins_node (head.Priced (priced.Pivots made)) = record { node = refl; no_rent = refl; no_charge = refl; no_step = refl; no_weight = refl; of_version = λ v. refl }
 begins_node (head.Priced (priced.Grew pivots row column)) = record { node = refl; no_rent = refl; no_charge = refl; no_step = refl; no_weight = refl; of_version = λ v. refl }
 begins_node (head.Priced (priced.Lift step at)) = record { node = refl; no_rent = refl; no_charge = refl; no_step = refl; no_weight = refl; of_version = λ v. refl }
 begins_node (head.Mixed fraction.Nodes) = record { node = refl; no_rent = refl; no_charge = refl; no_step = refl; no_weight = refl; of_version = λ v. refl }
-begins_node (head.Mixed (fraction.Split leg fleet)) = record { node = refl; no_rent = refl; no_charge = refl; no_step = refl; no_weight = refl; of_version = λ v. refl }
+begins_node (head.Mixed (fraction.Split leg choice)) = record { node = refl; no_rent = refl; no_charge = refl; no_step = refl; no_weight = refl; of_version = λ v. refl }
 
 module _ (v : Version) (t : Tables) where
   -- what the first line of a node says, and how its other lines read
@@ -153,7 +153,7 @@ module _ (v : Version) (t : Tables) where
   pub node_reads : (n : Node) → IsNodeInOrder t n → IsNodeIn v n → NodeReads n
   node_reads (node.Bare leg) is tells = alone_reads (alone.Bare leg) refl (record { named = is; figures = tt })
   node_reads node.Sole is tells = alone_reads alone.Sole refl (record { named = tt; figures = tt })
-  node_reads (node.Trim leg fleet) is tells = alone_reads (alone.Trim leg fleet) refl (record { named = is; figures = tt })
+  node_reads (node.Trim leg choice) is tells = alone_reads (alone.Trim leg choice) refl (record { named = is; figures = tt })
   node_reads (node.Refuted prices) is tells = priced_reads priced.Refuted prices (ap (λ lines. says.Refuted ∷ lines) (sym (append-nil (price_lines t prices)))) (record { named = tt; figures = tt }) is tells
   node_reads (node.Priced prices) is tells = priced_reads priced.Closed prices (ap (λ lines. says.Priced ∷ lines) (sym (append-nil (price_lines t prices)))) (record { named = tt; figures = tt }) is tells
   node_reads (node.Open prices (cause.Nodes mixed)) is tells = mixed_reads fraction.Nodes prices mixed refl (record { named = tt; figures = tt }) is.0 tells is.1
@@ -161,7 +161,7 @@ module _ (v : Version) (t : Tables) where
   node_reads (node.Open prices (cause.Grew pivots row column)) is tells =
       priced_reads (priced.Grew pivots row column) prices refl (record { named = tt; figures = (is.1.0.held, is.1.1.held, is.1.2.held) }) is.0 tells
   node_reads (node.Open prices (cause.Lift step at)) is tells = priced_reads (priced.Lift step at) prices refl (record { named = tt; figures = (is.1.0.held, is.1.1.held) }) is.0 tells
-  node_reads (node.Split leg fleet prices mixed) is tells = mixed_reads (fraction.Split leg fleet) prices mixed refl (record { named = is.0; figures = tt }) is.1 tells is.2
+  node_reads (node.Split leg choice prices mixed) is tells = mixed_reads (fraction.Split leg choice) prices mixed refl (record { named = is.0; figures = tt }) is.1 tells is.2
 
   pub node_read : (above : ℕ) (n : Node) (behind : Left) → IsNodeInOrder t n → IsNodeIn v n → above ≤ MAX_DEPTH → IsBehind behind → node_at (names v t) above (texts t (node_lines t n) ++ behind) ≡ Ok (n, behind)
   unfolding node_at head_at

@@ -112,11 +112,11 @@ below first above [] begins = begins
 below first above (n ∷ nodes) begins = begins
 
 tree_begins : (whole : Tree) (above : Above) (more : List Node) → length above + depth_of whole ≤ MAX_DEPTH → Goes (after_tree above) more → Begins above (nodes_of whole ++ more)
-tree_begins (tree.Trim' leg fleet p with_pair q without) above more shallow goes =
+tree_begins (tree.Trim' leg choice p with_pair q without) above more shallow goes =
     let second = tree_begins without (true ∷ above) more (right_depth (length above) MAX_DEPTH (depth_of with_pair) (depth_of without) shallow) goes in
     let first = tree_begins with_pair (false ∷ above) (nodes_of without ++ more) (left_depth (length above) MAX_DEPTH (depth_of with_pair) (depth_of without) shallow) (below true above (nodes_of without ++ more) second) in
     (omega (arith, shallow), subst (Goes (false ∷ above)) (sym (append_assoc (nodes_of with_pair) (nodes_of without) more)) (below false above (nodes_of with_pair ++ (nodes_of without ++ more)) first))
-tree_begins (tree.Split' leg fleet prices mixed p with_pair q without) above more shallow goes =
+tree_begins (tree.Split' leg choice prices mixed p with_pair q without) above more shallow goes =
     let second = tree_begins without (true ∷ above) more (right_depth (length above) MAX_DEPTH (depth_of with_pair) (depth_of without) shallow) goes in
     let first = tree_begins with_pair (false ∷ above) (nodes_of without ++ more) (left_depth (length above) MAX_DEPTH (depth_of with_pair) (depth_of without) shallow) (below true above (nodes_of without ++ more) second) in
     (omega (arith, shallow), subst (Goes (false ∷ above)) (sym (append_assoc (nodes_of with_pair) (nodes_of without) more)) (below false above (nodes_of with_pair ++ (nodes_of without ++ more)) first))
@@ -172,8 +172,8 @@ node_of t node.Sole is = tt
 node_of t (node.Refuted prices) is = prices_of t prices is
 node_of t (node.Priced prices) is = prices_of t prices is
 node_of t (node.Open prices why) is = (prices_of t prices is.0, cause_of t why is.1)
-node_of t (node.Trim leg fleet) is = is
-node_of t (node.Split leg fleet prices mixed) is =
+node_of t (node.Trim leg choice) is = is
+node_of t (node.Split leg choice prices mixed) is =
     (is.0, prices_of t prices is.1, All-weaker (IsWeightInOrder t) (IsWeightOf t) (λ entry is. is.pair) mixed.weights is.2.each)
 
 -- a tree in written order is of the tables

@@ -99,8 +99,8 @@ proof_at t left = head_is t.windows left >>= λ version. rest_at (names_in versi
 
 -- a trim or a split as a node
 abbrev pub inner_node : Inner → Node
-inner_node (inner.Trim leg fleet) = node.Trim leg fleet
-inner_node (inner.Split leg fleet prices mixed) = node.Split leg fleet prices mixed
+inner_node (inner.Trim leg choice) = node.Trim leg choice
+inner_node (inner.Split leg choice prices mixed) = node.Split leg choice prices mixed
 
 -- the nodes of a first child, where it is complete
 abbrev pub first_nodes : Option Tree → List Node

@@ -222,7 +222,7 @@ head_at n above left = do
 abbrev pub alone_node : Alone → Node
 alone_node (alone.Bare leg) = node.Bare leg
 alone_node alone.Sole = node.Sole
-alone_node (alone.Trim leg fleet) = node.Trim leg fleet
+alone_node (alone.Trim leg choice) = node.Trim leg choice
 
 -- a leaf by its first line and its prices
 abbrev pub priced_node : Priced → Prices → Node
@@ -235,7 +235,7 @@ priced_node (priced.Lift step at) prices = node.Open prices (cause.Lift step at)
 -- a node by its first line, its prices and its fractional assignment
 abbrev pub mixed_node : Fraction → Prices → Mixed → Node
 mixed_node fraction.Nodes prices mixed = node.Open prices (cause.Nodes mixed)
-mixed_node (fraction.Split leg fleet) prices mixed = node.Split leg fleet prices mixed
+mixed_node (fraction.Split leg choice) prices mixed = node.Split leg choice prices mixed
 
 -- a node, from what its first line says and the lines behind it
 unfoldable pub body_at : Naming → Head → Left → Reading (Node × Left)

@@ -14,8 +14,7 @@ ghost use Rattle.bound_cert.specs.Words.{IsOfWords, IsPlainLine};
 ghost use Rattle.dual_bound.specs.WrittenOrder.{InWrittenOrder, IsShallow};
 ghost use Rattle.bound_cert.specs.declared.faults.TheConstants.{BAD_LINE, TEXT_ENDS, TOO_DEEP, UNKNOWN_NAME, WRONG_HEAD, WRONG_NUMBER, WRONG_ORDER, WRONG_WIDTH, WRONG_WORD};
 ghost use Rattle.dual_bound.specs.declared.trees.TheConstants.{MAX_DEPTH};
-ghost use Rattle.dual_bound.specs.declared.prices.TheConstants.{MAX_SIZE};
-ghost use Rattle.dual_bound.specs.declared.prices.TheConstants.{MAX_PRICE, MAX_SCALE};
+ghost use Rattle.dual_bound.specs.declared.prices.TheConstants.{MAX_PRICE, MAX_SCALE, MAX_SIZE};
 ghost use Rattle.dual_bound.specs.declared.trees.Tree.{Tree};
 
 /// Each line of a proof is of one or more words, each of one or more bytes from 33 to 126.

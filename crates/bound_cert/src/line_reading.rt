@@ -309,7 +309,7 @@ fn weight_in_order(before: &Option<Weight>, entry: Weight, left: &[&[u8]]) -> Re
     Ok(entry)
 }
 
-/// Whether a weight may follow: it isn't 0, and its pair comes later, by leg and then by fleet.
+/// Whether a weight may follow: it isn't 0, and its pair comes later, by leg and then by choice.
 fn weight_follows(before: &Option<Weight>, entry: &Weight) -> bool
     ensures { result ≡ weight_follows before.now entry.now }
 {

@@ -42,9 +42,9 @@ two_each t keeps tree.Sole searched = refl
 two_each t keeps (tree.Refuted prices) searched = refl
 two_each t keeps (tree.Priced prices) searched = refl
 two_each t keeps (tree.Open prices why) searched = refl
-two_each t keeps (tree.Trim' leg fleet p with_pair q without) searched = absurd searched
-two_each t keeps (tree.Split' leg fleet prices mixed p with_pair q without) searched =
-    omega (arith, two_each t (part keeps leg fleet true) with_pair searched.1, two_each t (part keeps leg fleet false) without searched.2, length-append (nodes_in (part keeps leg fleet true) with_pair) (nodes_in (part keeps leg fleet false) without))
+two_each t keeps (tree.Trim' leg choice p with_pair q without) searched = absurd searched
+two_each t keeps (tree.Split' leg choice prices mixed p with_pair q without) searched =
+    omega (arith, two_each t (part keeps leg choice true) with_pair searched.1, two_each t (part keeps leg choice false) without searched.2, length-append (nodes_in (part keeps leg choice true) with_pair) (nodes_in (part keeps leg choice false) without))
 
 -- ---- of a list by number, in another order
 module _ (made : ℕ → Worked) (count : ℕ) (keeps : Domains) (rest : Tree) (same : IsPermutation (list_below made count) (worked_in keeps rest)) where
@@ -88,8 +88,8 @@ searched_itself t keeps tree.Sole searched = refl
 searched_itself t keeps (tree.Refuted prices) searched = refl
 searched_itself t keeps (tree.Priced prices) searched = refl
 searched_itself t keeps (tree.Open prices why) searched = refl
-searched_itself t keeps (tree.Trim' leg fleet p with_pair q without) searched = absurd searched
-searched_itself t keeps (tree.Split' leg fleet prices mixed p with_pair q without) searched = refl
+searched_itself t keeps (tree.Trim' leg choice p with_pair q without) searched = absurd searched
+searched_itself t keeps (tree.Split' leg choice prices mixed p with_pair q without) searched = refl
 
 pub searched_below : (t : Tables) (keeps : Domains) (removals : List Removal) (rest whole : Tree) → AreBelow removals rest whole → AreSearched t (kept_after keeps removals) rest → searched_in keeps whole ≡ worked_in (kept_after keeps removals) rest
 searched_below t keeps [] rest whole same searched = ap (searched_in keeps) same ∙ searched_itself t keeps rest searched
@@ -101,7 +101,7 @@ splits_below [] rest whole same = ap splits_in same
 splits_below (removal ∷ removals) rest whole (inner, below, is) = omega (arith, ap splits_in is.is, ap splits_in is.yes_is, ap splits_in is.no_is, splits_below removals rest inner below)
 
 -- what holds of trims and of refuted leaves holds of all nodes once it does of those below
-pub all_below : (P : TreeNode → Type 0) → ((d : Domains) (prices : Prices) → P (node d (tree.Refuted prices))) → ((d : Domains) (whole : Tree) (leg fleet : ℕ) (first second : Box Tree Global) → whole ≡ Trim leg fleet first second → P (node d whole))
+pub all_below : (P : TreeNode → Type 0) → ((d : Domains) (prices : Prices) → P (node d (tree.Refuted prices))) → ((d : Domains) (whole : Tree) (leg choice : ℕ) (first second : Box Tree Global) → whole ≡ Trim leg choice first second → P (node d whole))
     → (keeps : Domains) (removals : List Removal) (rest whole : Tree) → AreBelow removals rest whole → All P (nodes_in (kept_after keeps removals) rest) → All P (nodes_in keeps whole)
 all_below P refuted trim keeps [] rest whole same all = subst (λ x. All P (nodes_in keeps x)) (sym same) all
 all_below P refuted trim keeps (removal ∷ removals) rest whole (inner, below, is) all =
@@ -130,24 +130,24 @@ module _ (t : Tables) (cost : ℤ) (P : Domains → Node → Type 0) (shuts : (d
   all_closed keeps (tree.Priced prices) all = all
   all_closed keeps (tree.Open prices why) all =
       by_reach t cost (λ x. All At (nodes_in keeps x)) keeps prices why (λ e. all_one At (node keeps (tree.Priced prices)) (shuts keeps prices why (All-head At (node keeps (tree.Open prices why)) [] all))) (λ e. all)
-  all_closed keeps (tree.Trim' leg fleet p with_pair q without) all =
+  all_closed keeps (tree.Trim' leg choice p with_pair q without) all =
       let below = All-tail At _ _ all in
-      all_more At _ _ _ (All-head At (node keeps (tree.Trim' leg fleet p with_pair q without)) _ all) (all_closed (part keeps leg fleet true) with_pair (first_all At _ _ below))
-      (all_closed (part keeps leg fleet false) without (second_all At (nodes_in (part keeps leg fleet true) with_pair) _ below))
-  all_closed keeps (tree.Split' leg fleet prices mixed p with_pair q without) all =
+      all_more At _ _ _ (All-head At (node keeps (tree.Trim' leg choice p with_pair q without)) _ all) (all_closed (part keeps leg choice true) with_pair (first_all At _ _ below))
+      (all_closed (part keeps leg choice false) without (second_all At (nodes_in (part keeps leg choice true) with_pair) _ below))
+  all_closed keeps (tree.Split' leg choice prices mixed p with_pair q without) all =
       let below = All-tail At _ _ all in
-      all_more At _ _ _ (All-head At (node keeps (tree.Split' leg fleet prices mixed p with_pair q without)) _ all) (all_closed (part keeps leg fleet true) with_pair (first_all At _ _ below))
-      (all_closed (part keeps leg fleet false) without (second_all At (nodes_in (part keeps leg fleet true) with_pair) _ below))
+      all_more At _ _ _ (All-head At (node keeps (tree.Split' leg choice prices mixed p with_pair q without)) _ all) (all_closed (part keeps leg choice true) with_pair (first_all At _ _ below))
+      (all_closed (part keeps leg choice false) without (second_all At (nodes_in (part keeps leg choice true) with_pair) _ below))
 
 -- ---- levels
 pub split_level : (t : Tables) (level : Option ℤ) (keeps : Domains) (whole : Tree) (worth : ℤ) → IsAtLevel t level keeps (own_node whole) → IsSplitWorth t keeps whole worth → IsSomeAnd level (λ l. worth ≤ℤ l)
-split_level t level keeps (tree.Split' leg fleet prices mixed p with_pair q without) worth at_level rounded = at_level worth rounded
+split_level t level keeps (tree.Split' leg choice prices mixed p with_pair q without) worth at_level rounded = at_level worth rounded
 split_level t level keeps (tree.Bare leg) worth at_level rounded = absurd rounded
 split_level t level keeps tree.Sole worth at_level rounded = absurd rounded
 split_level t level keeps (tree.Refuted prices) worth at_level rounded = absurd rounded
 split_level t level keeps (tree.Priced prices) worth at_level rounded = absurd rounded
 split_level t level keeps (tree.Open prices why) worth at_level rounded = absurd rounded
-split_level t level keeps (tree.Trim' leg fleet p with_pair q without) worth at_level rounded = absurd rounded
+split_level t level keeps (tree.Trim' leg choice p with_pair q without) worth at_level rounded = absurd rounded
 
 pub waiting_level : (t : Tables) (level : Option ℤ) (keeps : Domains) (whole : Tree) (worth : ℤ) → IsAtLevel t level keeps (own_node whole) → IsWaitingWorth t keeps whole worth → IfSome level (λ l. l ≤ℤ worth)
 waiting_level t level keeps (tree.Open prices why) worth at_level rounded = at_level worth rounded
@@ -155,8 +155,8 @@ waiting_level t level keeps (tree.Bare leg) worth at_level rounded = absurd roun
 waiting_level t level keeps tree.Sole worth at_level rounded = absurd rounded
 waiting_level t level keeps (tree.Refuted prices) worth at_level rounded = absurd rounded
 waiting_level t level keeps (tree.Priced prices) worth at_level rounded = absurd rounded
-waiting_level t level keeps (tree.Trim' leg fleet p with_pair q without) worth at_level rounded = absurd rounded
-waiting_level t level keeps (tree.Split' leg fleet prices mixed p with_pair q without) worth at_level rounded = absurd rounded
+waiting_level t level keeps (tree.Trim' leg choice p with_pair q without) worth at_level rounded = absurd rounded
+waiting_level t level keeps (tree.Split' leg choice prices mixed p with_pair q without) worth at_level rounded = absurd rounded
 
 -- ---- where each that waits is reached, none stays open for splits
 module _ (t : Tables) (cost : Option ℤ) where
@@ -181,23 +181,23 @@ module _ (t : Tables) (cost : Option ℤ) where
   none_open keeps (tree.Open prices why) sound gaps reached =
       shut keeps prices why (prices_known t cost (node keeps (tree.Open prices why)) prices (All-head (IsSound t cost) (node keeps (tree.Open prices why)) [] sound) refl).scale.some
       (All-head Reached (node keeps (tree.Open prices why)) [] reached) ((All-head (LeavesGap t cost) (node keeps (tree.Open prices why)) [] gaps).gap prices why refl)
-  none_open keeps (tree.Trim' leg fleet p with_pair q without) sound gaps reached =
+  none_open keeps (tree.Trim' leg choice p with_pair q without) sound gaps reached =
       let fine = All-tail (IsSound t cost) _ _ sound in
       let short = All-tail (LeavesGap t cost) _ _ gaps in
       let below = All-tail Reached _ _ reached in
-      let firsts : List TreeNode = nodes_in (part keeps leg fleet true) with_pair in
+      let firsts : List TreeNode = nodes_in (part keeps leg choice true) with_pair in
       omega (
         arith,
-        none_open (part keeps leg fleet true) with_pair (first_all (IsSound t cost) _ _ fine) (first_all (LeavesGap t cost) _ _ short) (first_all Reached _ _ below),
-        none_open (part keeps leg fleet false) without (second_all (IsSound t cost) firsts _ fine) (second_all (LeavesGap t cost) firsts _ short) (second_all Reached firsts _ below),
+        none_open (part keeps leg choice true) with_pair (first_all (IsSound t cost) _ _ fine) (first_all (LeavesGap t cost) _ _ short) (first_all Reached _ _ below),
+        none_open (part keeps leg choice false) without (second_all (IsSound t cost) firsts _ fine) (second_all (LeavesGap t cost) firsts _ short) (second_all Reached firsts _ below),
       )
-  none_open keeps (tree.Split' leg fleet prices mixed p with_pair q without) sound gaps reached =
+  none_open keeps (tree.Split' leg choice prices mixed p with_pair q without) sound gaps reached =
       let fine = All-tail (IsSound t cost) _ _ sound in
       let short = All-tail (LeavesGap t cost) _ _ gaps in
       let below = All-tail Reached _ _ reached in
-      let firsts : List TreeNode = nodes_in (part keeps leg fleet true) with_pair in
+      let firsts : List TreeNode = nodes_in (part keeps leg choice true) with_pair in
       omega (
         arith,
-        none_open (part keeps leg fleet true) with_pair (first_all (IsSound t cost) _ _ fine) (first_all (LeavesGap t cost) _ _ short) (first_all Reached _ _ below),
-        none_open (part keeps leg fleet false) without (second_all (IsSound t cost) firsts _ fine) (second_all (LeavesGap t cost) firsts _ short) (second_all Reached firsts _ below),
+        none_open (part keeps leg choice true) with_pair (first_all (IsSound t cost) _ _ fine) (first_all (LeavesGap t cost) _ _ short) (first_all Reached _ _ below),
+        none_open (part keeps leg choice false) without (second_all (IsSound t cost) firsts _ fine) (second_all (LeavesGap t cost) firsts _ short) (second_all Reached firsts _ below),
       )

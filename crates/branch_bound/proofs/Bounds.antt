@@ -149,22 +149,22 @@ module _ (t : Tables) (final : Option ℤ) where
   closed_bound keeps (tree.Refuted prices) bound sound soles shut is = rw is tt
   closed_bound keeps (tree.Priced prices) bound sound soles shut is = by_price keeps prices bound (own (IsSound t final) keeps (tree.Priced prices) [] sound) is
   closed_bound keeps (tree.Open prices why) bound sound soles shut is = absurd (cc)
-  closed_bound keeps (tree.Trim' leg fleet p with_pair q without) bound sound soles shut is =
+  closed_bound keeps (tree.Trim' leg choice p with_pair q without) bound sound soles shut is =
       let below = All-tail (IsSound t final) _ _ sound in
       let answers = All-tail (AnswersSole t final) _ _ soles in
       let both = neither (has_open with_pair) (has_open without) shut in
       rw is.lesser (of_lesser IsReached is.with_pair is.without
-      (closed_bound (part keeps leg fleet true) with_pair is.with_pair (first_all (IsSound t final) _ _ below) (first_all (AnswersSole t final) _ _ answers) both.0 is.yes_is)
-      (closed_bound (part keeps leg fleet false) without is.without (second_all (IsSound t final) (nodes_in (part keeps leg fleet true) with_pair) _ below)
-      (second_all (AnswersSole t final) (nodes_in (part keeps leg fleet true) with_pair) _ answers) both.1 is.no_is))
-  closed_bound keeps (tree.Split' leg fleet prices mixed p with_pair q without) bound sound soles shut is =
+      (closed_bound (part keeps leg choice true) with_pair is.with_pair (first_all (IsSound t final) _ _ below) (first_all (AnswersSole t final) _ _ answers) both.0 is.yes_is)
+      (closed_bound (part keeps leg choice false) without is.without (second_all (IsSound t final) (nodes_in (part keeps leg choice true) with_pair) _ below)
+      (second_all (AnswersSole t final) (nodes_in (part keeps leg choice true) with_pair) _ answers) both.1 is.no_is))
+  closed_bound keeps (tree.Split' leg choice prices mixed p with_pair q without) bound sound soles shut is =
       let below = All-tail (IsSound t final) _ _ sound in
       let answers = All-tail (AnswersSole t final) _ _ soles in
       let both = neither (has_open with_pair) (has_open without) shut in
       rw is.lesser (of_lesser IsReached is.with_pair is.without
-      (closed_bound (part keeps leg fleet true) with_pair is.with_pair (first_all (IsSound t final) _ _ below) (first_all (AnswersSole t final) _ _ answers) both.0 is.yes_is)
-      (closed_bound (part keeps leg fleet false) without is.without (second_all (IsSound t final) (nodes_in (part keeps leg fleet true) with_pair) _ below)
-      (second_all (AnswersSole t final) (nodes_in (part keeps leg fleet true) with_pair) _ answers) both.1 is.no_is))
+      (closed_bound (part keeps leg choice true) with_pair is.with_pair (first_all (IsSound t final) _ _ below) (first_all (AnswersSole t final) _ _ answers) both.0 is.yes_is)
+      (closed_bound (part keeps leg choice false) without is.without (second_all (IsSound t final) (nodes_in (part keeps leg choice true) with_pair) _ below)
+      (second_all (AnswersSole t final) (nodes_in (part keeps leg choice true) with_pair) _ answers) both.1 is.no_is))
 
 -- ---- a tree with an open leaf
 module _ (t : Tables) (final : Option ℤ) where
@@ -184,17 +184,17 @@ module _ (t : Tables) (final : Option ℤ) where
   open_bound keeps (tree.Open prices why) bound sound gaps some is =
       by_gap keeps prices bound ((All-head (LeavesGap t final) (node keeps (tree.Open prices why)) [] gaps).gap prices why refl)
       (prices_known t final (node keeps (tree.Open prices why)) prices (All-head (IsSound t final) (node keeps (tree.Open prices why)) [] sound) refl).scale.some is
-  open_bound keeps (tree.Trim' leg fleet p with_pair q without) bound sound gaps some is =
+  open_bound keeps (tree.Trim' leg choice p with_pair q without) bound sound gaps some is =
       let below = All-tail (IsSound t final) _ _ sound in
       let short = All-tail (LeavesGap t final) _ _ gaps in
       rw is.lesser (by_either (has_open with_pair) (has_open without) some
-      (λ e. below_first is.with_pair is.without final (open_bound (part keeps leg fleet true) with_pair is.with_pair (first_all (IsSound t final) _ _ below) (first_all (LeavesGap t final) _ _ short) e is.yes_is))
-      (λ e. below_second is.with_pair is.without final (open_bound (part keeps leg fleet false) without is.without (second_all (IsSound t final) (nodes_in (part keeps leg fleet true) with_pair) _ below)
-      (second_all (LeavesGap t final) (nodes_in (part keeps leg fleet true) with_pair) _ short) e is.no_is)))
-  open_bound keeps (tree.Split' leg fleet prices mixed p with_pair q without) bound sound gaps some is =
+      (λ e. below_first is.with_pair is.without final (open_bound (part keeps leg choice true) with_pair is.with_pair (first_all (IsSound t final) _ _ below) (first_all (LeavesGap t final) _ _ short) e is.yes_is))
+      (λ e. below_second is.with_pair is.without final (open_bound (part keeps leg choice false) without is.without (second_all (IsSound t final) (nodes_in (part keeps leg choice true) with_pair) _ below)
+      (second_all (LeavesGap t final) (nodes_in (part keeps leg choice true) with_pair) _ short) e is.no_is)))
+  open_bound keeps (tree.Split' leg choice prices mixed p with_pair q without) bound sound gaps some is =
       let below = All-tail (IsSound t final) _ _ sound in
       let short = All-tail (LeavesGap t final) _ _ gaps in
       rw is.lesser (by_either (has_open with_pair) (has_open without) some
-      (λ e. below_first is.with_pair is.without final (open_bound (part keeps leg fleet true) with_pair is.with_pair (first_all (IsSound t final) _ _ below) (first_all (LeavesGap t final) _ _ short) e is.yes_is))
-      (λ e. below_second is.with_pair is.without final (open_bound (part keeps leg fleet false) without is.without (second_all (IsSound t final) (nodes_in (part keeps leg fleet true) with_pair) _ below)
-      (second_all (LeavesGap t final) (nodes_in (part keeps leg fleet true) with_pair) _ short) e is.no_is)))
+      (λ e. below_first is.with_pair is.without final (open_bound (part keeps leg choice true) with_pair is.with_pair (first_all (IsSound t final) _ _ below) (first_all (LeavesGap t final) _ _ short) e is.yes_is))
+      (λ e. below_second is.with_pair is.without final (open_bound (part keeps leg choice false) without is.without (second_all (IsSound t final) (nodes_in (part keeps leg choice true) with_pair) _ below)
+      (second_all (LeavesGap t final) (nodes_in (part keeps leg choice true) with_pair) _ short) e is.no_is)))

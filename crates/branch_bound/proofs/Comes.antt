@@ -30,8 +30,8 @@ single_leaf keeps tree.Sole done = refl
 single_leaf keeps (tree.Refuted prices) done = refl
 single_leaf keeps (tree.Priced prices) done = refl
 single_leaf keeps (tree.Open prices why) done = refl
-single_leaf keeps (tree.Trim' leg fleet p with_pair q without) done = absurd done
-single_leaf keeps (tree.Split' leg fleet prices mixed p with_pair q without) done = absurd done
+single_leaf keeps (tree.Trim' leg choice p with_pair q without) done = absurd done
+single_leaf keeps (tree.Split' leg choice prices mixed p with_pair q without) done = absurd done
 
 single_gathered : (keeps : Domains) (s : State) → IsSingle s → gathered_at keeps s ≡ record { keeps = keeps; node = node_of s } ∷ []
 single_gathered keeps (state.Leaf leaf) single = single_leaf keeps leaf single

@@ -30,8 +30,8 @@ module _ (t : Tables) (keeps : Domains) where
   leaf_waits_not (tree.Refuted prices) parts number worth done waits = waits
   leaf_waits_not (tree.Priced prices) parts number worth done waits = waits
   leaf_waits_not (tree.Open prices why) parts number worth done waits = stopped_waits_not t keeps prices why worth done waits
-  leaf_waits_not (tree.Trim' leg fleet p with_pair q without) parts number worth done waits = done
-  leaf_waits_not (tree.Split' leg fleet prices mixed p with_pair q without) parts number worth done waits = done
+  leaf_waits_not (tree.Trim' leg choice p with_pair q without) parts number worth done waits = done
+  leaf_waits_not (tree.Split' leg choice prices mixed p with_pair q without) parts number worth done waits = done
 
   pub leaf_level : (level : Option ℤ) (leaf : Tree) → IsDoneLeaf leaf → IsAtLevel t level keeps (own_node leaf)
   leaf_level level (tree.Bare leg) done = tt
@@ -39,8 +39,8 @@ module _ (t : Tables) (keeps : Domains) where
   leaf_level level (tree.Refuted prices) done = tt
   leaf_level level (tree.Priced prices) done = tt
   leaf_level level (tree.Open prices why) done = λ worth open_worth. absurd (stopped_waits_not t keeps prices why worth done open_worth)
-  leaf_level level (tree.Trim' leg fleet p with_pair q without) done = absurd done
-  leaf_level level (tree.Split' leg fleet prices mixed p with_pair q without) done = absurd done
+  leaf_level level (tree.Trim' leg choice p with_pair q without) done = absurd done
+  leaf_level level (tree.Split' leg choice prices mixed p with_pair q without) done = absurd done
 
   pub leaf_reached : (cost : Option ℤ) (leaf : Tree) → IsDoneLeaf leaf → IsReachedNode t cost keeps (own_node leaf)
   leaf_reached cost (tree.Bare leg) done = tt
@@ -48,8 +48,8 @@ module _ (t : Tables) (keeps : Domains) where
   leaf_reached cost (tree.Refuted prices) done = tt
   leaf_reached cost (tree.Priced prices) done = tt
   leaf_reached cost (tree.Open prices why) done = λ worth open_worth. absurd (stopped_waits_not t keeps prices why worth done open_worth)
-  leaf_reached cost (tree.Trim' leg fleet p with_pair q without) done = absurd done
-  leaf_reached cost (tree.Split' leg fleet prices mixed p with_pair q without) done = absurd done
+  leaf_reached cost (tree.Trim' leg choice p with_pair q without) done = absurd done
+  leaf_reached cost (tree.Split' leg choice prices mixed p with_pair q without) done = absurd done
 
 module _ (t : Tables) (count : ℕ) (made : ℕ → Worked) (found : ℕ → Option ℤ) (parts : ℕ → ℕ) (k : ℕ) where
   leaf_turn : (leaf : Tree) → IsDoneLeaf leaf → IsInTurn t count made found parts k (own_node leaf)
@@ -58,8 +58,8 @@ module _ (t : Tables) (count : ℕ) (made : ℕ → Worked) (found : ℕ → Opt
   leaf_turn (tree.Refuted prices) done = tt
   leaf_turn (tree.Priced prices) done = tt
   leaf_turn (tree.Open prices why) done = tt
-  leaf_turn (tree.Trim' leg fleet p with_pair q without) done = tt
-  leaf_turn (tree.Split' leg fleet prices mixed p with_pair q without) done = absurd done
+  leaf_turn (tree.Trim' leg choice p with_pair q without) done = tt
+  leaf_turn (tree.Split' leg choice prices mixed p with_pair q without) done = absurd done
 
   -- ---- all that were just made
   pub fresh_turn : (s : State) → IsFresh s → IsInTurn t count made found parts k (node_of s)

@@ -109,14 +109,14 @@ module _ (t : Tables) (nodes : ℕ) (pivots : Option ℕ) (best : Option Plan) (
   is_left = record { left = whole; sound = sound; caused = all_part.caused; made = are_made; closed = refl }
 
   -- what holds of each subproblem that was made holds of all nodes
-  at_all : (P : Domains → Node → Type 0) → ((d : Domains) (prices : Prices) → P d (own_node (tree.Refuted prices))) → ((d : Domains) (leg fleet : ℕ) → P d (ordered.Trim leg fleet))
+  at_all : (P : Domains → Node → Type 0) → ((d : Domains) (prices : Prices) → P d (own_node (tree.Refuted prices))) → ((d : Domains) (leg choice : ℕ) → P d (ordered.Trim leg choice))
       → ((k : ℕ) → k < is.comes.count → P (is.comes.chronicle.made k).keeps (is.comes.chronicle.made k).node) → All (λ x. P x.keeps (own_node x.tree)) (nodes_of t whole)
   at_all P refuted trim each =
-      all_below (λ x. P x.keeps (own_node x.tree)) refuted (λ d x leg fleet first second e. subst (λ y. P d (own_node y)) (sym e) (trim d leg fleet)) (all_pairs t) is.removals is.rest whole is.below
+      all_below (λ x. P x.keeps (own_node x.tree)) refuted (λ d x leg choice first second e. subst (λ y. P d (own_node y)) (sym e) (trim d leg choice)) (all_pairs t) is.removals is.rest whole is.below
       (at_nodes is.comes.chronicle.made is.comes.count root is.rest grown.all (λ w. P w.keeps w.node) each)
 
   levels : All (λ x. IsAtLevel t is.comes.chronicle.level x.keeps (own_node x.tree)) (nodes_of t whole)
-  levels = at_all (IsAtLevel t is.comes.chronicle.level) (λ d prices. tt) (λ d leg fleet. tt) is.comes.told.levels
+  levels = at_all (IsAtLevel t is.comes.chronicle.level) (λ d prices. tt) (λ d leg choice. tt) is.comes.told.levels
 
   -- ---- once it is closed
   spent_or_closed : (cost : Option ℤ) → cost ≡ cost_of best → (done : Tree) → AreSound t cost (all_pairs t) done → All (LeavesGap t cost) (nodes_of t done)
@@ -127,7 +127,7 @@ module _ (t : Tables) (nodes : ℕ) (pivots : Option ℕ) (best : Option Plan) (
       by_end : (is.comes.splits ≡ nodes) ⊎ ((k : ℕ) → k < is.comes.count → IsReachedNode t (cost_of best) (is.comes.chronicle.made k).keeps (is.comes.chronicle.made k).node) → splits_in done ≡ nodes
       by_end (inl spent) = splits ∙ splits_are ∙ spent
       by_end (inr reached) =
-          let before : All (λ x. IsReachedNode t cost x.keeps (own_node x.tree)) (nodes_of t whole) = at_all (IsReachedNode t cost) (λ d prices. tt) (λ d leg fleet. tt) (subst (λ c. (k : ℕ) → k < is.comes.count → IsReachedNode t c (is.comes.chronicle.made k).keeps (is.comes.chronicle.made k).node) (sym same) reached) in
+          let before : All (λ x. IsReachedNode t cost x.keeps (own_node x.tree)) (nodes_of t whole) = at_all (IsReachedNode t cost) (λ d prices. tt) (λ d leg choice. tt) (subst (λ c. (k : ℕ) → k < is.comes.count → IsReachedNode t c (is.comes.chronicle.made k).keeps (is.comes.chronicle.made k).node) (sym same) reached) in
           absurd (omega (arith, some, none_open t cost (all_pairs t) done fine gaps (carry before)))
 
   -- with no budget

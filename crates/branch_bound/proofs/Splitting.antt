@@ -190,16 +190,16 @@ module _ (t : Tables) (root : Domains) (pivots : Option ℕ) (best mid after : O
     | inr other ↦ subst (λ w. WaitsAs t w.keeps w.node (c.parts j) k worth) (made_old j less other) (subst (λ p. WaitsAs t (made j).keeps (made j).node p k worth) (parts_old j other) waits)
   ]
 
-  turn_old : (k leg fleet : ℕ) (prices : Prices) → k < n → k ≢ b → IsSplitInTurn t n c.made c.found c.parts k leg fleet prices → IsSplitInTurn t (suc (suc n)) made found parts k leg fleet prices
-  turn_old k leg fleet prices less other turn =
+  turn_old : (k leg choice : ℕ) (prices : Prices) → k < n → k ≢ b → IsSplitInTurn t n c.made c.found c.parts k leg choice prices → IsSplitInTurn t (suc (suc n)) made found parts k leg choice prices
+  turn_old k leg choice prices less other turn =
       let same : parts k ≡ c.parts k = parts_old k other in
       let own : (made k).keeps ≡ (c.made k).keeps = keeps_old k less in
       let early : c.parts k < n = omega (arith, turn.within) in
       record {
         later = omega (arith, turn.later, same);
         within = omega (arith, turn.within, same);
-        with_pair = ap (λ i. (made i).keeps) same ∙ keeps_old (c.parts k) early ∙ turn.with_pair ∙ ap (λ d. part d leg fleet true) (sym own);
-        without = ap (λ i. (made (suc i)).keeps) same ∙ keeps_old (suc (c.parts k)) turn.within ∙ turn.without ∙ ap (λ d. part d leg fleet false) (sym own);
+        with_pair = ap (λ i. (made i).keeps) same ∙ keeps_old (c.parts k) early ∙ turn.with_pair ∙ ap (λ d. part d leg choice true) (sym own);
+        without = ap (λ i. (made (suc i)).keeps) same ∙ keeps_old (suc (c.parts k)) turn.within ∙ turn.without ∙ ap (λ d. part d leg choice false) (sym own);
         below = subst (λ i. IsBelowBest t (made k).keeps prices (best_before found i)) (sym same)
             (subst (λ x. IsBelowBest t (made k).keeps prices x) (sym (best_old (c.parts k) (omega (arith, early)))) (subst (λ d. IsBelowBest t d prices (best_before c.found (c.parts k))) (sym own) turn.below));
         first = λ j worth another before rounded waits.
@@ -209,13 +209,13 @@ module _ (t : Tables) (root : Domains) (pivots : Option ℕ) (best mid after : O
       }
 
   in_turn_old : (k : ℕ) (m : Node) → k < n → k ≢ b → IsInTurn t n c.made c.found c.parts k m → IsInTurn t (suc (suc n)) made found parts k m
-  in_turn_old k (node.Split leg fleet prices mixed) less other turn = turn_old k leg fleet prices less other turn
+  in_turn_old k (node.Split leg choice prices mixed) less other turn = turn_old k leg choice prices less other turn
   in_turn_old k (node.Bare leg) less other turn = tt
   in_turn_old k node.Sole less other turn = tt
   in_turn_old k (node.Refuted prices) less other turn = tt
   in_turn_old k (node.Priced prices) less other turn = tt
   in_turn_old k (node.Open prices why) less other turn = tt
-  in_turn_old k (node.Trim leg fleet) less other turn = tt
+  in_turn_old k (node.Trim leg choice) less other turn = tt
 
   -- one that waits when the next is split is behind it
   waits_behind : (j : ℕ) (s : State) (worth : ℤ) → j < n → j ≢ b → (at all j).state ≡ s → IsSingle s → WaitsAs t (c.made j).keeps (node_of s) (c.parts j) n worth → IsNextBefore f.worth b worth j

@@ -44,13 +44,13 @@ pub record Chronicle : Type 0 where
 
 -- the rounded worth of a split is no more than a level, that of a leaf which is open for splits no less
 abbrev pub IsAtLevel : Tables → Option ℤ → Domains → Node → Type 0
-IsAtLevel t level keeps (node.Split leg fleet prices mixed) = (worth : ℤ) → IsCeiling (worth_of t keeps prices 1) prices.scale worth → IsSomeAnd level (λ l. worth ≤ℤ l)
+IsAtLevel t level keeps (node.Split leg choice prices mixed) = (worth : ℤ) → IsCeiling (worth_of t keeps prices 1) prices.scale worth → IsSomeAnd level (λ l. worth ≤ℤ l)
 IsAtLevel t level keeps (node.Open prices why) = (worth : ℤ) → IsOpenWorth t keeps prices why worth → IfSome level (λ l. l ≤ℤ worth)
 IsAtLevel t level keeps (node.Bare leg) = ⊤
 IsAtLevel t level keeps node.Sole = ⊤
 IsAtLevel t level keeps (node.Refuted prices) = ⊤
 IsAtLevel t level keeps (node.Priced prices) = ⊤
-IsAtLevel t level keeps (node.Trim leg fleet) = ⊤
+IsAtLevel t level keeps (node.Trim leg choice) = ⊤
 
 -- a plan is found at one of the subproblems
 pub record IsPlaced (t : Tables) (plan : Plan) (count : ℕ) (c : Chronicle) : Type 0 where
@@ -108,7 +108,7 @@ pub record IsNumbered (t : Tables) (root : Domains) (all : List Subproblem) (c :
 
 -- the prices of a node, and those of the nearest split above
 abbrev pub prices_in : Tables → Node → Prices
-prices_in t (node.Split leg fleet prices mixed) = prices
+prices_in t (node.Split leg choice prices mixed) = prices
 prices_in t (node.Open prices why) = prices
 prices_in t other = zero_prices t
 

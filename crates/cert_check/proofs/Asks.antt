@@ -76,11 +76,11 @@ module _ (u : Tables) (first second : List Node) where
     }
 
 -- the children of a trim or a split by a pair
-pub children_found : (u : Tables) (keeps : Domains) (leg fleet : ℕ) (with_pair without : Tree) (before mid after : Reached) (fallen : Bool)
-    → AreFound u (nodes_in (part keeps leg fleet true) with_pair) (IsBoundIn u (part keeps leg fleet true) with_pair) before mid false
-    → AreFound u (nodes_in (part keeps leg fleet false) without) (IsBoundIn u (part keeps leg fleet false) without) mid after fallen
-    → AreFound u (nodes_below keeps (leg_on leg fleet) with_pair without) (IsBoundBelow u keeps (leg_on leg fleet) with_pair without) before after fallen
-children_found u keeps leg fleet with_pair without before mid after fallen one other =
+pub children_found : (u : Tables) (keeps : Domains) (leg choice : ℕ) (with_pair without : Tree) (before mid after : Reached) (fallen : Bool)
+    → AreFound u (nodes_in (part keeps leg choice true) with_pair) (IsBoundIn u (part keeps leg choice true) with_pair) before mid false
+    → AreFound u (nodes_in (part keeps leg choice false) without) (IsBoundIn u (part keeps leg choice false) without) mid after fallen
+    → AreFound u (nodes_below keeps (leg_on leg choice) with_pair without) (IsBoundBelow u keeps (leg_on leg choice) with_pair without) before after fallen
+children_found u keeps leg choice with_pair without before mid after fallen one other =
     both_found u _ _ _ _ _ (λ x y yes_is no_is. record { with_pair = x; without = y; yes_is = yes_is; no_is = no_is; lesser = refl }) before mid after one fallen other
 
 -- the same in a subproblem that keeps the same pairs
@@ -94,9 +94,9 @@ pub whole_fallen : (u : Tables) (keeps : Domains) (whole : Tree) (number at : �
 whole_fallen u keeps whole number at fallen = rw (its_own keeps whole).1 (fallen_first u (node keeps whole ∷ []) (its_own keeps whole).0 number at fallen)
 
 -- a trim or a split that stands, and what is found below
-module _ (u : Tables) (keeps : Domains) (before mid after : Reached) (fallen : Bool) (leg fleet : ℕ) (yes no : Box Tree Global) where
+module _ (u : Tables) (keeps : Domains) (before mid after : Reached) (fallen : Bool) (leg choice : ℕ) (yes no : Box Tree Global) where
   abbrev Below : Tree → Tree → Type 0
-  Below with_pair without = AreFound u (nodes_below keeps (leg_on leg fleet) with_pair without) (IsBoundBelow u keeps (leg_on leg fleet) with_pair without) mid after fallen
+  Below with_pair without = AreFound u (nodes_below keeps (leg_on leg choice) with_pair without) (IsBoundBelow u keeps (leg_on leg choice) with_pair without) mid after fallen
 
   abbrev Entered : Tree → Type 0
   Entered whole = ArePassedOn u (node keeps whole ∷ []) (IsOwnBound u keeps whole) before mid
@@ -111,14 +111,14 @@ module _ (u : Tables) (keeps : Domains) (before mid after : Reached) (fallen : B
   no_own : (x y : Option ℤ) → x ≡ None → lesser_bound x y ≡ y
   no_own x y none = ap (λ z. lesser_bound z y) none ∙ from_none y
 
-  pub trim_found : (whole with_pair without : Tree) → whole ≡ Trim leg fleet yes no → with_pair ≡ yes.value → without ≡ no.value → Entered whole → Below with_pair without → Whole whole
+  pub trim_found : (whole with_pair without : Tree) → whole ≡ Trim leg choice yes no → with_pair ≡ yes.value → without ≡ no.value → Entered whole → Below with_pair without → Whole whole
   trim_found whole with_pair without e p q entered below =
-      subst Whole (sym e) (both_found u (node keeps (Trim leg fleet yes no) ∷ []) _ _ _ (IsBoundIn u keeps (Trim leg fleet yes no)) (λ x y own is. subst (IsBoundIn u keeps (Trim leg fleet yes no)) (sym (no_own x y own)) is) before mid after
+      subst Whole (sym e) (both_found u (node keeps (Trim leg choice yes no) ∷ []) _ _ _ (IsBoundIn u keeps (Trim leg choice yes no)) (λ x y own is. subst (IsBoundIn u keeps (Trim leg choice yes no)) (sym (no_own x y own)) is) before mid after
       (subst Entered e entered) fallen (in_boxes with_pair without p q below))
 
-  pub split_found : (prices : Prices) (mixed : Mixed) (whole with_pair without : Tree) → whole ≡ Split leg fleet prices mixed yes no → with_pair ≡ yes.value → without ≡ no.value → Entered whole → Below with_pair without → Whole whole
+  pub split_found : (prices : Prices) (mixed : Mixed) (whole with_pair without : Tree) → whole ≡ Split leg choice prices mixed yes no → with_pair ≡ yes.value → without ≡ no.value → Entered whole → Below with_pair without → Whole whole
   split_found prices mixed whole with_pair without e p q entered below =
-      subst Whole (sym e) (both_found u (node keeps (Split leg fleet prices mixed yes no) ∷ []) _ _ _ (IsBoundIn u keeps (Split leg fleet prices mixed yes no)) (λ x y own is. subst (IsBoundIn u keeps (Split leg fleet prices mixed yes no)) (sym (no_own x y own)) is) before mid after
+      subst Whole (sym e) (both_found u (node keeps (Split leg choice prices mixed yes no) ∷ []) _ _ _ (IsBoundIn u keeps (Split leg choice prices mixed yes no)) (λ x y own is. subst (IsBoundIn u keeps (Split leg choice prices mixed yes no)) (sym (no_own x y own)) is) before mid after
       (subst Entered e entered) fallen (in_boxes with_pair without p q below))
 
 -- the trees of a walk's last arm
@@ -137,8 +137,8 @@ leaf_found u keeps tree.Sole before after b leaf found = found
 leaf_found u keeps (tree.Refuted prices) before after b leaf found = found
 leaf_found u keeps (tree.Priced prices) before after b leaf found = found
 leaf_found u keeps (tree.Open prices why) before after b leaf found = found
-leaf_found u keeps (tree.Trim' leg fleet p with_pair q without) before after b leaf found = absurd leaf
-leaf_found u keeps (tree.Split' leg fleet prices mixed p with_pair q without) before after b leaf found = absurd leaf
+leaf_found u keeps (tree.Trim' leg choice p with_pair q without) before after b leaf found = absurd leaf
+leaf_found u keeps (tree.Split' leg choice prices mixed p with_pair q without) before after b leaf found = absurd leaf
 
 -- ---- behind a node: the subproblem and the number of aircraft are as before it
 -- the number
@@ -153,20 +153,20 @@ below_same u rows before pair with_pair without from to fallen same here =
     subst (λ r. AreFound u (nodes_below (kept_by r) pair with_pair without) (IsBoundBelow u (kept_by r) pair with_pair without) from to fallen) same here
 
 -- what is asked of both children
-module _ (t : Tables) (rows before : List (List Bool)) (size was : Size) (whole with_pair without : Tree) (leg fleet : ℕ) (one other : Box Tree Global)
+module _ (t : Tables) (rows before : List (List Bool)) (size was : Size) (whole with_pair without : Tree) (leg choice : ℕ) (one other : Box Tree Global)
     (same : rows ≡ before) (sizes : size ≡ was) (sized : IsSize t was) (known : IsOfTables t whole) (sound : AreSoundButPriced t (kept_by before) whole) (p : with_pair ≡ one.value) (q : without ≡ other.value) where
   still_sound : AreSoundButPriced t (kept_by rows) whole
   still_sound = subst (λ r. AreSoundButPriced t (kept_by r) whole) (sym same) sound
 
   abbrev Parts : Type 0
-  Parts = IsSize t size × (IsPair t (leg_on leg fleet) × (IsOfTables t with_pair × (IsOfTables t without
-      × (AreSoundButPriced t (part (kept_by rows) leg fleet true) with_pair × AreSoundButPriced t (part (kept_by rows) leg fleet false) without))))
+  Parts = IsSize t size × (IsPair t (leg_on leg choice) × (IsOfTables t with_pair × (IsOfTables t without
+      × (AreSoundButPriced t (part (kept_by rows) leg choice true) with_pair × AreSoundButPriced t (part (kept_by rows) leg choice false) without))))
 
-  pub trim_next : whole ≡ Trim leg fleet one other → Parts
-  trim_next e = (subst (IsSize t) (sym sizes) sized, trim_parts t (kept_by rows) whole with_pair without leg fleet one other e p q known still_sound)
+  pub trim_next : whole ≡ Trim leg choice one other → Parts
+  trim_next e = (subst (IsSize t) (sym sizes) sized, trim_parts t (kept_by rows) whole with_pair without leg choice one other e p q known still_sound)
 
-  pub split_next : (prices : Prices) (mixed : Mixed) → whole ≡ Split leg fleet prices mixed one other → Parts
-  split_next prices mixed e = (subst (IsSize t) (sym sizes) sized, split_parts t (kept_by rows) whole with_pair without leg fleet prices mixed one other e p q known still_sound)
+  pub split_next : (prices : Prices) (mixed : Mixed) → whole ≡ Split leg choice prices mixed one other → Parts
+  split_next prices mixed e = (subst (IsSize t) (sym sizes) sized, split_parts t (kept_by rows) whole with_pair without leg choice prices mixed one other e p q known still_sound)
 
 -- ---- over all pairs, with no bound so far
 pub all_stand : (u : Tables) (keeps : Domains) (whole : Tree) (before after : Reached) → keeps ≡ all_pairs u → before.bound ≡ None

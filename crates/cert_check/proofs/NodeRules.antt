@@ -31,7 +31,7 @@ pub prices_proper : (t : Tables) (cost : Option ℤ) (node : Node) (bound : ℕ)
 prices_proper t cost node bound before below =
     if_prices t (prices_at node.tree) (before.each rule.Scale (omega arith)) (before.each rule.Limits (omega arith)) (before.each rule.Fall (omega arith)) (before.each rule.Rent (omega arith))
 
--- each leg before a place keeps one fleet, and so does that at the place
+-- each leg before a place keeps one choice, and so does that at the place
 pub one_on_more : (count : ℕ → ℕ) (n : ℕ) → ((m : ℕ) → m < n → count m ≡ 1) → count n ≡ 1 → (m : ℕ) → m < n + 1 → count m ≡ 1
 one_on_more count n before here m below = grind arith
 

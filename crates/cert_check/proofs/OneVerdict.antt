@@ -79,16 +79,16 @@ bound_once t keeps tree.Sole b c single x y =
 bound_once t keeps (tree.Refuted prices) b c single x y = x ∙ sym y
 bound_once t keeps (tree.Priced prices) b c single x y = one_ceiling t keeps prices b c (All-head (IsSingle t) (node keeps (tree.Priced prices)) [] single).scale x y
 bound_once t keeps (tree.Open prices why) b c single x y = one_ceiling t keeps prices b c (All-head (IsSingle t) (node keeps (tree.Open prices why)) [] single).scale x y
-bound_once t keeps (tree.Trim' leg fleet p with_pair q without) b c single x y =
+bound_once t keeps (tree.Trim' leg choice p with_pair q without) b c single x y =
     let below = All-tail (IsSingle t) _ _ single in
     one_lesser _ _ b c
-    (λ m n. bound_once t (part keeps leg fleet true) with_pair m n (first_all (IsSingle t) _ _ below))
-    (λ m n. bound_once t (part keeps leg fleet false) without m n (second_all (IsSingle t) (nodes_in (part keeps leg fleet true) with_pair) _ below)) x y
-bound_once t keeps (tree.Split' leg fleet prices mixed p with_pair q without) b c single x y =
+    (λ m n. bound_once t (part keeps leg choice true) with_pair m n (first_all (IsSingle t) _ _ below))
+    (λ m n. bound_once t (part keeps leg choice false) without m n (second_all (IsSingle t) (nodes_in (part keeps leg choice true) with_pair) _ below)) x y
+bound_once t keeps (tree.Split' leg choice prices mixed p with_pair q without) b c single x y =
     let below = All-tail (IsSingle t) _ _ single in
     one_lesser _ _ b c
-    (λ m n. bound_once t (part keeps leg fleet true) with_pair m n (first_all (IsSingle t) _ _ below))
-    (λ m n. bound_once t (part keeps leg fleet false) without m n (second_all (IsSingle t) (nodes_in (part keeps leg fleet true) with_pair) _ below)) x y
+    (λ m n. bound_once t (part keeps leg choice true) with_pair m n (first_all (IsSingle t) _ _ below))
+    (λ m n. bound_once t (part keeps leg choice false) without m n (second_all (IsSingle t) (nodes_in (part keeps leg choice true) with_pair) _ below)) x y
 
 module _ (t : Tables) (cost : Option ℤ) where
   -- where all rules are kept

@@ -145,8 +145,8 @@ module _ (s : List Station) (f : List Fleet) (l : List Leg) (c : List PairCost) 
   own_pairs a b keeps (tree.Refuted prices) has = λ leg is. has leg (bare b a keeps leg is)
   own_pairs a b keeps (tree.Priced prices) has = λ leg is. has leg (bare b a keeps leg is)
   own_pairs a b keeps (tree.Open prices why) has = λ leg is. has leg (bare b a keeps leg is)
-  own_pairs a b keeps (tree.Trim' leg fleet p with_pair q without) has = has
-  own_pairs a b keeps (tree.Split' leg fleet prices m p with_pair q without) has = λ leg is. has leg (bare b a keeps leg is)
+  own_pairs a b keeps (tree.Trim' leg choice p with_pair q without) has = has
+  own_pairs a b keeps (tree.Split' leg choice prices m p with_pair q without) has = λ leg is. has leg (bare b a keeps leg is)
 
   refuted : (a b : Settled) (keeps : Domains) (v : Tree) → IsRefutedAt (by a) keeps v → IsRefutedAt (by b) keeps v
   unfolding leg_worth worth_of less_charges period_of days_in parking_of choices_in cost_of departure slot_by fleet_by
@@ -155,8 +155,8 @@ module _ (s : List Station) (f : List Fleet) (l : List Leg) (c : List PairCost) 
   refuted a b keeps tree.Sole is = is
   refuted a b keeps (tree.Priced prices) is = is
   refuted a b keeps (tree.Open prices why) is = is
-  refuted a b keeps (tree.Trim' leg fleet p with_pair q without) is = is
-  refuted a b keeps (tree.Split' leg fleet prices m p with_pair q without) is = is
+  refuted a b keeps (tree.Trim' leg choice p with_pair q without) is = is
+  refuted a b keeps (tree.Split' leg choice prices m p with_pair q without) is = is
 
   priced : (a b : Settled) (cost : Option ℤ) (keeps : Domains) (v : Tree) → IsPricedAt (by a) cost keeps v → IsPricedAt (by b) cost keeps v
   priced a b cost keeps (tree.Priced prices) is = some_and cost (Reaches (by a) keeps prices) (Reaches (by b) keeps prices) (reaches a b keeps prices) is
@@ -164,8 +164,8 @@ module _ (s : List Station) (f : List Fleet) (l : List Leg) (c : List PairCost) 
   priced a b cost keeps tree.Sole is = is
   priced a b cost keeps (tree.Refuted prices) is = is
   priced a b cost keeps (tree.Open prices why) is = is
-  priced a b cost keeps (tree.Trim' leg fleet p with_pair q without) is = is
-  priced a b cost keeps (tree.Split' leg fleet prices m p with_pair q without) is = is
+  priced a b cost keeps (tree.Trim' leg choice p with_pair q without) is = is
+  priced a b cost keeps (tree.Split' leg choice prices m p with_pair q without) is = is
 
   ends : (a b : Settled) (keeps : Domains) (v : Tree) → EndsAtOnce (by a) keeps v → EndsAtOnce (by b) keeps v
   ends a b keeps tree.Sole at_once = λ is. at_once (sole_legal b a keeps is)
@@ -173,17 +173,17 @@ module _ (s : List Station) (f : List Fleet) (l : List Leg) (c : List PairCost) 
   ends a b keeps (tree.Refuted prices) at_once = at_once
   ends a b keeps (tree.Priced prices) at_once = at_once
   ends a b keeps (tree.Open prices why) at_once = at_once
-  ends a b keeps (tree.Trim' leg fleet p with_pair q without) at_once = at_once
-  ends a b keeps (tree.Split' leg fleet prices m p with_pair q without) at_once = at_once
+  ends a b keeps (tree.Trim' leg choice p with_pair q without) at_once = at_once
+  ends a b keeps (tree.Split' leg choice prices m p with_pair q without) at_once = at_once
 
-  one_ends : (a b : Settled) (keeps : Domains) (leg fleet : ℕ) (with_pair without : Tree) → OneEnds (by a) keeps leg fleet with_pair without → OneEnds (by b) keeps leg fleet with_pair without
-  one_ends a b keeps leg fleet with_pair without (inl at_once) = inl (ends a b (part keeps leg fleet true) with_pair at_once)
-  one_ends a b keeps leg fleet with_pair without (inr at_once) = inr (ends a b (part keeps leg fleet false) without at_once)
+  one_ends : (a b : Settled) (keeps : Domains) (leg choice : ℕ) (with_pair without : Tree) → OneEnds (by a) keeps leg choice with_pair without → OneEnds (by b) keeps leg choice with_pair without
+  one_ends a b keeps leg choice with_pair without (inl at_once) = inl (ends a b (part keeps leg choice true) with_pair at_once)
+  one_ends a b keeps leg choice with_pair without (inr at_once) = inr (ends a b (part keeps leg choice false) without at_once)
 
   parts : (a b : Settled) (keeps : Domains) (v : Tree) → HasParts (by a) keeps v → HasParts (by b) keeps v
   unfolding choices_in
-  parts a b keeps (tree.Trim' leg fleet p with_pair q without) has = (has.0, one_ends a b keeps leg fleet with_pair without has.1)
-  parts a b keeps (tree.Split' leg fleet prices m p with_pair q without) has = has
+  parts a b keeps (tree.Trim' leg choice p with_pair q without) has = (has.0, one_ends a b keeps leg choice with_pair without has.1)
+  parts a b keeps (tree.Split' leg choice prices m p with_pair q without) has = has
   parts a b keeps (tree.Bare leg) has = has
   parts a b keeps tree.Sole has = has
   parts a b keeps (tree.Refuted prices) has = has
@@ -192,12 +192,12 @@ module _ (s : List Station) (f : List Fleet) (l : List Leg) (c : List PairCost) 
 
   fractions : (a b : Settled) (keeps : Domains) (v : Tree) → HasFraction (by a) keeps v → HasFraction (by b) keeps v
   fractions a b keeps (tree.Open prices why) has = if_some (mixed_of why) (IsFraction (by a) keeps prices) (IsFraction (by b) keeps prices) (fraction a b keeps prices) has
-  fractions a b keeps (tree.Split' leg fleet prices m p with_pair q without) has = (fraction a b keeps prices m has.0, has.1)
+  fractions a b keeps (tree.Split' leg choice prices m p with_pair q without) has = (fraction a b keeps prices m has.0, has.1)
   fractions a b keeps (tree.Bare leg) has = has
   fractions a b keeps tree.Sole has = has
   fractions a b keeps (tree.Refuted prices) has = has
   fractions a b keeps (tree.Priced prices) has = has
-  fractions a b keeps (tree.Trim' leg fleet p with_pair q without) has = has
+  fractions a b keeps (tree.Trim' leg choice p with_pair q without) has = has
 
   keeps_rule : (a b : Settled) (cost : Option ℤ) (node : Node) (r : Rule) → Keeps (by a) cost node r → Keeps (by b) cost node r
   keeps_rule a b cost node rule.Scale holds = holds
@@ -231,18 +231,18 @@ module _ (s : List Station) (f : List Fleet) (l : List Leg) (c : List PairCost) 
   bound_in a b keeps (tree.Refuted prices) bound is = is
   bound_in a b keeps (tree.Priced prices) bound is = price_bound a b keeps prices bound is
   bound_in a b keeps (tree.Open prices why) bound is = price_bound a b keeps prices bound is
-  bound_in a b keeps (tree.Trim' leg fleet p with_pair q without) bound is = record {
+  bound_in a b keeps (tree.Trim' leg choice p with_pair q without) bound is = record {
     with_pair = is.with_pair;
     without = is.without;
-    yes_is = bound_in a b (part keeps leg fleet true) with_pair is.with_pair is.yes_is;
-    no_is = bound_in a b (part keeps leg fleet false) without is.without is.no_is;
+    yes_is = bound_in a b (part keeps leg choice true) with_pair is.with_pair is.yes_is;
+    no_is = bound_in a b (part keeps leg choice false) without is.without is.no_is;
     lesser = is.lesser;
   }
-  bound_in a b keeps (tree.Split' leg fleet prices m p with_pair q without) bound is = record {
+  bound_in a b keeps (tree.Split' leg choice prices m p with_pair q without) bound is = record {
     with_pair = is.with_pair;
     without = is.without;
-    yes_is = bound_in a b (part keeps leg fleet true) with_pair is.with_pair is.yes_is;
-    no_is = bound_in a b (part keeps leg fleet false) without is.without is.no_is;
+    yes_is = bound_in a b (part keeps leg choice true) with_pair is.with_pair is.yes_is;
+    no_is = bound_in a b (part keeps leg choice false) without is.without is.no_is;
     lesser = is.lesser;
   }
 

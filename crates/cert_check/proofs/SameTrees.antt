@@ -24,10 +24,10 @@ Same tree.Sole tree.Sole = ⊤
 Same (tree.Refuted prices) (tree.Refuted others) = prices ≡ others
 Same (tree.Priced prices) (tree.Priced others) = prices ≡ others
 Same (tree.Open prices why) (tree.Open others because) = (prices ≡ others) × (why ≡ because)
-Same (tree.Trim' leg fleet p with_pair q without) (tree.Trim' leg' fleet' p' with_pair' q' without') =
-    (leg ≡ leg') × (fleet ≡ fleet') × Same with_pair with_pair' × Same without without'
-Same (tree.Split' leg fleet prices mixed p with_pair q without) (tree.Split' leg' fleet' prices' mixed' p' with_pair' q' without') =
-    (leg ≡ leg') × (fleet ≡ fleet') × (prices ≡ prices') × (mixed ≡ mixed') × Same with_pair with_pair' × Same without without'
+Same (tree.Trim' leg choice p with_pair q without) (tree.Trim' leg' choice' p' with_pair' q' without') =
+    (leg ≡ leg') × (choice ≡ choice') × Same with_pair with_pair' × Same without without'
+Same (tree.Split' leg choice prices mixed p with_pair q without) (tree.Split' leg' choice' prices' mixed' p' with_pair' q' without') =
+    (leg ≡ leg') × (choice ≡ choice') × (prices ≡ prices') × (mixed ≡ mixed') × Same with_pair with_pair' × Same without without'
 Same _ _ = ⊥
 
 -- trees of one list of nodes are the same, and so is what follows
@@ -37,13 +37,13 @@ same_from tree.Sole tree.Sole r s e = (tt, cc)
 same_from (tree.Refuted prices) (tree.Refuted others) r s e = (cc, cc)
 same_from (tree.Priced prices) (tree.Priced others) r s e = (cc, cc)
 same_from (tree.Open prices why) (tree.Open others because) r s e = ((cc, cc), cc)
-same_from (tree.Trim' leg fleet p with_pair q without) (tree.Trim' leg' fleet' p' with_pair' q' without') r s e =
+same_from (tree.Trim' leg choice p with_pair q without) (tree.Trim' leg' choice' p' with_pair' q' without') r s e =
     let below : (nodes_of with_pair ++ nodes_of without) ++ r ≡ (nodes_of with_pair' ++ nodes_of without') ++ s = cc in
     let first = same_from with_pair with_pair' (nodes_of without ++ r) (nodes_of without' ++ s)
     (sym (append_assoc (nodes_of with_pair) (nodes_of without) r) ∙ below ∙ append_assoc (nodes_of with_pair') (nodes_of without') s) in
     let second = same_from without without' r s first.1 in
     ((cc, cc, first.0, second.0), second.1)
-same_from (tree.Split' leg fleet prices mixed p with_pair q without) (tree.Split' leg' fleet' prices' mixed' p' with_pair' q' without') r s e =
+same_from (tree.Split' leg choice prices mixed p with_pair q without) (tree.Split' leg' choice' prices' mixed' p' with_pair' q' without') r s e =
     let below : (nodes_of with_pair ++ nodes_of without) ++ r ≡ (nodes_of with_pair' ++ nodes_of without') ++ s = cc in
     let first = same_from with_pair with_pair' (nodes_of without ++ r) (nodes_of without' ++ s)
     (sym (append_assoc (nodes_of with_pair) (nodes_of without) r) ∙ below ∙ append_assoc (nodes_of with_pair') (nodes_of without') s) in
@@ -61,9 +61,9 @@ same_back tree.Sole tree.Sole same = tt
 same_back (tree.Refuted prices) (tree.Refuted others) same = sym same
 same_back (tree.Priced prices) (tree.Priced others) same = sym same
 same_back (tree.Open prices why) (tree.Open others because) same = (sym same.0, sym same.1)
-same_back (tree.Trim' leg fleet p with_pair q without) (tree.Trim' leg' fleet' p' with_pair' q' without') same =
+same_back (tree.Trim' leg choice p with_pair q without) (tree.Trim' leg' choice' p' with_pair' q' without') same =
     (sym same.0, sym same.1, same_back with_pair with_pair' same.2, same_back without without' same.3)
-same_back (tree.Split' leg fleet prices mixed p with_pair q without) (tree.Split' leg' fleet' prices' mixed' p' with_pair' q' without') same =
+same_back (tree.Split' leg choice prices mixed p with_pair q without) (tree.Split' leg' choice' prices' mixed' p' with_pair' q' without') same =
     (sym same.0, sym same.1, sym same.2, sym same.3, same_back with_pair with_pair' same.4, same_back without without' same.5)
 same_back _ _ same = absurd same
 
@@ -74,8 +74,8 @@ ends_too t keeps tree.Sole tree.Sole same ends = ends
 ends_too t keeps (tree.Refuted prices) (tree.Refuted others) same ends = tt
 ends_too t keeps (tree.Priced prices) (tree.Priced others) same ends = tt
 ends_too t keeps (tree.Open prices why) (tree.Open others because) same ends = absurd ends
-ends_too t keeps (tree.Trim' leg fleet p with_pair q without) (tree.Trim' leg' fleet' p' with_pair' q' without') same ends = absurd ends
-ends_too t keeps (tree.Split' leg fleet prices mixed p with_pair q without) (tree.Split' leg' fleet' prices' mixed' p' with_pair' q' without') same ends = absurd ends
+ends_too t keeps (tree.Trim' leg choice p with_pair q without) (tree.Trim' leg' choice' p' with_pair' q' without') same ends = absurd ends
+ends_too t keeps (tree.Split' leg choice prices mixed p with_pair q without) (tree.Split' leg' choice' prices' mixed' p' with_pair' q' without') same ends = absurd ends
 ends_too t keeps _ _ same ends = absurd same
 
 module _ (t : Tables) (cost : Option ℤ) where
@@ -87,25 +87,25 @@ module _ (t : Tables) (cost : Option ℤ) where
   keeps_too keeps (tree.Priced prices) (tree.Priced others) same one kept = subst (λ p. Keeps t cost (node keeps (tree.Priced p)) one) same kept
   keeps_too keeps (tree.Open prices why) (tree.Open others because) same one kept =
       subst (λ w. Keeps t cost (node keeps (tree.Open others w)) one) same.1 (subst (λ p. Keeps t cost (node keeps (tree.Open p why)) one) same.0 kept)
-  keeps_too keeps (tree.Trim' leg fleet p with_pair q without) (tree.Trim' leg' fleet' p' with_pair' q' without') same rule.Parts kept =
+  keeps_too keeps (tree.Trim' leg choice p with_pair q without) (tree.Trim' leg' choice' p' with_pair' q' without') same rule.Parts kept =
       rw (← same.0, ← same.1) (
         kept.0,
         elim kept.1 [
-          | inl ends ↦ inl (ends_too t (part keeps leg fleet true) with_pair with_pair' same.2 ends)
-          | inr ends ↦ inr (ends_too t (part keeps leg fleet false) without without' same.3 ends)
+          | inl ends ↦ inl (ends_too t (part keeps leg choice true) with_pair with_pair' same.2 ends)
+          | inr ends ↦ inr (ends_too t (part keeps leg choice false) without without' same.3 ends)
         ],
       )
-  keeps_too keeps (tree.Trim' leg fleet p with_pair q without) (tree.Trim' leg' fleet' p' with_pair' q' without') same other kept = tt
-  keeps_too keeps (tree.Split' leg fleet prices mixed p with_pair q without) (tree.Split' leg' fleet' prices' mixed' p' with_pair' q' without') same rule.Scale kept = rw (← same.2) kept
-  keeps_too keeps (tree.Split' leg fleet prices mixed p with_pair q without) (tree.Split' leg' fleet' prices' mixed' p' with_pair' q' without') same rule.Limits kept = rw (← same.2) kept
-  keeps_too keeps (tree.Split' leg fleet prices mixed p with_pair q without) (tree.Split' leg' fleet' prices' mixed' p' with_pair' q' without') same rule.Fall kept = rw (← same.2) kept
-  keeps_too keeps (tree.Split' leg fleet prices mixed p with_pair q without) (tree.Split' leg' fleet' prices' mixed' p' with_pair' q' without') same rule.Rent kept = rw (← same.2) kept
-  keeps_too keeps (tree.Split' leg fleet prices mixed p with_pair q without) (tree.Split' leg' fleet' prices' mixed' p' with_pair' q' without') same rule.Pairs kept = kept
-  keeps_too keeps (tree.Split' leg fleet prices mixed p with_pair q without) (tree.Split' leg' fleet' prices' mixed' p' with_pair' q' without') same rule.Refuted kept = tt
-  keeps_too keeps (tree.Split' leg fleet prices mixed p with_pair q without) (tree.Split' leg' fleet' prices' mixed' p' with_pair' q' without') same rule.Priced kept = tt
-  keeps_too keeps (tree.Split' leg fleet prices mixed p with_pair q without) (tree.Split' leg' fleet' prices' mixed' p' with_pair' q' without') same rule.Parts kept = rw (← same.0, ← same.1) kept
-  keeps_too keeps (tree.Split' leg fleet prices mixed p with_pair q without) (tree.Split' leg' fleet' prices' mixed' p' with_pair' q' without') same rule.Mixed kept = rw (← same.3) kept
-  keeps_too keeps (tree.Split' leg fleet prices mixed p with_pair q without) (tree.Split' leg' fleet' prices' mixed' p' with_pair' q' without') same rule.Fraction kept =
+  keeps_too keeps (tree.Trim' leg choice p with_pair q without) (tree.Trim' leg' choice' p' with_pair' q' without') same other kept = tt
+  keeps_too keeps (tree.Split' leg choice prices mixed p with_pair q without) (tree.Split' leg' choice' prices' mixed' p' with_pair' q' without') same rule.Scale kept = rw (← same.2) kept
+  keeps_too keeps (tree.Split' leg choice prices mixed p with_pair q without) (tree.Split' leg' choice' prices' mixed' p' with_pair' q' without') same rule.Limits kept = rw (← same.2) kept
+  keeps_too keeps (tree.Split' leg choice prices mixed p with_pair q without) (tree.Split' leg' choice' prices' mixed' p' with_pair' q' without') same rule.Fall kept = rw (← same.2) kept
+  keeps_too keeps (tree.Split' leg choice prices mixed p with_pair q without) (tree.Split' leg' choice' prices' mixed' p' with_pair' q' without') same rule.Rent kept = rw (← same.2) kept
+  keeps_too keeps (tree.Split' leg choice prices mixed p with_pair q without) (tree.Split' leg' choice' prices' mixed' p' with_pair' q' without') same rule.Pairs kept = kept
+  keeps_too keeps (tree.Split' leg choice prices mixed p with_pair q without) (tree.Split' leg' choice' prices' mixed' p' with_pair' q' without') same rule.Refuted kept = tt
+  keeps_too keeps (tree.Split' leg choice prices mixed p with_pair q without) (tree.Split' leg' choice' prices' mixed' p' with_pair' q' without') same rule.Priced kept = tt
+  keeps_too keeps (tree.Split' leg choice prices mixed p with_pair q without) (tree.Split' leg' choice' prices' mixed' p' with_pair' q' without') same rule.Parts kept = rw (← same.0, ← same.1) kept
+  keeps_too keeps (tree.Split' leg choice prices mixed p with_pair q without) (tree.Split' leg' choice' prices' mixed' p' with_pair' q' without') same rule.Mixed kept = rw (← same.3) kept
+  keeps_too keeps (tree.Split' leg choice prices mixed p with_pair q without) (tree.Split' leg' choice' prices' mixed' p' with_pair' q' without') same rule.Fraction kept =
       rw (← same.0, ← same.1, ← same.2, ← same.3) kept
   keeps_too keeps _ _ same one kept = absurd same
 
@@ -143,17 +143,17 @@ module _ (t : Tables) (cost : Option ℤ) where
   same_nodes keeps (tree.Refuted prices) (tree.Refuted others) same = (record { keeps_are = refl; trees_are = same }, tt)
   same_nodes keeps (tree.Priced prices) (tree.Priced others) same = (record { keeps_are = refl; trees_are = same }, tt)
   same_nodes keeps (tree.Open prices why) (tree.Open others because) same = (record { keeps_are = refl; trees_are = same }, tt)
-  same_nodes keeps (tree.Trim' leg fleet p with_pair q without) (tree.Trim' leg' fleet' p' with_pair' q' without') same = (
+  same_nodes keeps (tree.Trim' leg choice p with_pair q without) (tree.Trim' leg' choice' p' with_pair' q' without') same = (
     record { keeps_are = refl; trees_are = same },
-    rw (← same.0, ← same.1) (joined (nodes_in (part keeps leg fleet true) with_pair) (nodes_in (part keeps leg fleet true) with_pair')
-        (nodes_in (part keeps leg fleet false) without) (nodes_in (part keeps leg fleet false) without')
-        (same_nodes (part keeps leg fleet true) with_pair with_pair' same.2) (same_nodes (part keeps leg fleet false) without without' same.3)),
+    rw (← same.0, ← same.1) (joined (nodes_in (part keeps leg choice true) with_pair) (nodes_in (part keeps leg choice true) with_pair')
+        (nodes_in (part keeps leg choice false) without) (nodes_in (part keeps leg choice false) without')
+        (same_nodes (part keeps leg choice true) with_pair with_pair' same.2) (same_nodes (part keeps leg choice false) without without' same.3)),
   )
-  same_nodes keeps (tree.Split' leg fleet prices mixed p with_pair q without) (tree.Split' leg' fleet' prices' mixed' p' with_pair' q' without') same = (
+  same_nodes keeps (tree.Split' leg choice prices mixed p with_pair q without) (tree.Split' leg' choice' prices' mixed' p' with_pair' q' without') same = (
     record { keeps_are = refl; trees_are = same },
-    rw (← same.0, ← same.1) (joined (nodes_in (part keeps leg fleet true) with_pair) (nodes_in (part keeps leg fleet true) with_pair')
-        (nodes_in (part keeps leg fleet false) without) (nodes_in (part keeps leg fleet false) without')
-        (same_nodes (part keeps leg fleet true) with_pair with_pair' same.4) (same_nodes (part keeps leg fleet false) without without' same.5)),
+    rw (← same.0, ← same.1) (joined (nodes_in (part keeps leg choice true) with_pair) (nodes_in (part keeps leg choice true) with_pair')
+        (nodes_in (part keeps leg choice false) without) (nodes_in (part keeps leg choice false) without')
+        (same_nodes (part keeps leg choice true) with_pair with_pair' same.4) (same_nodes (part keeps leg choice false) without without' same.5)),
   )
   same_nodes keeps _ _ same = absurd same
 
@@ -167,18 +167,18 @@ bound_too t keeps tree.Sole tree.Sole bound same is = is
 bound_too t keeps (tree.Refuted prices) (tree.Refuted others) bound same is = is
 bound_too t keeps (tree.Priced prices) (tree.Priced others) bound same is = rw (← same) is
 bound_too t keeps (tree.Open prices why) (tree.Open others because) bound same is = rw (← same.0) is
-bound_too t keeps (tree.Trim' leg fleet p with_pair q without) (tree.Trim' leg' fleet' p' with_pair' q' without') bound same is = rw (← same.0, ← same.1) (record {
+bound_too t keeps (tree.Trim' leg choice p with_pair q without) (tree.Trim' leg' choice' p' with_pair' q' without') bound same is = rw (← same.0, ← same.1) (record {
   with_pair = is.with_pair;
   without = is.without;
-  yes_is = bound_too t (part keeps leg fleet true) with_pair with_pair' is.with_pair same.2 is.yes_is;
-  no_is = bound_too t (part keeps leg fleet false) without without' is.without same.3 is.no_is;
+  yes_is = bound_too t (part keeps leg choice true) with_pair with_pair' is.with_pair same.2 is.yes_is;
+  no_is = bound_too t (part keeps leg choice false) without without' is.without same.3 is.no_is;
   lesser = is.lesser;
 })
-bound_too t keeps (tree.Split' leg fleet prices mixed p with_pair q without) (tree.Split' leg' fleet' prices' mixed' p' with_pair' q' without') bound same is = rw (← same.0, ← same.1) (record {
+bound_too t keeps (tree.Split' leg choice prices mixed p with_pair q without) (tree.Split' leg' choice' prices' mixed' p' with_pair' q' without') bound same is = rw (← same.0, ← same.1) (record {
   with_pair = is.with_pair;
   without = is.without;
-  yes_is = bound_too t (part keeps leg fleet true) with_pair with_pair' is.with_pair same.4 is.yes_is;
-  no_is = bound_too t (part keeps leg fleet false) without without' is.without same.5 is.no_is;
+  yes_is = bound_too t (part keeps leg choice true) with_pair with_pair' is.with_pair same.4 is.yes_is;
+  no_is = bound_too t (part keeps leg choice false) without without' is.without same.5 is.no_is;
   lesser = is.lesser;
 })
 bound_too t keeps _ _ bound same is = absurd same

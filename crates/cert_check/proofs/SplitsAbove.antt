@@ -48,10 +48,10 @@ pub are_sound_but_priced : (t : Tables) (cost : Option ℤ) (keeps : Domains) (w
 are_sound_but_priced t cost keeps whole sound = record { each = All-weaker (IsSound t cost) (IsSoundBut t None rule.Priced) (sound_but_priced t cost) (nodes_in keeps whole) sound }
 
 -- the prices of a split
-pub split_prices : (t : Tables) (keeps : Domains) (leg fleet : ℕ) (prices : Prices) (mixed : Mixed) (whole : Tree) (one other : Box Tree Global) → whole ≡ Split leg fleet prices mixed one other
+pub split_prices : (t : Tables) (keeps : Domains) (leg choice : ℕ) (prices : Prices) (mixed : Mixed) (whole : Tree) (one other : Box Tree Global) → whole ≡ Split leg choice prices mixed one other
     → IsSoundBut t None rule.Priced (node keeps whole) → ArePrices t prices
-split_prices t keeps leg fleet prices mixed whole one other e sound =
-    let here : IsSoundBut t None rule.Priced (node keeps (Split leg fleet prices mixed one other)) = subst (λ x. IsSoundBut t None rule.Priced (node keeps x)) e sound in
+split_prices t keeps leg choice prices mixed whole one other e sound =
+    let here : IsSoundBut t None rule.Priced (node keeps (Split leg choice prices mixed one other)) = subst (λ x. IsSoundBut t None rule.Priced (node keeps x)) e sound in
     are_prices t prices (here.each rule.Scale (λ p. cc)) (here.each rule.Limits (λ p. cc)) (here.each rule.Fall (λ p. cc)) (here.each rule.Rent (λ p. cc))
 
 -- the node itself
@@ -74,36 +74,36 @@ both_sound P one first second all =
     (first_all P first second rest, second_all P first second rest)
 
 -- what is asked of the children of a trim or a split, where it holds of the whole
-pub trim_parts : (t : Tables) (keeps : Domains) (whole with_pair without : Tree) (leg fleet : ℕ) (one other : Box Tree Global) → whole ≡ Trim leg fleet one other → with_pair ≡ one.value → without ≡ other.value
+pub trim_parts : (t : Tables) (keeps : Domains) (whole with_pair without : Tree) (leg choice : ℕ) (one other : Box Tree Global) → whole ≡ Trim leg choice one other → with_pair ≡ one.value → without ≡ other.value
     → IsOfTables t whole → AreSoundButPriced t keeps whole
-    → IsPair t (leg_on leg fleet) × (IsOfTables t with_pair × (IsOfTables t without × (AreSoundButPriced t (part keeps leg fleet true) with_pair × AreSoundButPriced t (part keeps leg fleet false) without)))
-trim_parts t keeps whole with_pair without leg fleet one other e p q known sound =
+    → IsPair t (leg_on leg choice) × (IsOfTables t with_pair × (IsOfTables t without × (AreSoundButPriced t (part keeps leg choice true) with_pair × AreSoundButPriced t (part keeps leg choice false) without)))
+trim_parts t keeps whole with_pair without leg choice one other e p q known sound =
     let of_tables = subst (IsOfTables t) e known in
-    let all : AreSoundButPriced t keeps (Trim leg fleet one other) = subst (AreSoundButPriced t keeps) e sound in
-    let parts = both_sound (IsSoundBut t None rule.Priced) (node keeps (Trim leg fleet one other)) _ _ all.each in (
+    let all : AreSoundButPriced t keeps (Trim leg choice one other) = subst (AreSoundButPriced t keeps) e sound in
+    let parts = both_sound (IsSoundBut t None rule.Priced) (node keeps (Trim leg choice one other)) _ _ all.each in (
       of_tables.0,
       (
         subst (IsOfTables t) (sym p) of_tables.1,
         (
           subst (IsOfTables t) (sym q) of_tables.2,
-          (subst (AreSoundButPriced t (part keeps leg fleet true)) (sym p) (record { each = parts.0 }), subst (AreSoundButPriced t (part keeps leg fleet false)) (sym q) (record { each = parts.1 })),
+          (subst (AreSoundButPriced t (part keeps leg choice true)) (sym p) (record { each = parts.0 }), subst (AreSoundButPriced t (part keeps leg choice false)) (sym q) (record { each = parts.1 })),
         ),
       ),
     )
 
-pub split_parts : (t : Tables) (keeps : Domains) (whole with_pair without : Tree) (leg fleet : ℕ) (prices : Prices) (mixed : Mixed) (one other : Box Tree Global) → whole ≡ Split leg fleet prices mixed one other
+pub split_parts : (t : Tables) (keeps : Domains) (whole with_pair without : Tree) (leg choice : ℕ) (prices : Prices) (mixed : Mixed) (one other : Box Tree Global) → whole ≡ Split leg choice prices mixed one other
     → with_pair ≡ one.value → without ≡ other.value → IsOfTables t whole → AreSoundButPriced t keeps whole
-    → IsPair t (leg_on leg fleet) × (IsOfTables t with_pair × (IsOfTables t without × (AreSoundButPriced t (part keeps leg fleet true) with_pair × AreSoundButPriced t (part keeps leg fleet false) without)))
-split_parts t keeps whole with_pair without leg fleet prices mixed one other e p q known sound =
+    → IsPair t (leg_on leg choice) × (IsOfTables t with_pair × (IsOfTables t without × (AreSoundButPriced t (part keeps leg choice true) with_pair × AreSoundButPriced t (part keeps leg choice false) without)))
+split_parts t keeps whole with_pair without leg choice prices mixed one other e p q known sound =
     let of_tables = subst (IsOfTables t) e known in
-    let all : AreSoundButPriced t keeps (Split leg fleet prices mixed one other) = subst (AreSoundButPriced t keeps) e sound in
-    let parts = both_sound (IsSoundBut t None rule.Priced) (node keeps (Split leg fleet prices mixed one other)) _ _ all.each in (
+    let all : AreSoundButPriced t keeps (Split leg choice prices mixed one other) = subst (AreSoundButPriced t keeps) e sound in
+    let parts = both_sound (IsSoundBut t None rule.Priced) (node keeps (Split leg choice prices mixed one other)) _ _ all.each in (
       of_tables.0,
       (
         subst (IsOfTables t) (sym p) of_tables.3,
         (
           subst (IsOfTables t) (sym q) of_tables.4,
-          (subst (AreSoundButPriced t (part keeps leg fleet true)) (sym p) (record { each = parts.0 }), subst (AreSoundButPriced t (part keeps leg fleet false)) (sym q) (record { each = parts.1 })),
+          (subst (AreSoundButPriced t (part keeps leg choice true)) (sym p) (record { each = parts.0 }), subst (AreSoundButPriced t (part keeps leg choice false)) (sym q) (record { each = parts.1 })),
         ),
       ),
     )
@@ -111,12 +111,12 @@ split_parts t keeps whole with_pair without leg fleet prices mixed one other e p
 -- ---- one node
 
 -- a split, by the test of its rounded worth
-pub split_test : (t : Tables) (cost least : ℤ) (keeps : Domains) (whole : Tree) (leg fleet : ℕ) (prices : Prices) (mixed : Mixed) (one other : Box Tree Global) (b : Bool) → whole ≡ Split leg fleet prices mixed one other
+pub split_test : (t : Tables) (cost least : ℤ) (keeps : Domains) (whole : Tree) (leg choice : ℕ) (prices : Prices) (mixed : Mixed) (one other : Box Tree Global) (b : Bool) → whole ≡ Split leg choice prices mixed one other
     → ArePrices t prices → IsCeiling (worth_of t keeps prices 1) prices.scale least → MatchBool b (cost <ℤ least) (least ≤ℤ cost) → MatchBool b (IsSplitAbove t cost (node keeps whole)) (IsNoneAbove t cost (node keeps whole))
-split_test t cost least keeps whole leg fleet prices mixed one other b e proper rounded test =
+split_test t cost least keeps whole leg choice prices mixed one other b e proper rounded test =
     subst (λ x. MatchBool b (IsSplitAbove t cost (node keeps x)) (IsNoneAbove t cost (node keeps x))) (sym e) (by_test b test)
   where
-    by_test : (b : Bool) → MatchBool b (cost <ℤ least) (least ≤ℤ cost) → MatchBool b (IsSplitAbove t cost (node keeps (Split leg fleet prices mixed one other))) (IsNoneAbove t cost (node keeps (Split leg fleet prices mixed one other)))
+    by_test : (b : Bool) → MatchBool b (cost <ℤ least) (least ≤ℤ cost) → MatchBool b (IsSplitAbove t cost (node keeps (Split leg choice prices mixed one other))) (IsNoneAbove t cost (node keeps (Split leg choice prices mixed one other)))
     by_test true above = record { worth = least; rounded = rounded; above = above }
     by_test false below = record { none = λ is. omega (arith, ints, below, is.above, same_ceiling _ _ is.worth least proper.scale.some is.rounded rounded) }
 
@@ -190,20 +190,20 @@ module _ (t : Tables) (cost : ℤ) (first second : List Node) (number : ℕ) whe
   }
 
 -- ---- a whole tree, of what is found below
-module _ (t : Tables) (cost : ℤ) (keeps : Domains) (number next at : ℕ) (follows : next ≡ held_count (number + 1)) (found : Bool) (whole with_pair without : Tree) (leg fleet : ℕ) (yes no : Box Tree Global)
-    (none : IsNoneAbove t cost (node keeps whole)) (p : with_pair ≡ yes.value) (q : without ≡ no.value) (below : AreSought t cost (nodes_below keeps (leg_on leg fleet) with_pair without) next at found) where
-  in_boxes : AreSought t cost (nodes_below keeps (leg_on leg fleet) yes.value no.value) next at found
-  in_boxes = subst (λ x. AreSought t cost (nodes_below keeps (leg_on leg fleet) yes.value x) next at found) q (subst (λ x. AreSought t cost (nodes_below keeps (leg_on leg fleet) x without) next at found) p below)
+module _ (t : Tables) (cost : ℤ) (keeps : Domains) (number next at : ℕ) (follows : next ≡ held_count (number + 1)) (found : Bool) (whole with_pair without : Tree) (leg choice : ℕ) (yes no : Box Tree Global)
+    (none : IsNoneAbove t cost (node keeps whole)) (p : with_pair ≡ yes.value) (q : without ≡ no.value) (below : AreSought t cost (nodes_below keeps (leg_on leg choice) with_pair without) next at found) where
+  in_boxes : AreSought t cost (nodes_below keeps (leg_on leg choice) yes.value no.value) next at found
+  in_boxes = subst (λ x. AreSought t cost (nodes_below keeps (leg_on leg choice) yes.value x) next at found) q (subst (λ x. AreSought t cost (nodes_below keeps (leg_on leg choice) x without) next at found) p below)
 
-  pub of_trim : whole ≡ Trim leg fleet yes no → AreSought t cost (nodes_in keeps whole) number at found
+  pub of_trim : whole ≡ Trim leg choice yes no → AreSought t cost (nodes_in keeps whole) number at found
   of_trim e =
       subst (λ x. AreSought t cost (nodes_in keeps x) number at found) (sym e)
-      (one_more t cost (node keeps (Trim leg fleet yes no)) number next (subst (λ x. IsNoneAbove t cost (node keeps x)) e none) follows _ at found in_boxes)
+      (one_more t cost (node keeps (Trim leg choice yes no)) number next (subst (λ x. IsNoneAbove t cost (node keeps x)) e none) follows _ at found in_boxes)
 
-  pub of_split : (prices : Prices) (mixed : Mixed) → whole ≡ Split leg fleet prices mixed yes no → AreSought t cost (nodes_in keeps whole) number at found
+  pub of_split : (prices : Prices) (mixed : Mixed) → whole ≡ Split leg choice prices mixed yes no → AreSought t cost (nodes_in keeps whole) number at found
   of_split prices mixed e =
       subst (λ x. AreSought t cost (nodes_in keeps x) number at found) (sym e)
-      (one_more t cost (node keeps (Split leg fleet prices mixed yes no)) number next (subst (λ x. IsNoneAbove t cost (node keeps x)) e none) follows _ at found in_boxes)
+      (one_more t cost (node keeps (Split leg choice prices mixed yes no)) number next (subst (λ x. IsNoneAbove t cost (node keeps x)) e none) follows _ at found in_boxes)
 
 -- the second child is sought in the subproblem as it was before the first, and beside the same cost
 pub in_same : (t : Tables) (cost other : ℤ) (rows before : List (List Bool)) (step : Step) (without : Tree) (number at : ℕ) (found : Bool) → rows ≡ before → cost ≡ other

@@ -43,8 +43,8 @@ bare_at t u as_bare keeps tree.Sole pairs = tt
 bare_at t u as_bare keeps (tree.Refuted prices) pairs = tt
 bare_at t u as_bare keeps (tree.Priced prices) pairs = tt
 bare_at t u as_bare keeps (tree.Open prices why) pairs = tt
-bare_at t u as_bare keeps (tree.Trim' leg fleet p with_pair q without) pairs = tt
-bare_at t u as_bare keeps (tree.Split' leg fleet prices mixed p with_pair q without) pairs = tt
+bare_at t u as_bare keeps (tree.Trim' leg choice p with_pair q without) pairs = tt
+bare_at t u as_bare keeps (tree.Split' leg choice prices mixed p with_pair q without) pairs = tt
 
 sound_bounds : (t : Tables) (cost : Option ℤ) (one : Node) → IsSound t cost one → Bounds t one
 sound_bounds t cost one sound = record { proper = sound_proper t cost one sound; bare = bare_at t t (λ keeps leg bare. bare) one.keeps one.tree (sound.each rule.Pairs); refuted = sound.each rule.Refuted }
@@ -74,8 +74,8 @@ below_second (Some x) (Some y) cost below = by_test (int_le x y) (λ e. grind (a
 
 -- an assignment of kept pairs is of the part with a pair where it flies that, else of the part without
 module _ (t : Tables) (a : List ℕ) where
-  in_part : (keeps : Domains) (leg fleet : ℕ) (taken : Bool) → taken ≡ (choice_at a leg == fleet) → IsKeptAssignment t keeps a → IsKeptAssignment t (part keeps leg fleet taken) a
-  in_part keeps leg fleet taken e is = record {
+  in_part : (keeps : Domains) (leg choice : ℕ) (taken : Bool) → taken ≡ (choice_at a leg == choice) → IsKeptAssignment t keeps a → IsKeptAssignment t (part keeps leg choice taken) a
+  in_part keeps leg choice taken e is = record {
     assignment = is.assignment;
     kept = λ l below. both_true (keeps (pair_at a l)) _ (is.kept l below) (stays l);
   }
@@ -84,11 +84,11 @@ module _ (t : Tables) (a : List ℕ) where
       by_taken true c same = sym same
       by_taken false c same = ap not (sym same)
 
-      by_leg : (l : ℕ) (b : Bool) → (b ≡ true → l ≡ leg) → (if b then (if taken then (choice_at a l == fleet) else not (choice_at a l == fleet)) else true) ≡ true
-      by_leg l true same = by_taken taken (choice_at a l == fleet) (e ∙ ap (λ m. choice_at a m == fleet) (sym (same refl)))
+      by_leg : (l : ℕ) (b : Bool) → (b ≡ true → l ≡ leg) → (if b then (if taken then (choice_at a l == choice) else not (choice_at a l == choice)) else true) ≡ true
+      by_leg l true same = by_taken taken (choice_at a l == choice) (e ∙ ap (λ m. choice_at a m == choice) (sym (same refl)))
       by_leg l false same = refl
 
-      stays : (l : ℕ) → leaves (record { leg = leg; choice = fleet; yes = taken }) (pair_at a l) ≡ true
+      stays : (l : ℕ) → leaves (record { leg = leg; choice = choice; yes = taken }) (pair_at a l) ≡ true
       stays l = by_leg l (l == leg) (λ same. grind (arith, nat_tests))
 
 -- each of two lists
@@ -106,15 +106,15 @@ module _ (t : Tables) (a : List ℕ) (legal : IsLegal t a) where
       subst (λ b. IsBelow b (total_cost t a)) (sym is.is) (ceiling_is_lower_bound t keeps prices is.least a proper is.rounded kept legal)
 
   -- a trim or a split
-  by_parts : (keeps : Domains) (leg fleet : ℕ) (with_pair without : Option ℤ → Type 0) (bound : Option ℤ) → IsLesserBound with_pair without bound
-      → ((b : Option ℤ) → with_pair b → IsKeptAssignment t (part keeps leg fleet true) a → IsBelow b (total_cost t a))
-      → ((b : Option ℤ) → without b → IsKeptAssignment t (part keeps leg fleet false) a → IsBelow b (total_cost t a))
+  by_parts : (keeps : Domains) (leg choice : ℕ) (with_pair without : Option ℤ → Type 0) (bound : Option ℤ) → IsLesserBound with_pair without bound
+      → ((b : Option ℤ) → with_pair b → IsKeptAssignment t (part keeps leg choice true) a → IsBelow b (total_cost t a))
+      → ((b : Option ℤ) → without b → IsKeptAssignment t (part keeps leg choice false) a → IsBelow b (total_cost t a))
       → IsKeptAssignment t keeps a → IsBelow bound (total_cost t a)
-  by_parts keeps leg fleet with_pair without bound is first second kept = by_taken (choice_at a leg == fleet) refl
+  by_parts keeps leg choice with_pair without bound is first second kept = by_taken (choice_at a leg == choice) refl
     where
-      by_taken : (taken : Bool) → (choice_at a leg == fleet) ≡ taken → IsBelow bound (total_cost t a)
-      by_taken true e = subst (λ b. IsBelow b (total_cost t a)) (sym is.lesser) (below_first is.with_pair is.without (total_cost t a) (first is.with_pair is.yes_is (in_part t a keeps leg fleet true (sym e) kept)))
-      by_taken false e = subst (λ b. IsBelow b (total_cost t a)) (sym is.lesser) (below_second is.with_pair is.without (total_cost t a) (second is.without is.no_is (in_part t a keeps leg fleet false (sym e) kept)))
+      by_taken : (taken : Bool) → (choice_at a leg == choice) ≡ taken → IsBelow bound (total_cost t a)
+      by_taken true e = subst (λ b. IsBelow b (total_cost t a)) (sym is.lesser) (below_first is.with_pair is.without (total_cost t a) (first is.with_pair is.yes_is (in_part t a keeps leg choice true (sym e) kept)))
+      by_taken false e = subst (λ b. IsBelow b (total_cost t a)) (sym is.lesser) (below_second is.with_pair is.without (total_cost t a) (second is.without is.no_is (in_part t a keeps leg choice false (sym e) kept)))
 
   pub tree_bound : (keeps : Domains) (whole : Tree) (bound : Option ℤ) → All (Bounds t) (nodes_in keeps whole) → IsBoundIn t keeps whole bound → IsKeptAssignment t keeps a → IsBelow bound (total_cost t a)
   tree_bound keeps (tree.Bare leg) bound all is kept = absurd (bare_has_none t keeps leg a (All-head (Bounds t) (node keeps (tree.Bare leg)) [] all).bare kept)
@@ -124,16 +124,16 @@ module _ (t : Tables) (a : List ℕ) (legal : IsLegal t a) where
       absurd (worth_refutes t keeps prices a here.proper here.refuted kept legal)
   tree_bound keeps (tree.Priced prices) bound all is kept = by_prices keeps prices bound (All-head (Bounds t) (node keeps (tree.Priced prices)) [] all).proper is kept
   tree_bound keeps (tree.Open prices why) bound all is kept = by_prices keeps prices bound (All-head (Bounds t) (node keeps (tree.Open prices why)) [] all).proper is kept
-  tree_bound keeps (tree.Trim' leg fleet p with_pair q without) bound all is kept =
+  tree_bound keeps (tree.Trim' leg choice p with_pair q without) bound all is kept =
       let below = All-tail (Bounds t) _ _ all in
-      by_parts keeps leg fleet _ _ bound is
-      (λ b has here. tree_bound (part keeps leg fleet true) with_pair b (first_all (Bounds t) _ _ below) has here)
-      (λ b has here. tree_bound (part keeps leg fleet false) without b (second_all (Bounds t) (nodes_in (part keeps leg fleet true) with_pair) _ below) has here) kept
-  tree_bound keeps (tree.Split' leg fleet prices mixed p with_pair q without) bound all is kept =
+      by_parts keeps leg choice _ _ bound is
+      (λ b has here. tree_bound (part keeps leg choice true) with_pair b (first_all (Bounds t) _ _ below) has here)
+      (λ b has here. tree_bound (part keeps leg choice false) without b (second_all (Bounds t) (nodes_in (part keeps leg choice true) with_pair) _ below) has here) kept
+  tree_bound keeps (tree.Split' leg choice prices mixed p with_pair q without) bound all is kept =
       let below = All-tail (Bounds t) _ _ all in
-      by_parts keeps leg fleet _ _ bound is
-      (λ b has here. tree_bound (part keeps leg fleet true) with_pair b (first_all (Bounds t) _ _ below) has here)
-      (λ b has here. tree_bound (part keeps leg fleet false) without b (second_all (Bounds t) (nodes_in (part keeps leg fleet true) with_pair) _ below) has here) kept
+      by_parts keeps leg choice _ _ bound is
+      (λ b has here. tree_bound (part keeps leg choice true) with_pair b (first_all (Bounds t) _ _ below) has here)
+      (λ b has here. tree_bound (part keeps leg choice false) without b (second_all (Bounds t) (nodes_in (part keeps leg choice true) with_pair) _ below) has here) kept
 
 -- over all pairs that may be flown
 pub bounds_by : (t : Tables) (keeps : Domains) (whole : Tree) (bound : Option ℤ) → keeps ≡ all_pairs t → All (Bounds t) (nodes_in keeps whole) → IsBoundIn t keeps whole bound → BoundsAll t bound

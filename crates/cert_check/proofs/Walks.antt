@@ -34,8 +34,8 @@ its_own keeps tree.Sole = ([], refl)
 its_own keeps (tree.Refuted prices) = ([], refl)
 its_own keeps (tree.Priced prices) = ([], refl)
 its_own keeps (tree.Open prices why) = ([], refl)
-its_own keeps (tree.Trim' leg fleet p with_pair q without) = (nodes_in (part keeps leg fleet true) with_pair ++ nodes_in (part keeps leg fleet false) without, refl)
-its_own keeps (tree.Split' leg fleet prices mixed p with_pair q without) = (nodes_in (part keeps leg fleet true) with_pair ++ nodes_in (part keeps leg fleet false) without, refl)
+its_own keeps (tree.Trim' leg choice p with_pair q without) = (nodes_in (part keeps leg choice true) with_pair ++ nodes_in (part keeps leg choice false) without, refl)
+its_own keeps (tree.Split' leg choice prices mixed p with_pair q without) = (nodes_in (part keeps leg choice true) with_pair ++ nodes_in (part keeps leg choice false) without, refl)
 
 -- ---- bounds
 -- of three bounds it is one which two are compared first
@@ -79,7 +79,7 @@ one_passed t cost one before after own sound is follows lesser = record {
   bounded = record { found = own; is = is; lesser = lesser };
 }
 
--- the bound of a leaf where each leg keeps one fleet
+-- the bound of a leaf where each leg keeps one choice
 pub sole_own : (t : Tables) (cost : Option ℤ) (keeps : Domains) (whole : Tree) (bound : Option ℤ) → whole ≡ tree.Sole → IsSound t cost (node keeps whole)
     → (IsSole t keeps → IsSoleBound t keeps bound) → IsOwnBound t keeps whole bound
 sole_own t cost keeps whole bound e sound bounded =
@@ -150,35 +150,35 @@ module _ (t : Tables) (cost : Option ℤ) (keeps : Domains) (pair : Pair) (with_
   both_walked (Some rule) one other = second_broken t cost _ _ before.number mid.number after.number rule one.fine other
 
 -- a trim or a split that keeps all rules, and what is found below
-module _ (t : Tables) (cost : Option ℤ) (keeps : Domains) (before mid after : Reached) (found : Option Rule) (leg fleet : ℕ) (yes no : Box Tree Global) where
+module _ (t : Tables) (cost : Option ℤ) (keeps : Domains) (before mid after : Reached) (found : Option Rule) (leg choice : ℕ) (yes no : Box Tree Global) where
   abbrev Below : Tree → Tree → Type 0
-  Below with_pair without = AreBothWalked t cost keeps (leg_on leg fleet) with_pair without mid after found
+  Below with_pair without = AreBothWalked t cost keeps (leg_on leg choice) with_pair without mid after found
 
-  below_one : (whole : Tree) → nodes_in keeps whole ≡ node keeps whole ∷ nodes_below keeps (leg_on leg fleet) yes.value no.value
+  below_one : (whole : Tree) → nodes_in keeps whole ≡ node keeps whole ∷ nodes_below keeps (leg_on leg choice) yes.value no.value
       → ((bound : Option ℤ) → IsOwnBound t keeps whole bound → bound ≡ None)
-      → ((bound : Option ℤ) → IsBoundBelow t keeps (leg_on leg fleet) yes.value no.value bound → IsBoundIn t keeps whole bound)
+      → ((bound : Option ℤ) → IsBoundBelow t keeps (leg_on leg choice) yes.value no.value bound → IsBoundIn t keeps whole bound)
       → IsEntered t cost (node keeps whole) before mid None → Below yes.value no.value → IsWalked t cost keeps whole before after found
   below_one whole order none bounds entered below = by_found found below
     where
-      by_found : (f : Option Rule) → AreBothWalked t cost keeps (leg_on leg fleet) yes.value no.value mid after f → IsWalked t cost keeps whole before after f
+      by_found : (f : Option Rule) → AreBothWalked t cost keeps (leg_on leg choice) yes.value no.value mid after f → IsWalked t cost keeps whole before after f
       by_found None below =
-          let joins : (x y : Option ℤ) → IsOwnBound t keeps whole x → IsBoundBelow t keeps (leg_on leg fleet) yes.value no.value y → IsBoundIn t keeps whole (lesser_bound x y)
+          let joins : (x y : Option ℤ) → IsOwnBound t keeps whole x → IsBoundBelow t keeps (leg_on leg choice) yes.value no.value y → IsBoundIn t keeps whole (lesser_bound x y)
           = λ x y own is. rw (none x own, from_none y) (bounds y is) in
           rw order (both_passed t cost (node keeps whole ∷ []) _ before mid after _ _ (IsBoundIn t keeps whole) joins entered below)
       by_found (Some rule) below = rw order (second_broken t cost (node keeps whole ∷ []) _ before.number mid.number after.number rule entered.fine below)
 
-  pub trimmed : (whole with_pair without : Tree) → whole ≡ Trim leg fleet yes no → with_pair ≡ yes.value → without ≡ no.value
+  pub trimmed : (whole with_pair without : Tree) → whole ≡ Trim leg choice yes no → with_pair ≡ yes.value → without ≡ no.value
       → IsEntered t cost (node keeps whole) before mid None → Below with_pair without → IsWalked t cost keeps whole before after found
   trimmed whole with_pair without e p q entered below =
       subst (λ x. IsWalked t cost keeps x before after found) (sym e)
-      (below_one (Trim leg fleet yes no) refl (λ bound h. h) (λ bound h. h) (subst (λ x. IsEntered t cost (node keeps x) before mid None) e entered)
+      (below_one (Trim leg choice yes no) refl (λ bound h. h) (λ bound h. h) (subst (λ x. IsEntered t cost (node keeps x) before mid None) e entered)
       (subst (λ x. Below yes.value x) q (subst (λ x. Below x without) p below)))
 
-  pub split : (prices : Prices) (mixed : Mixed) (whole with_pair without : Tree) → whole ≡ Split leg fleet prices mixed yes no → with_pair ≡ yes.value → without ≡ no.value
+  pub split : (prices : Prices) (mixed : Mixed) (whole with_pair without : Tree) → whole ≡ Split leg choice prices mixed yes no → with_pair ≡ yes.value → without ≡ no.value
       → IsEntered t cost (node keeps whole) before mid None → Below with_pair without → IsWalked t cost keeps whole before after found
   split prices mixed whole with_pair without e p q entered below =
       subst (λ x. IsWalked t cost keeps x before after found) (sym e)
-      (below_one (Split leg fleet prices mixed yes no) refl (λ bound h. h) (λ bound h. h) (subst (λ x. IsEntered t cost (node keeps x) before mid None) e entered)
+      (below_one (Split leg choice prices mixed yes no) refl (λ bound h. h) (λ bound h. h) (subst (λ x. IsEntered t cost (node keeps x) before mid None) e entered)
       (subst (λ x. Below yes.value x) q (subst (λ x. Below x without) p below)))
 
 -- a fault of the node itself is the first of the whole
@@ -207,14 +207,14 @@ holds_with t cost other keeps whole before after e plan first none walked =
     record { sound = here.fine.sound; bounded = is }
 
 -- the children of a tree of the tables are of the tables
-pub trim_of : (t : Tables) (whole with_pair without : Tree) (leg fleet : ℕ) (first second : Box Tree Global) → whole ≡ Trim leg fleet first second → with_pair ≡ first.value → without ≡ second.value
-    → IsOfTables t whole → IsOfTables t with_pair × (IsOfTables t without × IsPair t (leg_on leg fleet))
-trim_of t whole with_pair without leg fleet first second e p q known =
+pub trim_of : (t : Tables) (whole with_pair without : Tree) (leg choice : ℕ) (first second : Box Tree Global) → whole ≡ Trim leg choice first second → with_pair ≡ first.value → without ≡ second.value
+    → IsOfTables t whole → IsOfTables t with_pair × (IsOfTables t without × IsPair t (leg_on leg choice))
+trim_of t whole with_pair without leg choice first second e p q known =
     let parts = subst (IsOfTables t) e known in
     (subst (IsOfTables t) (sym p) parts.1, (subst (IsOfTables t) (sym q) parts.2, parts.0))
 
-pub split_of : (t : Tables) (whole with_pair without : Tree) (leg fleet : ℕ) (prices : Prices) (mixed : Mixed) (first second : Box Tree Global) → whole ≡ Split leg fleet prices mixed first second → with_pair ≡ first.value → without ≡ second.value
-    → IsOfTables t whole → IsOfTables t with_pair × (IsOfTables t without × IsPair t (leg_on leg fleet))
-split_of t whole with_pair without leg fleet prices mixed first second e p q known =
+pub split_of : (t : Tables) (whole with_pair without : Tree) (leg choice : ℕ) (prices : Prices) (mixed : Mixed) (first second : Box Tree Global) → whole ≡ Split leg choice prices mixed first second → with_pair ≡ first.value → without ≡ second.value
+    → IsOfTables t whole → IsOfTables t with_pair × (IsOfTables t without × IsPair t (leg_on leg choice))
+split_of t whole with_pair without leg choice prices mixed first second e p q known =
     let parts = subst (IsOfTables t) e known in
     (subst (IsOfTables t) (sym p) parts.3, (subst (IsOfTables t) (sym q) parts.4, parts.0))

@@ -18,12 +18,12 @@ pub record Node : Type 0 where
 
 -- the nodes of a tree in preorder: first itself, then those of its part with the pair, then those of the other
 abbrev pub nodes_in : Domains → Tree → List Node
-nodes_in keeps (tree.Trim' leg fleet p with_pair q without) =
-    record { keeps = keeps; tree = tree.Trim' leg fleet p with_pair q without }
-    ∷ (nodes_in (part keeps leg fleet true) with_pair ++ nodes_in (part keeps leg fleet false) without)
-nodes_in keeps (tree.Split' leg fleet prices mixed p with_pair q without) =
-    record { keeps = keeps; tree = tree.Split' leg fleet prices mixed p with_pair q without }
-    ∷ (nodes_in (part keeps leg fleet true) with_pair ++ nodes_in (part keeps leg fleet false) without)
+nodes_in keeps (tree.Trim' leg choice p with_pair q without) =
+    record { keeps = keeps; tree = tree.Trim' leg choice p with_pair q without }
+    ∷ (nodes_in (part keeps leg choice true) with_pair ++ nodes_in (part keeps leg choice false) without)
+nodes_in keeps (tree.Split' leg choice prices mixed p with_pair q without) =
+    record { keeps = keeps; tree = tree.Split' leg choice prices mixed p with_pair q without }
+    ∷ (nodes_in (part keeps leg choice true) with_pair ++ nodes_in (part keeps leg choice false) without)
 nodes_in keeps leaf = record { keeps = keeps; tree = leaf } ∷ []
 
 -- the nodes of a tree over all pairs that may be flown
@@ -40,10 +40,10 @@ abbrev pub prices_at : Tree → Option Prices
 prices_at (tree.Refuted prices) = Some prices
 prices_at (tree.Priced prices) = Some prices
 prices_at (tree.Open prices why) = Some prices
-prices_at (tree.Split' leg fleet prices mixed p with_pair q without) = Some prices
+prices_at (tree.Split' leg choice prices mixed p with_pair q without) = Some prices
 prices_at (tree.Bare leg) = None
 prices_at tree.Sole = None
-prices_at (tree.Trim' leg fleet p with_pair q without) = None
+prices_at (tree.Trim' leg choice p with_pair q without) = None
 
 -- the fractional assignment of a cause that has one
 abbrev pub mixed_of : Cause → Option Mixed
@@ -55,12 +55,12 @@ mixed_of (cause.Lift step at) = None
 -- the fractional assignment of a node that has one
 abbrev pub mixed_at : Tree → Option Mixed
 mixed_at (tree.Open prices why) = mixed_of why
-mixed_at (tree.Split' leg fleet prices mixed p with_pair q without) = Some mixed
+mixed_at (tree.Split' leg choice prices mixed p with_pair q without) = Some mixed
 mixed_at (tree.Bare leg) = None
 mixed_at tree.Sole = None
 mixed_at (tree.Refuted prices) = None
 mixed_at (tree.Priced prices) = None
-mixed_at (tree.Trim' leg fleet p with_pair q without) = None
+mixed_at (tree.Trim' leg choice p with_pair q without) = None
 
 -- the node of a tree in the subproblem that rows keep
 abbrev pub node_at : List (List Bool) → Tree → Node

@@ -31,8 +31,8 @@ HasItsPairs t keeps tree.Sole = IsSole t keeps
 HasItsPairs t keeps (tree.Refuted prices) = HaveAllPairs t keeps
 HasItsPairs t keeps (tree.Priced prices) = HaveAllPairs t keeps
 HasItsPairs t keeps (tree.Open prices why) = HaveAllPairs t keeps
-HasItsPairs t keeps (tree.Trim' leg fleet p with_pair q without) = ⊤
-HasItsPairs t keeps (tree.Split' leg fleet prices mixed p with_pair q without) = HaveAllPairs t keeps
+HasItsPairs t keeps (tree.Trim' leg choice p with_pair q without) = ⊤
+HasItsPairs t keeps (tree.Split' leg choice prices mixed p with_pair q without) = HaveAllPairs t keeps
 
 -- a refuted leaf is refuted: by its prices, no cost put in, it is worth more than 0
 abbrev pub IsRefutedAt : Tables → Domains → Tree → Type 0
@@ -55,7 +55,7 @@ pub record IsLegalAt (t : Tables) (plan : List ℕ) (cost : ℤ) : Type 0 where
   pub legal : IsLegal t plan
   pub costs : cost ≡ total_cost t plan
 
--- each leg keeps one fleet, and that assignment is legal
+-- each leg keeps one choice, and that assignment is legal
 pub record IsSoleLegal (t : Tables) (keeps : Domains) : Type 0 where
   pub sole : IsSole t keeps
   pub plan : List ℕ
@@ -69,29 +69,29 @@ EndsAtOnce t keeps tree.Sole = ¬ (IsSoleLegal t keeps)
 EndsAtOnce t keeps (tree.Refuted prices) = ⊤
 EndsAtOnce t keeps (tree.Priced prices) = ⊤
 EndsAtOnce t keeps (tree.Open prices why) = ⊥
-EndsAtOnce t keeps (tree.Trim' leg fleet p with_pair q without) = ⊥
-EndsAtOnce t keeps (tree.Split' leg fleet prices mixed p with_pair q without) = ⊥
+EndsAtOnce t keeps (tree.Trim' leg choice p with_pair q without) = ⊥
+EndsAtOnce t keeps (tree.Split' leg choice prices mixed p with_pair q without) = ⊥
 
 -- one of the two children of a trim ends at once
 abbrev pub OneEnds : Tables → Domains → ℕ → ℕ → Tree → Tree → Type 0
-OneEnds t keeps leg fleet with_pair without = EndsAtOnce t (part keeps leg fleet true) with_pair ⊎ EndsAtOnce t (part keeps leg fleet false) without
+OneEnds t keeps leg choice with_pair without = EndsAtOnce t (part keeps leg choice true) with_pair ⊎ EndsAtOnce t (part keeps leg choice false) without
 
 -- the pair is kept
 abbrev pub IsKeptPair : Domains → ℕ → ℕ → Type 0
-IsKeptPair keeps leg fleet = IsTrue (keeps (leg_on leg fleet))
+IsKeptPair keeps leg choice = IsTrue (keeps (leg_on leg choice))
 
 -- a trim and a split name a kept pair; a child of a trim ends at once, and a split's leg keeps other pairs too
 abbrev pub HasParts : Tables → Domains → Tree → Type 0
-HasParts t keeps (tree.Trim' leg fleet p with_pair q without) =
-    IsKeptPair keeps leg fleet × OneEnds t keeps leg fleet with_pair without
-HasParts t keeps (tree.Split' leg fleet prices mixed p with_pair q without) = IsKeptPair keeps leg fleet × (kept_on t keeps leg ≢ 1)
+HasParts t keeps (tree.Trim' leg choice p with_pair q without) =
+    IsKeptPair keeps leg choice × OneEnds t keeps leg choice with_pair without
+HasParts t keeps (tree.Split' leg choice prices mixed p with_pair q without) = IsKeptPair keeps leg choice × (kept_on t keeps leg ≢ 1)
 HasParts t keeps other = ⊤
 
 -- an open leaf's fractional assignment, where it has one, is a best one and not whole; so is a split's, which flies
 -- the split's pair in part
 abbrev pub HasFraction : Tables → Domains → Tree → Type 0
 HasFraction t keeps (tree.Open prices why) = IfSome (mixed_of why) (IsFraction t keeps prices)
-HasFraction t keeps (tree.Split' leg fleet prices mixed p with_pair q without) = IsFraction t keeps prices mixed × (¬ (IsWholePair mixed leg fleet))
+HasFraction t keeps (tree.Split' leg choice prices mixed p with_pair q without) = IsFraction t keeps prices mixed × (¬ (IsWholePair mixed leg choice))
 HasFraction t keeps other = ⊤
 
 -- a node keeps a rule, where the plan that comes with the tree, if any, has this cost

@@ -17,7 +17,7 @@ pub record AreSoundButPriced (t : Tables) (keeps : Domains) (tree : Tree) : Type
 
 -- a split of this rounded worth
 abbrev pub IsSplitWorth : Tables → Domains → Tree → ℤ → Type 0
-IsSplitWorth t keeps (tree.Split' leg fleet prices mixed p with_pair q without) worth = IsCeiling (worth_of t keeps prices 1) prices.scale worth
+IsSplitWorth t keeps (tree.Split' leg choice prices mixed p with_pair q without) worth = IsCeiling (worth_of t keeps prices 1) prices.scale worth
 IsSplitWorth t keeps other worth = ⊥
 
 -- a split whose rounded worth is above a cost

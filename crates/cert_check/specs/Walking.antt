@@ -41,8 +41,8 @@ IsWalked t cost keeps tree before after (Some rule) = AreBrokenAt t cost (nodes_
 
 -- the bound that a node has without its children: that of a leaf
 abbrev pub IsOwnBound : Tables → Domains → Tree → Option ℤ → Type 0
-IsOwnBound t keeps (tree.Trim' leg fleet p with_pair q without) bound = bound ≡ None
-IsOwnBound t keeps (tree.Split' leg fleet prices mixed p with_pair q without) bound = bound ≡ None
+IsOwnBound t keeps (tree.Trim' leg choice p with_pair q without) bound = bound ≡ None
+IsOwnBound t keeps (tree.Split' leg choice prices mixed p with_pair q without) bound = bound ≡ None
 IsOwnBound t keeps leaf bound = IsBoundIn t keeps leaf bound
 
 -- what is found of a node alone

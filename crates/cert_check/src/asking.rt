@@ -87,18 +87,18 @@ fn ask(tables: &Tables, asker: &mut Asker, tree: &Tree) -> bool
     match tree {
         Tree::Trim {
             leg,
-            choice: fleet,
+            choice,
             yes,
             no,
         } => {
             if enter(tables, asker, tree) {
                 return true;
             }
-            ask_both(tables, asker, *leg, *fleet, yes, no)
+            ask_both(tables, asker, *leg, *choice, yes, no)
         }
         Tree::Split {
             leg,
-            choice: fleet,
+            choice,
             yes,
             no,
             ..
@@ -106,7 +106,7 @@ fn ask(tables: &Tables, asker: &mut Asker, tree: &Tree) -> bool
             if enter(tables, asker, tree) {
                 return true;
             }
-            ask_both(tables, asker, *leg, *fleet, yes, no)
+            ask_both(tables, asker, *leg, *choice, yes, no)
         }
         Tree::Bare { .. } | Tree::Sole | Tree::Refuted(_) | Tree::Priced(_) | Tree::Open(..) => {
             enter(tables, asker, tree)
@@ -120,23 +120,23 @@ fn ask_both(
     tables: &Tables,
     asker: &mut Asker,
     leg: u32,
-    fleet: u32,
+    choice: u32,
     with_pair: &Tree,
     without: &Tree,
 ) -> bool
     requires size { IsSize tables.now asker.old.size }
-    requires pair { IsPair tables.now (leg_on leg fleet) }
+    requires pair { IsPair tables.now (leg_on leg choice) }
     requires first { IsOfTables tables.now with_pair.now }
     requires second { IsOfTables tables.now without.now }
-    requires first_sound { AreSoundButPriced tables.now (part (kept_by asker.old.kept) leg fleet true) with_pair.now }
-    requires second_sound { AreSoundButPriced tables.now (part (kept_by asker.old.kept) leg fleet false) without.now }
+    requires first_sound { AreSoundButPriced tables.now (part (kept_by asker.old.kept) leg choice true) with_pair.now }
+    requires second_sound { AreSoundButPriced tables.now (part (kept_by asker.old.kept) leg choice false) without.now }
     ensures kept { asker.new.kept ≡ asker.old.kept }
     ensures size { asker.new.size ≡ asker.old.size }
-    ensures found { OnEach tables.now asker.old.size (λ u. AreFound u (nodes_below (kept_by asker.old.kept) (leg_on leg fleet) with_pair.now without.now) (IsBoundBelow u (kept_by asker.old.kept) (leg_on leg fleet) with_pair.now without.now) asker.old.reached asker.new.reached result) }
+    ensures found { OnEach tables.now asker.old.size (λ u. AreFound u (nodes_below (kept_by asker.old.kept) (leg_on leg choice) with_pair.now without.now) (IsBoundBelow u (kept_by asker.old.kept) (leg_on leg choice) with_pair.now without.now) asker.old.reached asker.new.reached result) }
 {
     let yes = Step {
         leg,
-        choice: fleet,
+        choice,
         yes: true,
     };
     if ask_in_part(tables, asker, yes, with_pair) {
@@ -144,7 +144,7 @@ fn ask_both(
     }
     let no = Step {
         leg,
-        choice: fleet,
+        choice,
         yes: false,
     };
     ask_in_part(tables, asker, no, without)

@@ -17,7 +17,7 @@ use fleet_model::{Assignment, Kept, Tables};
 use frac_row::ceil_div;
 use plan_judge::{Verdict, judge};
 
-/// Whether a leg keeps no fleet. Takes no memory.
+/// Whether a leg keeps no choice. Takes no memory.
 pub(crate) fn is_bare(tables: &Tables, kept: &Kept, leg: u32) -> bool
     requires { leg < legs_in tables.now }
     ensures { MatchBool result (IsBare tables.now (kept_by kept.now) leg) (¬ (IsBare tables.now (kept_by kept.now) leg)) }
@@ -32,7 +32,7 @@ pub(crate) fn have_all_pairs(tables: &Tables, kept: &Kept) -> bool
     kept.bare_leg(tables).is_none()
 }
 
-/// Whether each leg keeps one fleet. Takes no memory.
+/// Whether each leg keeps one choice. Takes no memory.
 pub(crate) fn is_sole(tables: &Tables, kept: &Kept) -> bool
     ensures { MatchBool result (IsSole tables.now (kept_by kept.now)) (¬ (IsSole tables.now (kept_by kept.now))) }
 {
@@ -44,7 +44,7 @@ pub(crate) fn is_sole(tables: &Tables, kept: &Kept) -> bool
     true
 }
 
-/// What the one assignment that is left costs, where each leg keeps one fleet and it is legal. Takes no memory.
+/// What the one assignment that is left costs, where each leg keeps one choice and it is legal. Takes no memory.
 ///
 /// It has an assignment on the stack, and so is kept out of the walk's own frames.
 #[inline(never)]

@@ -194,15 +194,13 @@ fn has_parts(tables: &Tables, kept: &Kept, node: &Tree) -> bool
     match node {
         Tree::Trim {
             leg,
-            choice: fleet,
+            choice,
             yes,
             no,
-        } => kept.kept(*leg, *fleet) && one_ends(tables, kept, *leg, *fleet, yes, no),
-        Tree::Split {
-            leg,
-            choice: fleet,
-            ..
-        } => { kept.kept(*leg, *fleet) && kept.count_on(tables, *leg) != 1 }
+        } => kept.kept(*leg, *choice) && one_ends(tables, kept, *leg, *choice, yes, no),
+        Tree::Split { leg, choice, .. } => {
+            kept.kept(*leg, *choice) && kept.count_on(tables, *leg) != 1
+        }
         _ => true,
     }
 }
@@ -212,19 +210,19 @@ fn one_ends(
     tables: &Tables,
     kept: &Kept,
     leg: u32,
-    fleet: u32,
+    choice: u32,
     with_pair: &Tree,
     without: &Tree,
 ) -> bool
-    requires { IsPair tables.now (leg_on leg fleet) }
-    ensures { MatchBool result (OneEnds tables.now (kept_by kept.now) leg fleet with_pair.now without.now) (¬ (OneEnds tables.now (kept_by kept.now) leg fleet with_pair.now without.now)) }
+    requires { IsPair tables.now (leg_on leg choice) }
+    ensures { MatchBool result (OneEnds tables.now (kept_by kept.now) leg choice with_pair.now without.now) (¬ (OneEnds tables.now (kept_by kept.now) leg choice with_pair.now without.now)) }
 {
     ends_at_once(
         tables,
         kept,
         Step {
             leg,
-            choice: fleet,
+            choice,
             yes: true,
         },
         with_pair,
@@ -233,7 +231,7 @@ fn one_ends(
         kept,
         Step {
             leg,
-            choice: fleet,
+            choice,
             yes: false,
         },
         without,
@@ -252,7 +250,7 @@ fn ends_at_once(tables: &Tables, kept: &Kept, step: Step, child: &Tree) -> bool
     }
 }
 
-// Whether in a part of a subproblem each leg keeps one fleet, and that assignment is legal.
+// Whether in a part of a subproblem each leg keeps one choice, and that assignment is legal.
 //
 // It has the part on the stack, and so is kept out of the walk's own frames.
 #[inline(never)]
@@ -285,13 +283,13 @@ fn has_fraction(tables: &Tables, kept: &Kept, node: &Tree) -> bool
         Tree::Open(prices, cause) => open_fraction(tables, kept, prices, cause),
         Tree::Split {
             leg,
-            choice: fleet,
+            choice,
             prices,
             mixed,
             ..
         } => {
             is_fraction(tables, kept, prices, mixed)
-                && !is_whole_pair(&WeightFinder::new(mixed), *leg, *fleet)
+                && !is_whole_pair(&WeightFinder::new(mixed), *leg, *choice)
         }
         _ => true,
     }

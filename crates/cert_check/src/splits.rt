@@ -62,17 +62,17 @@ fn seek(tables: &Tables, seeker: &mut Seeker, tree: &Tree) -> bool
     match tree {
         Tree::Trim {
             leg,
-            choice: fleet,
+            choice,
             yes,
             no,
-        } => seek_both(tables, seeker, *leg, *fleet, yes, no),
+        } => seek_both(tables, seeker, *leg, *choice, yes, no),
         Tree::Split {
             leg,
-            choice: fleet,
+            choice,
             yes,
             no,
             ..
-        } => seek_both(tables, seeker, *leg, *fleet, yes, no),
+        } => seek_both(tables, seeker, *leg, *choice, yes, no),
         Tree::Bare { .. } | Tree::Sole | Tree::Refuted(_) | Tree::Priced(_) | Tree::Open(..) => {
             false
         }
@@ -85,22 +85,22 @@ fn seek_both(
     tables: &Tables,
     seeker: &mut Seeker,
     leg: u32,
-    fleet: u32,
+    choice: u32,
     with_pair: &Tree,
     without: &Tree,
 ) -> bool
-    requires pair { IsPair tables.now (leg_on leg fleet) }
+    requires pair { IsPair tables.now (leg_on leg choice) }
     requires first { IsOfTables tables.now with_pair.now }
     requires second { IsOfTables tables.now without.now }
-    requires first_sound { AreSoundButPriced tables.now (part (kept_by seeker.old.kept) leg fleet true) with_pair.now }
-    requires second_sound { AreSoundButPriced tables.now (part (kept_by seeker.old.kept) leg fleet false) without.now }
+    requires first_sound { AreSoundButPriced tables.now (part (kept_by seeker.old.kept) leg choice true) with_pair.now }
+    requires second_sound { AreSoundButPriced tables.now (part (kept_by seeker.old.kept) leg choice false) without.now }
     ensures kept { seeker.new.kept ≡ seeker.old.kept }
     ensures cost { seeker.new.cost ≡ seeker.old.cost }
-    ensures sought { AreSought tables.now seeker.old.cost (nodes_below (kept_by seeker.old.kept) (leg_on leg fleet) with_pair.now without.now) seeker.old.number seeker.new.number result }
+    ensures sought { AreSought tables.now seeker.old.cost (nodes_below (kept_by seeker.old.kept) (leg_on leg choice) with_pair.now without.now) seeker.old.number seeker.new.number result }
 {
     let yes = Step {
         leg,
-        choice: fleet,
+        choice,
         yes: true,
     };
     if seek_in_part(tables, seeker, yes, with_pair) {
@@ -108,7 +108,7 @@ fn seek_both(
     }
     let no = Step {
         leg,
-        choice: fleet,
+        choice,
         yes: false,
     };
     seek_in_part(tables, seeker, no, without)

@@ -39,22 +39,22 @@ pub(crate) fn walk(tables: &Tables, walker: &mut Walker, tree: &Tree) -> Option<
     match tree {
         Tree::Trim {
             leg,
-            choice: fleet,
+            choice,
             yes,
             no,
         } => match enter(tables, walker, tree) {
             Some(rule) => Some(rule),
-            None => walk_both(tables, walker, *leg, *fleet, yes, no),
+            None => walk_both(tables, walker, *leg, *choice, yes, no),
         },
         Tree::Split {
             leg,
-            choice: fleet,
+            choice,
             yes,
             no,
             ..
         } => match enter(tables, walker, tree) {
             Some(rule) => Some(rule),
-            None => walk_both(tables, walker, *leg, *fleet, yes, no),
+            None => walk_both(tables, walker, *leg, *choice, yes, no),
         },
         Tree::Bare { .. } | Tree::Sole | Tree::Refuted(_) | Tree::Priced(_) | Tree::Open(..) => {
             enter(tables, walker, tree)
@@ -68,20 +68,20 @@ fn walk_both(
     tables: &Tables,
     walker: &mut Walker,
     leg: u32,
-    fleet: u32,
+    choice: u32,
     with_pair: &Tree,
     without: &Tree,
 ) -> Option<Rule>
     requires first { IsOfTables tables.now with_pair.now }
     requires second { IsOfTables tables.now without.now }
-    requires pair { IsPair tables.now (leg_on leg fleet) }
+    requires pair { IsPair tables.now (leg_on leg choice) }
     ensures kept { walker.new.kept ≡ walker.old.kept }
     ensures cost { walker.new.cost ≡ walker.old.cost }
-    ensures walked { AreBothWalked tables.now walker.old.cost (kept_by walker.old.kept) (leg_on leg fleet) with_pair.now without.now walker.old.reached walker.new.reached result }
+    ensures walked { AreBothWalked tables.now walker.old.cost (kept_by walker.old.kept) (leg_on leg choice) with_pair.now without.now walker.old.reached walker.new.reached result }
 {
     let yes = Step {
         leg,
-        choice: fleet,
+        choice,
         yes: true,
     };
     match walk_part(tables, walker, yes, with_pair) {
@@ -89,7 +89,7 @@ fn walk_both(
         None => {
             let no = Step {
                 leg,
-                choice: fleet,
+                choice,
                 yes: false,
             };
             walk_part(tables, walker, no, without)

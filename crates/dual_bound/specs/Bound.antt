@@ -34,9 +34,9 @@ pub record IsLesserBound (yes_has no_has : Option ℤ → Type 0) (bound : Optio
   pub no_is : no_has without
   pub lesser : bound ≡ lesser_bound with_pair without
 
--- a subproblem's part in which a leg takes a fleet, and the part in which it takes another
+-- a subproblem's part in which a leg takes a choice, and the part in which it takes another
 abbrev pub part : Domains → ℕ → ℕ → Bool → Domains
-part keeps leg fleet kept = narrowed keeps (record { leg = leg; choice = fleet; yes = kept })
+part keeps leg choice kept = narrowed keeps (record { leg = leg; choice = choice; yes = kept })
 
 -- the least bound of a tree's leaves in their subproblems, and nothing where no leaf has one
 abbrev pub IsBoundIn : Tables → Domains → Tree → Option ℤ → Type 0
@@ -45,10 +45,10 @@ IsBoundIn t keeps tree.Sole bound = IsSoleBound t keeps bound
 IsBoundIn t keeps (tree.Refuted prices) bound = bound ≡ None
 IsBoundIn t keeps (tree.Priced prices) bound = IsPriceBound t keeps prices bound
 IsBoundIn t keeps (tree.Open prices why) bound = IsPriceBound t keeps prices bound
-IsBoundIn t keeps (tree.Trim' leg fleet p with_pair q without) bound =
-    IsLesserBound (IsBoundIn t (part keeps leg fleet true) with_pair) (IsBoundIn t (part keeps leg fleet false) without) bound
-IsBoundIn t keeps (tree.Split' leg fleet prices mixed p with_pair q without) bound =
-    IsLesserBound (IsBoundIn t (part keeps leg fleet true) with_pair) (IsBoundIn t (part keeps leg fleet false) without) bound
+IsBoundIn t keeps (tree.Trim' leg choice p with_pair q without) bound =
+    IsLesserBound (IsBoundIn t (part keeps leg choice true) with_pair) (IsBoundIn t (part keeps leg choice false) without) bound
+IsBoundIn t keeps (tree.Split' leg choice prices mixed p with_pair q without) bound =
+    IsLesserBound (IsBoundIn t (part keeps leg choice true) with_pair) (IsBoundIn t (part keeps leg choice false) without) bound
 
 -- the bound of a tree over all pairs that may be flown
 abbrev pub IsBound : Tables → Tree → Option ℤ → Type 0

@@ -10,8 +10,8 @@ load_of tree.Sole = 1
 load_of (tree.Refuted prices) = 1
 load_of (tree.Priced prices) = 1
 load_of (tree.Open prices why) = 1
-load_of (tree.Trim' leg fleet p with_pair q without) = suc (load_of with_pair + load_of with_pair + load_of without)
-load_of (tree.Split' leg fleet prices mixed p with_pair q without) = suc (load_of with_pair + load_of with_pair + load_of without)
+load_of (tree.Trim' leg choice p with_pair q without) = suc (load_of with_pair + load_of with_pair + load_of without)
+load_of (tree.Split' leg choice prices mixed p with_pair q without) = suc (load_of with_pair + load_of with_pair + load_of without)
 
 -- the tree is a leaf
 abbrev pub IsLeaf : Tree → Type 0
@@ -20,8 +20,8 @@ IsLeaf tree.Sole = ⊤
 IsLeaf (tree.Refuted prices) = ⊤
 IsLeaf (tree.Priced prices) = ⊤
 IsLeaf (tree.Open prices why) = ⊤
-IsLeaf (tree.Trim' leg fleet p with_pair q without) = ⊥
-IsLeaf (tree.Split' leg fleet prices mixed p with_pair q without) = ⊥
+IsLeaf (tree.Trim' leg choice p with_pair q without) = ⊥
+IsLeaf (tree.Split' leg choice prices mixed p with_pair q without) = ⊥
 
 -- a tree and another have exchanged a part of the first for the second: together they have the same load, and the
 -- part had less than its tree

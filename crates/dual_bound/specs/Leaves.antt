@@ -13,8 +13,8 @@ depth_of tree.Sole = 0
 depth_of (tree.Refuted prices) = 0
 depth_of (tree.Priced prices) = 0
 depth_of (tree.Open prices why) = 0
-depth_of (tree.Trim' leg fleet p with_pair q without) = suc (max (depth_of with_pair) (depth_of without))
-depth_of (tree.Split' leg fleet prices mixed p with_pair q without) = suc (max (depth_of with_pair) (depth_of without))
+depth_of (tree.Trim' leg choice p with_pair q without) = suc (max (depth_of with_pair) (depth_of without))
+depth_of (tree.Split' leg choice prices mixed p with_pair q without) = suc (max (depth_of with_pair) (depth_of without))
 
 -- how many subproblems were split; a trim is no split
 abbrev pub splits_in : Tree → ℕ
@@ -23,8 +23,8 @@ splits_in tree.Sole = 0
 splits_in (tree.Refuted prices) = 0
 splits_in (tree.Priced prices) = 0
 splits_in (tree.Open prices why) = 0
-splits_in (tree.Trim' leg fleet p with_pair q without) = splits_in with_pair + splits_in without
-splits_in (tree.Split' leg fleet prices mixed p with_pair q without) = suc (splits_in with_pair + splits_in without)
+splits_in (tree.Trim' leg choice p with_pair q without) = splits_in with_pair + splits_in without
+splits_in (tree.Split' leg choice prices mixed p with_pair q without) = suc (splits_in with_pair + splits_in without)
 
 -- whether a leaf stayed open
 abbrev pub has_open : Tree → Bool
@@ -33,8 +33,8 @@ has_open tree.Sole = false
 has_open (tree.Refuted prices) = false
 has_open (tree.Priced prices) = false
 has_open (tree.Open prices why) = true
-has_open (tree.Trim' leg fleet p with_pair q without) = has_open with_pair || has_open without
-has_open (tree.Split' leg fleet prices mixed p with_pair q without) = has_open with_pair || has_open without
+has_open (tree.Trim' leg choice p with_pair q without) = has_open with_pair || has_open without
+has_open (tree.Split' leg choice prices mixed p with_pair q without) = has_open with_pair || has_open without
 
 -- the open leaves, each counted as its cause is
 abbrev pub open_by : (Cause → ℕ) → Tree → ℕ
@@ -43,8 +43,8 @@ open_by count tree.Sole = 0
 open_by count (tree.Refuted prices) = 0
 open_by count (tree.Priced prices) = 0
 open_by count (tree.Open prices why) = count why
-open_by count (tree.Trim' leg fleet p with_pair q without) = open_by count with_pair + open_by count without
-open_by count (tree.Split' leg fleet prices mixed p with_pair q without) = open_by count with_pair + open_by count without
+open_by count (tree.Trim' leg choice p with_pair q without) = open_by count with_pair + open_by count without
+open_by count (tree.Split' leg choice prices mixed p with_pair q without) = open_by count with_pair + open_by count without
 
 -- 1 where no more subproblems were allowed, else 0
 abbrev pub by_nodes : Cause → ℕ

@@ -12,5 +12,5 @@ nodes_of tree.Sole = node.Sole ∷ []
 nodes_of (tree.Refuted prices) = node.Refuted prices ∷ []
 nodes_of (tree.Priced prices) = node.Priced prices ∷ []
 nodes_of (tree.Open prices why) = node.Open prices why ∷ []
-nodes_of (tree.Trim' leg fleet p with_pair q without) = node.Trim leg fleet ∷ (nodes_of with_pair ++ nodes_of without)
-nodes_of (tree.Split' leg fleet prices mixed p with_pair q without) = node.Split leg fleet prices mixed ∷ (nodes_of with_pair ++ nodes_of without)
+nodes_of (tree.Trim' leg choice p with_pair q without) = node.Trim leg choice ∷ (nodes_of with_pair ++ nodes_of without)
+nodes_of (tree.Split' leg choice prices mixed p with_pair q without) = node.Split leg choice prices mixed ∷ (nodes_of with_pair ++ nodes_of without)

@@ -26,7 +26,7 @@ pub record ArePricesOf (t : Tables) (prices : Prices) : Type 0 where
   pub steps : All (IsStepOf t) prices.steps
   pub charges : All (IsChargeOf t) prices.charges
 
--- a weight of a leg on a fleet of the tables
+-- a weight of a leg on a choice of the tables
 abbrev pub IsWeightOf : Tables → Weight → Type 0
 IsWeightOf t weight = IsPair t (leg_on weight.leg weight.choice)
 
@@ -48,6 +48,6 @@ IsOfTables t tree.Sole = ⊤
 IsOfTables t (tree.Refuted prices) = ArePricesOf t prices
 IsOfTables t (tree.Priced prices) = ArePricesOf t prices
 IsOfTables t (tree.Open prices why) = ArePricesOf t prices × IsCauseOf t why
-IsOfTables t (tree.Trim' leg fleet p with_pair q without) = IsPair t (leg_on leg fleet) × IsOfTables t with_pair × IsOfTables t without
-IsOfTables t (tree.Split' leg fleet prices mixed p with_pair q without) =
-    IsPair t (leg_on leg fleet) × ArePricesOf t prices × IsMixedOf t mixed × IsOfTables t with_pair × IsOfTables t without
+IsOfTables t (tree.Trim' leg choice p with_pair q without) = IsPair t (leg_on leg choice) × IsOfTables t with_pair × IsOfTables t without
+IsOfTables t (tree.Split' leg choice prices mixed p with_pair q without) =
+    IsPair t (leg_on leg choice) × ArePricesOf t prices × IsMixedOf t mixed × IsOfTables t with_pair × IsOfTables t without

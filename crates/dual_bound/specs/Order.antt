@@ -26,7 +26,7 @@ charge_follows None entry = not (int_eq entry.charge (pos 0))
 charge_follows (Some before) entry =
     (nat_lt before.station entry.station || ((before.station == entry.station) && nat_lt before.day entry.day)) && not (int_eq entry.charge (pos 0))
 
--- a weight may follow: it isn't 0, and its pair comes later, by leg and then by fleet
+-- a weight may follow: it isn't 0, and its pair comes later, by leg and then by choice
 abbrev pub weight_follows : Option Weight → Weight → Bool
 weight_follows None entry = not (int_eq entry.weight (pos 0))
 weight_follows (Some before) entry =

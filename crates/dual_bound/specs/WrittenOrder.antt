@@ -81,17 +81,17 @@ pub record ArePricesInOrder (t : Tables) (prices : Prices) : Type 0 where
   pub charges : AreChargesInOrder t prices.charges
   pub steps : AreStepsInOrder t prices.steps
 
--- a weight of a leg on a fleet of the tables
+-- a weight of a leg on a choice of the tables
 pub record IsWeightInOrder (t : Tables) (entry : Weight) : Type 0 where
   pub pair : IsPair t (leg_on entry.leg entry.choice)
   pub weight : IsFigure entry.weight
 
--- each weight may follow the one before it: it isn't 0, and its pair comes later, by leg and then by fleet
+-- each weight may follow the one before it: it isn't 0, and its pair comes later, by leg and then by choice
 abbrev pub WeightsFollow : Option Weight → List Weight → Type 0
 WeightsFollow before [] = ⊤
 WeightsFollow before (entry ∷ entries) = IsTrue (weight_follows before entry) × WeightsFollow (Some entry) entries
 
--- a fractional assignment: its weights rise by leg and fleet, and none is 0
+-- a fractional assignment: its weights rise by leg and choice, and none is 0
 pub record IsMixedInOrder (t : Tables) (mixed : Mixed) : Type 0 where
   pub scale : IsFigure mixed.scale
   pub each : All (IsWeightInOrder t) mixed.weights
@@ -115,8 +115,8 @@ IsNodeInOrder t node.Sole = ⊤
 IsNodeInOrder t (node.Refuted prices) = ArePricesInOrder t prices
 IsNodeInOrder t (node.Priced prices) = ArePricesInOrder t prices
 IsNodeInOrder t (node.Open prices why) = ArePricesInOrder t prices × IsCauseInOrder t why
-IsNodeInOrder t (node.Trim leg fleet) = IsPair t (leg_on leg fleet)
-IsNodeInOrder t (node.Split leg fleet prices mixed) = IsPair t (leg_on leg fleet) × ArePricesInOrder t prices × IsMixedInOrder t mixed
+IsNodeInOrder t (node.Trim leg choice) = IsPair t (leg_on leg choice)
+IsNodeInOrder t (node.Split leg choice prices mixed) = IsPair t (leg_on leg choice) × ArePricesInOrder t prices × IsMixedInOrder t mixed
 
 -- the tree is in written order
 abbrev pub InWrittenOrder : Tables → Tree → Type 0

@@ -4,18 +4,18 @@ ghost use Rattle.dual_bound.specs.Mixed.{weight_after, weight_in};
 use entries::Entries;
 use fleet_model::Pair;
 
-/// How much of a leg a fleet flies, in parts of a scale.
+/// How much of a leg takes a choice, in parts of a scale.
 #[derive(Clone, Copy, Debug, PartialEq, Eq)]
 pub struct Weight {
     /// The leg, by its number.
     pub leg: u32,
-    /// The fleet, by its number.
+    /// The choice, by its number.
     pub choice: u32,
     /// How many parts.
     pub weight: i128,
 }
 
-/// A fractional assignment, a point of the linear relaxation: of each leg `scale` parts in all, each flown by a fleet.
+/// A fractional assignment, a point of the linear relaxation: of each leg `scale` parts in all, each of one choice.
 #[derive(Debug, Drop)]
 pub struct Mixed {
     /// How many parts a leg has, 1 or more.

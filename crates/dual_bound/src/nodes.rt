@@ -5,11 +5,11 @@ use crate::trees::Cause;
 /// A node of a tree without its children.
 #[derive(Drop)]
 pub enum Node {
-    /// A leaf: this leg keeps no fleet.
+    /// A leaf: this leg keeps no choice.
     Bare {
         leg: u32,
     },
-    /// A leaf: each leg keeps one fleet.
+    /// A leaf: each leg keeps one choice.
     Sole,
     /// A leaf that prices refute.
     Refuted(Prices),

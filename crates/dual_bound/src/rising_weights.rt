@@ -1,4 +1,4 @@
-//! Lists of weights that rise by leg and fleet, and what they say of a pair.
+//! Lists of weights that rise by leg and choice, and what they say of a pair.
 ghost use Rattle.std.specs.Prelude.{◌≡◌, ◌≤◌, ◌<◌, IsTrue, length, pos};
 ghost use Rattle.dual_bound.specs.Mixed.{weight_after};
 ghost use Rattle.dual_bound.specs.Rising.{IsPairParting, WeightsRise, is_weight_by, weight_before, weight_before_place, weight_of_entry};
@@ -6,7 +6,7 @@ ghost use Rattle.dual_bound.specs.Rising.{IsPairParting, WeightsRise, is_weight_
 use crate::mixed::Weight;
 use fleet_model::Pair;
 
-/// Whether each weight's pair comes before that of the next one, by leg and fleet. It looks at each weight once.
+/// Whether each weight's pair comes before that of the next one, by leg and choice. It looks at each weight once.
 pub(crate) fn weights_rise(weights: &[Weight]) -> bool
     ensures { IsTrue result → WeightsRise weights.now }
 {
@@ -23,7 +23,7 @@ pub(crate) fn bisect_weights(weights: &[Weight], pair: Pair) -> i128
     weight_before(weights, place, pair)
 }
 
-// Whether a weight's pair comes before another's, by leg and fleet.
+// Whether a weight's pair comes before another's, by leg and choice.
 fn comes_before(a: &Weight, b: &Weight) -> bool
     ensures { result ≡ weight_before a.now b.now }
 {

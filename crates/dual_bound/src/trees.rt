@@ -39,11 +39,11 @@ pub enum Cause {
 /// A proof of a bound: subproblems, each with the reason why no legal assignment in it is cheaper.
 #[derive(Debug)]
 pub enum Tree {
-    /// This leg keeps no fleet, so nothing in the subproblem is legal.
+    /// This leg keeps no choice, so nothing in the subproblem is legal.
     Bare {
         leg: u32,
     },
-    /// Each leg keeps one fleet, so nothing but that assignment can be legal.
+    /// Each leg keeps one choice, so nothing but that assignment can be legal.
     Sole,
     /// The prices show that nothing in the subproblem is legal.
     Refuted(Prices),
@@ -55,9 +55,9 @@ pub enum Tree {
     Trim {
         /// The leg, by its number.
         leg: u32,
-        /// The fleet, by its number.
+        /// The choice, by its number.
         choice: u32,
-        /// The part in which the fleet flies the leg.
+        /// The part in which the leg takes the choice.
         yes: Box<Tree>,
         /// The part in which it doesn't.
         no: Box<Tree>,
@@ -66,13 +66,13 @@ pub enum Tree {
     Split {
         /// The leg, by its number.
         leg: u32,
-        /// The fleet, by its number.
+        /// The choice, by its number.
         choice: u32,
         /// The prices of the subproblem.
         prices: Prices,
         /// The fractional assignment of the subproblem.
         mixed: Mixed,
-        /// The part in which the fleet flies the leg.
+        /// The part in which the leg takes the choice.
         yes: Box<Tree>,
         /// The part in which it doesn't.
         no: Box<Tree>,

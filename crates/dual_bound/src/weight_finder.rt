@@ -7,7 +7,7 @@ use crate::rising_weights::{bisect_weights, weights_rise};
 use fleet_model::Pair;
 use std::marker::Model;
 
-/// A fractional assignment, of which it is known whether its weights rise by leg and fleet. Where they do, as in all
+/// A fractional assignment, of which it is known whether its weights rise by leg and choice. Where they do, as in all
 /// that is written, the weight of a pair is found by bisection; else each entry is looked at. Contracts see the
 /// fractional assignment.
 #[derive(Drop)]

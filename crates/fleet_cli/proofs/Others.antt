@@ -10,10 +10,9 @@ use Rattle.solutions.specs.declared.solved.Solved.{Solved}
 use Rattle.solutions.specs.declared.solved.Solved.TheVariants as solved
 use Rattle.cert_check.specs.declared.checked.Checked.{Checked}
 use Rattle.cert_check.specs.declared.checked.Checked.TheVariants as checked
-use Rattle.command_words.specs.Words.{Asked, check, due, judge, make, solve, tails}
+use Rattle.command_words.specs.Words.{Asked, check, due, judge, make, solve, tails, whatif}
 use Rattle.cert_check.specs.declared.what_if.WhatIf.{WhatIf}
 use Rattle.cert_check.specs.declared.what_if.WhatIf.TheVariants as what
-use Rattle.command_words.specs.Words.{Asked, check, judge, make, solve, tails, whatif}
 use Rattle.command_words.specs.Arguments.{AskedDates}
 use Rattle.command_words.specs.declared.command.RotationLimits.{RotationLimits}
 use Rattle.command_words.specs.declared.command.SolveOptions.{SolveOptions}
@@ -34,25 +33,21 @@ use Rattle.fleet_rotations.specs.declared.made.FleetRotation.{FleetRotation}
 use Rattle.fleet_cli.proofs.OneAnswer.{solution_status}
 use Rattle.due_report.specs.Placings.{are_unplaced}
 use Rattle.tail_dates.specs.declared.tails.TailState.{TailState}
-use Rattle.fleet_cli.proofs.Skeletons.{either_legal, either_plan, either_proof, either_tables, either_tails}
-use Rattle.fleet_cli.specs.Answer.{Answers, AnswersOf, AnswersSome, DueOn, DueWith, GivesSolution, JudgesOn, JudgesPlan, Makes, TailsOn, TellsDue, TellsTails, checked_status, due_status}
-use Rattle.fleet_cli.proofs.Skeletons.{either_fleet, either_legal, either_plan, either_proof, either_tables}
-use Rattle.fleet_cli.specs.Answer.{Answers, AnswersOf, AnswersSome, AsksChecked, AsksOn, GivesSolution, JudgesOn, JudgesPlan, Makes, TailsOn, TellsOn, TellsProof, TellsRead, TellsTails, TellsTree, TellsWith, checked_status, what_if_status}
+use Rattle.fleet_cli.proofs.Skeletons.{either_fleet, either_legal, either_plan, either_proof, either_tables, either_tails}
+use Rattle.fleet_cli.specs.Answer.{Answers, AnswersOf, AnswersSome, AsksChecked, AsksOn, DueOn, DueWith, GivesSolution, JudgesOn, JudgesPlan, Makes, TailsOn, TellsDue, TellsOn, TellsProof, TellsRead, TellsTails, TellsTree, TellsWith, checked_status, due_status, what_if_status}
 use Rattle.fleet_cli.specs.Contents.{FileBytes, table_bytes}
 use Rattle.fleet_cli.specs.Making.{after_files, made_files}
 use Rattle.fleet_cli.specs.Reading.{five_tables, folder_of, solution_files, written_files}
 use Rattle.fleet_cli.specs.Refusals.{says, verdict_status}
 use Rattle.fleet_cli.specs.Run.{IsEnd, IsRefusal, IsSolution, KeepsAllBut, KeepsOthers}
-use Rattle.fleet_cli.specs.Skeletons.{OnLegal, OnPlan, OnProof, OnTables, OnTails, TablesRead}
-use Rattle.fleet_cli.specs.Skeletons.{OnFleet, OnLegal, OnPlan, OnProof, OnTables, TablesRead}
+use Rattle.fleet_cli.specs.Skeletons.{OnFleet, OnLegal, OnPlan, OnProof, OnTables, OnTails, TablesRead}
 use Rattle.fleet_cli.specs.Solution.{solved_answer, solved_files, solved_status}
 use Rattle.fleet_cli.specs.Written.{StandsAfter, no_text, text_name, under, with_texts}
 use Rattle.fleet_cli.specs.declared.answer.Answer.{Answer}
 use Rattle.fleet_cli.specs.declared.answer.FileText.{FileText}
-use Rattle.fleet_cli.specs.declared.status.TheConstants.{BAD_INPUT, DONE, FAULT, NO_MEMORY, REFUSED, UNPLACED, USAGE}
+use Rattle.fleet_cli.specs.declared.status.TheConstants.{BAD_INPUT, DONE, FALLEN, FAULT, NO_MEMORY, REFUSED, UNPLACED, USAGE}
 use Rattle.fleet_cli.specs.declared.opened.Question.{Question}
 use Rattle.fleet_cli.specs.declared.opened.Question.TheVariants as question
-use Rattle.fleet_cli.specs.declared.status.TheConstants.{BAD_INPUT, DONE, FALLEN, FAULT, NO_MEMORY, REFUSED, USAGE}
 
 -- ---- texts under other names
 

@@ -3,8 +3,7 @@ ghost use Rattle.std.specs.Prelude.{◌≡◌};
 ghost use Rattle.fleet_cli.specs.Laws.{OneAnswer};
 ghost use Rattle.fleet_cli.specs.MadeSolved.{MadeIsSolved};
 ghost use Rattle.fleet_cli.specs.SolvedChecked.{SolvedIsChecked};
-ghost use Rattle.fleet_cli.specs.declared.status.TheConstants.{BAD_INPUT, DONE, FAULT, GAP, INFEASIBLE, NO_MEMORY, REFUSED, UNPLACED, UNSETTLED, USAGE};
-ghost use Rattle.fleet_cli.specs.declared.status.TheConstants.{BAD_INPUT, DONE, FALLEN, FAULT, GAP, INFEASIBLE, NO_MEMORY, REFUSED, UNSETTLED, USAGE};
+ghost use Rattle.fleet_cli.specs.declared.status.TheConstants.{BAD_INPUT, DONE, FALLEN, FAULT, GAP, INFEASIBLE, NO_MEMORY, REFUSED, UNPLACED, UNSETTLED, USAGE};
 
 /// What is held and what is asked fix the status and the text, so that each status comes exactly by its cause.
 pub fn one_answer()

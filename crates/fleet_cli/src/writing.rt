@@ -1,12 +1,11 @@
 //! Writing the files of an answer, in their order.
-ghost use Rattle.std.specs.Prelude.{◌≡◌, ◌≤◌, OnErr, OnOk, length, ⊤};
+ghost use Rattle.std.specs.Prelude.{◌≡◌, ◌≤◌, OnErr, OnOk, Some, length, ⊤};
 ghost use Rattle.fleet_cli.specs.Failed.{MatchFailure};
 ghost use Rattle.fleet_cli.specs.Written.{HaveLengths, WriteFails, WritesFirst, WritesPart, held_with_texts};
 ghost use Rattle.plan_desk.specs.Counts.{CallsAtMost, counted, once_more};
 ghost use Rattle.plan_desk.specs.Desk.{ChangesOnly, held_with};
 ghost use Rattle.plan_desk.specs.DeskFile.{path_of};
 ghost use Rattle.plan_desk.specs.declared.file.TheConstants.{PROOF_LIMIT};
-ghost use Rattle.std.specs.Prelude.{Some};
 
 use crate::answer::{Failure, FileText};
 use plan_desk::{Desk, DeskError};

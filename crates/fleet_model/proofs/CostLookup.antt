@@ -1,15 +1,12 @@
 -- Which entry of a list of costs `cost_in` finds.
-use Rattle.std.proofs.Common.{◌≡◌, ℕ, zero, suc, ◌+◌, ◌<◌, ◌≤◌, List, [], ◌∷◌, length, Bool, true, false, Some, None, slice_index_or, refl, inl, inr, arith}
+use Rattle.std.proofs.Common.{◌≡◌, ℕ, zero, suc, ◌+◌, ◌<◌, ◌≤◌, List, [], ◌∷◌, length, Bool, true, false, Some, None, slice_index_or, refl, inl, inr, arith, sym, Result, Ok, Err, MatchResult, IsTrue, IfSome, if◌then◌else◌}
 use mathlib.Core.Bool.{false≢true}
-use Rattle.std.proofs.Common.{sym, Result, Ok, Err, MatchResult, IsTrue}
-use Rattle.std.specs.List.{IsAllAdjacentAnswer}
+use Rattle.std.specs.List.{IsAllAdjacentAnswer, AllByRecursion}
 use Rattle.std.specs.List.Sorted.{IsSearchInRange, IsBinarySearchResult, IsNonDecreasingBy}
 use Rattle.std.specs.declared.cmp.Ordering.{Ordering}
 use Rattle.std.specs.declared.cmp.Ordering.TheVariants.{Less, Equal, Greater}
 use Rattle.std.specs.Ordering.{nat_cmp, ordering_then, ordering_index}
 use Rattle.std.proofs.lemmas.List.Sorted.{IsNonDecreasingBy-from_default}
-use Rattle.std.proofs.Common.{IfSome, if◌then◌else◌}
-use Rattle.std.specs.List.{AllByRecursion}
 use Rattle.fleet_model.specs.Limits.{IsPairCost, IsCostUpTo}
 use Rattle.std.proofs.lemmas.Bool.{cases_lt}
 use Rattle.std.proofs.lemmas.Bool.Decides.{nat_tests}

@@ -1,21 +1,18 @@
 -- Laws of rows.
-use Rattle.std.specs.Prelude.{◌*ℤ◌}
+use Rattle.std.specs.Prelude.{◌*ℤ◌, All}
 use Prim.Native.Nat.{◌∣◌}
 use lib.IntN.{*ℤ-zero}
-use Rattle.sums.proofs.Divisors.{gcd_below_first, gcd_below_each}
+use Rattle.sums.proofs.Divisors.{gcd_below_first, gcd_below_each, gcd_at_most, gcd_positive}
 use Rattle.sums.proofs.Division.{*ℤ-int_div, size-int_div, positive_factor}
-use Rattle.std.proofs.Common.{inl, inr}
-use Rattle.std.proofs.Common.{◌≡◌, ℕ, zero, suc, ◌-◌, ◌^◌, ◌<◌, ◌≤◌, ℤ, pos, negsuc, ◌<ℤ◌, List, unsigned_abs, int_div, refl, sym, ◌∙◌, ap, arith}
+use Rattle.std.proofs.Common.{inl, inr, ◌≡◌, ℕ, zero, suc, ◌-◌, ◌^◌, ◌<◌, ◌≤◌, ℤ, pos, negsuc, ◌<ℤ◌, List, unsigned_abs, int_div, refl, sym, ◌∙◌, ap, arith}
 use Rattle.std.proofs.lemmas.Int.{ints}
 use Rattle.std.proofs.lemmas.List.{ext_get_or, get_or_past, get_or_default}
-use Rattle.std.specs.Prelude.{All}
 use Rattle.std.proofs.lemmas.Bool.{cases_lt}
 use native.Mathlib.Nat.{div-one}
 use Rattle.sums.proofs.Sizes.{size_above}
 use Rattle.frac_row.specs.Outgrown.{IsWithin}
 use Rattle.sums.specs.Places.{list_below}
 use Rattle.sums.specs.Divisors.{gcd_below}
-use Rattle.sums.proofs.Divisors.{gcd_at_most, gcd_positive}
 use Rattle.sums.proofs.Places.{length-list_below, get_or-list_below}
 use Rattle.frac_row.specs.declared.row.FracRow.{FracRow}
 use Rattle.frac_row.specs.Row.{number_of, width_of, IsRow, common_divisor, divided, reduced}

@@ -26,8 +26,8 @@ node_count tree.Sole = 1
 node_count (tree.Refuted prices) = 1
 node_count (tree.Priced prices) = 1
 node_count (tree.Open prices why) = 1
-node_count (tree.Trim' leg fleet p with_pair q without) = suc (node_count with_pair + node_count without)
-node_count (tree.Split' leg fleet prices mixed p with_pair q without) = suc (node_count with_pair + node_count without)
+node_count (tree.Trim' leg choice p with_pair q without) = suc (node_count with_pair + node_count without)
+node_count (tree.Split' leg choice prices mixed p with_pair q without) = suc (node_count with_pair + node_count without)
 
 -- the prices of an open leaf are proper
 pub open_proper : (t : Tables) (cost : Option ℤ) (keeps : Domains) (whole : Tree) (prices : Prices) (why : Cause) → whole ≡ tree.Open prices why → AreSound t cost keeps whole → ArePrices t prices
@@ -35,57 +35,57 @@ open_proper t cost keeps whole prices why e sound =
     prices_known t cost (node keeps (tree.Open prices why)) prices (All-head (IsSound t cost) (node keeps (tree.Open prices why)) [] (subst (AreSound t cost keeps) e sound)) refl
 
 abbrev step_of : ℕ → ℕ → Bool → Step
-step_of leg fleet taken = record { leg = leg; choice = fleet; yes = taken }
+step_of leg choice taken = record { leg = leg; choice = choice; yes = taken }
 
 -- what is asked of a child in its part
 abbrev IsReady : Tables → Option ℤ → List (List Bool) → Step → Tree → Type 0
 IsReady t cost rows step child = IsPair t (leg_on step.leg step.choice) × (IsOfTables t child × AreSound t cost (narrowed (kept_by rows) step) child)
 
-module _ (t : Tables) (cost : Option ℤ) (rows before : List (List Bool)) (same : rows ≡ before) (whole child : Tree) (step : Step) (leg fleet : ℕ) (yes no : Box Tree Global) (known : IsOfTables t whole) (sound : AreSound t cost (kept_by before) whole) where
-  ready : (taken : Bool) (own : Tree) → step ≡ step_of leg fleet taken → child ≡ own → IsPair t (leg_on leg fleet) → IsOfTables t own → AreSound t cost (part (kept_by before) leg fleet taken) own → IsReady t cost rows step child
+module _ (t : Tables) (cost : Option ℤ) (rows before : List (List Bool)) (same : rows ≡ before) (whole child : Tree) (step : Step) (leg choice : ℕ) (yes no : Box Tree Global) (known : IsOfTables t whole) (sound : AreSound t cost (kept_by before) whole) where
+  ready : (taken : Bool) (own : Tree) → step ≡ step_of leg choice taken → child ≡ own → IsPair t (leg_on leg choice) → IsOfTables t own → AreSound t cost (part (kept_by before) leg choice taken) own → IsReady t cost rows step child
   ready taken own e is pair of_tables fine =
-      subst (λ s. IsReady t cost rows s child) (sym e) (subst (λ x. IsReady t cost rows (step_of leg fleet taken) x) (sym is) (subst (λ r. IsReady t cost r (step_of leg fleet taken) own) (sym same) (pair, (of_tables, fine))))
+      subst (λ s. IsReady t cost rows s child) (sym e) (subst (λ x. IsReady t cost rows (step_of leg choice taken) x) (sym is) (subst (λ r. IsReady t cost r (step_of leg choice taken) own) (sym same) (pair, (of_tables, fine))))
 
-  pub trim_with : whole ≡ Trim leg fleet yes no → step ≡ step_of leg fleet true → child ≡ yes.value → IsReady t cost rows step child
+  pub trim_with : whole ≡ Trim leg choice yes no → step ≡ step_of leg choice true → child ≡ yes.value → IsReady t cost rows step child
   trim_with e step_is is =
       let parts = subst (IsOfTables t) e known in
       ready true yes.value step_is is parts.0 parts.1 (first_all (IsSound t cost) _ _ (All-tail (IsSound t cost) _ _ (subst (AreSound t cost (kept_by before)) e sound)))
 
-  pub trim_without : whole ≡ Trim leg fleet yes no → step ≡ step_of leg fleet false → child ≡ no.value → IsReady t cost rows step child
+  pub trim_without : whole ≡ Trim leg choice yes no → step ≡ step_of leg choice false → child ≡ no.value → IsReady t cost rows step child
   trim_without e step_is is =
       let parts = subst (IsOfTables t) e known in
       ready false no.value step_is is parts.0 parts.2
-      (second_all (IsSound t cost) (nodes_in (part (kept_by before) leg fleet true) yes.value) _ (All-tail (IsSound t cost) _ _ (subst (AreSound t cost (kept_by before)) e sound)))
+      (second_all (IsSound t cost) (nodes_in (part (kept_by before) leg choice true) yes.value) _ (All-tail (IsSound t cost) _ _ (subst (AreSound t cost (kept_by before)) e sound)))
 
-  pub split_with : (prices : Prices) (mixed : Mixed) → whole ≡ Split leg fleet prices mixed yes no → step ≡ step_of leg fleet true → child ≡ yes.value → IsReady t cost rows step child
+  pub split_with : (prices : Prices) (mixed : Mixed) → whole ≡ Split leg choice prices mixed yes no → step ≡ step_of leg choice true → child ≡ yes.value → IsReady t cost rows step child
   split_with prices mixed e step_is is =
       let parts = subst (IsOfTables t) e known in
       ready true yes.value step_is is parts.0 parts.3 (first_all (IsSound t cost) _ _ (All-tail (IsSound t cost) _ _ (subst (AreSound t cost (kept_by before)) e sound)))
 
-  pub split_without : (prices : Prices) (mixed : Mixed) → whole ≡ Split leg fleet prices mixed yes no → step ≡ step_of leg fleet false → child ≡ no.value → IsReady t cost rows step child
+  pub split_without : (prices : Prices) (mixed : Mixed) → whole ≡ Split leg choice prices mixed yes no → step ≡ step_of leg choice false → child ≡ no.value → IsReady t cost rows step child
   split_without prices mixed e step_is is =
       let parts = subst (IsOfTables t) e known in
       ready false no.value step_is is parts.0 parts.4
-      (second_all (IsSound t cost) (nodes_in (part (kept_by before) leg fleet true) yes.value) _ (All-tail (IsSound t cost) _ _ (subst (AreSound t cost (kept_by before)) e sound)))
+      (second_all (IsSound t cost) (nodes_in (part (kept_by before) leg choice true) yes.value) _ (All-tail (IsSound t cost) _ _ (subst (AreSound t cost (kept_by before)) e sound)))
 
 -- each child has fewer nodes
-module _ (whole child : Tree) (leg fleet bound : ℕ) (yes no : Box Tree Global) (below : 2 * node_count whole ≤ bound) where
-  pub trim_first_less : whole ≡ Trim leg fleet yes no → child ≡ yes.value → 2 * node_count child + 1 < bound
+module _ (whole child : Tree) (leg choice bound : ℕ) (yes no : Box Tree Global) (below : 2 * node_count whole ≤ bound) where
+  pub trim_first_less : whole ≡ Trim leg choice yes no → child ≡ yes.value → 2 * node_count child + 1 < bound
   trim_first_less e is =
       let count : node_count whole ≡ suc (node_count yes.value + node_count no.value) = ap node_count e in
       omega (arith, below, count, ap node_count is)
 
-  pub trim_second_less : whole ≡ Trim leg fleet yes no → child ≡ no.value → 2 * node_count child + 1 < bound
+  pub trim_second_less : whole ≡ Trim leg choice yes no → child ≡ no.value → 2 * node_count child + 1 < bound
   trim_second_less e is =
       let count : node_count whole ≡ suc (node_count yes.value + node_count no.value) = ap node_count e in
       omega (arith, below, count, ap node_count is)
 
-  pub split_first_less : (prices : Prices) (mixed : Mixed) → whole ≡ Split leg fleet prices mixed yes no → child ≡ yes.value → 2 * node_count child + 1 < bound
+  pub split_first_less : (prices : Prices) (mixed : Mixed) → whole ≡ Split leg choice prices mixed yes no → child ≡ yes.value → 2 * node_count child + 1 < bound
   split_first_less prices mixed e is =
       let count : node_count whole ≡ suc (node_count yes.value + node_count no.value) = ap node_count e in
       omega (arith, below, count, ap node_count is)
 
-  pub split_second_less : (prices : Prices) (mixed : Mixed) → whole ≡ Split leg fleet prices mixed yes no → child ≡ no.value → 2 * node_count child + 1 < bound
+  pub split_second_less : (prices : Prices) (mixed : Mixed) → whole ≡ Split leg choice prices mixed yes no → child ≡ no.value → 2 * node_count child + 1 < bound
   split_second_less prices mixed e is =
       let count : node_count whole ≡ suc (node_count yes.value + node_count no.value) = ap node_count e in
       omega (arith, below, count, ap node_count is)

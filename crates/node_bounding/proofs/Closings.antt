@@ -47,9 +47,9 @@ module _ (t : Tables) (cost : ℤ) where
   closed_known keeps (tree.Refuted prices) is = is
   closed_known keeps (tree.Priced prices) is = is
   closed_known keeps (tree.Open prices why) is = by_reach (IsOfTables t) keeps prices why (λ e. is.0) (λ e. is)
-  closed_known keeps (tree.Trim' leg fleet p with_pair q without) is = (is.0, closed_known (part keeps leg fleet true) with_pair is.1, closed_known (part keeps leg fleet false) without is.2)
-  closed_known keeps (tree.Split' leg fleet prices mixed p with_pair q without) is =
-      (is.0, is.1, is.2, closed_known (part keeps leg fleet true) with_pair is.3, closed_known (part keeps leg fleet false) without is.4)
+  closed_known keeps (tree.Trim' leg choice p with_pair q without) is = (is.0, closed_known (part keeps leg choice true) with_pair is.1, closed_known (part keeps leg choice false) without is.2)
+  closed_known keeps (tree.Split' leg choice prices mixed p with_pair q without) is =
+      (is.0, is.1, is.2, closed_known (part keeps leg choice true) with_pair is.3, closed_known (part keeps leg choice false) without is.4)
 
   pub closed_order : (keeps : Domains) (whole : Tree) → InWrittenOrder t whole → InWrittenOrder t (closed t cost keeps whole)
   closed_order keeps (tree.Bare leg) is = is
@@ -58,16 +58,16 @@ module _ (t : Tables) (cost : ℤ) where
   closed_order keeps (tree.Priced prices) is = is
   closed_order keeps (tree.Open prices why) is =
       by_reach (InWrittenOrder t) keeps prices why (λ e. all_one (IsNodeInOrder t) (ordered.Priced prices) (All-head (IsNodeInOrder t) (ordered.Open prices why) [] is).0) (λ e. is)
-  closed_order keeps (tree.Trim' leg fleet p with_pair q without) is =
+  closed_order keeps (tree.Trim' leg choice p with_pair q without) is =
       let below = All-tail (IsNodeInOrder t) _ _ is in
-      all_more (IsNodeInOrder t) (ordered.Trim leg fleet) _ _ (All-head (IsNodeInOrder t) (ordered.Trim leg fleet) _ is)
-      (closed_order (part keeps leg fleet true) with_pair (first_all (IsNodeInOrder t) _ _ below))
-      (closed_order (part keeps leg fleet false) without (second_all (IsNodeInOrder t) (tree_nodes with_pair) _ below))
-  closed_order keeps (tree.Split' leg fleet prices mixed p with_pair q without) is =
+      all_more (IsNodeInOrder t) (ordered.Trim leg choice) _ _ (All-head (IsNodeInOrder t) (ordered.Trim leg choice) _ is)
+      (closed_order (part keeps leg choice true) with_pair (first_all (IsNodeInOrder t) _ _ below))
+      (closed_order (part keeps leg choice false) without (second_all (IsNodeInOrder t) (tree_nodes with_pair) _ below))
+  closed_order keeps (tree.Split' leg choice prices mixed p with_pair q without) is =
       let below = All-tail (IsNodeInOrder t) _ _ is in
-      all_more (IsNodeInOrder t) (ordered.Split leg fleet prices mixed) _ _ (All-head (IsNodeInOrder t) (ordered.Split leg fleet prices mixed) _ is)
-      (closed_order (part keeps leg fleet true) with_pair (first_all (IsNodeInOrder t) _ _ below))
-      (closed_order (part keeps leg fleet false) without (second_all (IsNodeInOrder t) (tree_nodes with_pair) _ below))
+      all_more (IsNodeInOrder t) (ordered.Split leg choice prices mixed) _ _ (All-head (IsNodeInOrder t) (ordered.Split leg choice prices mixed) _ is)
+      (closed_order (part keeps leg choice true) with_pair (first_all (IsNodeInOrder t) _ _ below))
+      (closed_order (part keeps leg choice false) without (second_all (IsNodeInOrder t) (tree_nodes with_pair) _ below))
 
   pub closed_depth : (keeps : Domains) (whole : Tree) → depth_of (closed t cost keeps whole) ≡ depth_of whole
   closed_depth keeps (tree.Bare leg) = refl
@@ -75,10 +75,10 @@ module _ (t : Tables) (cost : ℤ) where
   closed_depth keeps (tree.Refuted prices) = refl
   closed_depth keeps (tree.Priced prices) = refl
   closed_depth keeps (tree.Open prices why) = by_reach (λ x. depth_of x ≡ 0) keeps prices why (λ e. refl) (λ e. refl)
-  closed_depth keeps (tree.Trim' leg fleet p with_pair q without) =
-      omega (arith, closed_depth (part keeps leg fleet true) with_pair, closed_depth (part keeps leg fleet false) without)
-  closed_depth keeps (tree.Split' leg fleet prices mixed p with_pair q without) =
-      omega (arith, closed_depth (part keeps leg fleet true) with_pair, closed_depth (part keeps leg fleet false) without)
+  closed_depth keeps (tree.Trim' leg choice p with_pair q without) =
+      omega (arith, closed_depth (part keeps leg choice true) with_pair, closed_depth (part keeps leg choice false) without)
+  closed_depth keeps (tree.Split' leg choice prices mixed p with_pair q without) =
+      omega (arith, closed_depth (part keeps leg choice true) with_pair, closed_depth (part keeps leg choice false) without)
 
   pub closed_splits : (keeps : Domains) (whole : Tree) → splits_in (closed t cost keeps whole) ≡ splits_in whole
   closed_splits keeps (tree.Bare leg) = refl
@@ -86,10 +86,10 @@ module _ (t : Tables) (cost : ℤ) where
   closed_splits keeps (tree.Refuted prices) = refl
   closed_splits keeps (tree.Priced prices) = refl
   closed_splits keeps (tree.Open prices why) = by_reach (λ x. splits_in x ≡ 0) keeps prices why (λ e. refl) (λ e. refl)
-  closed_splits keeps (tree.Trim' leg fleet p with_pair q without) =
-      omega (arith, closed_splits (part keeps leg fleet true) with_pair, closed_splits (part keeps leg fleet false) without)
-  closed_splits keeps (tree.Split' leg fleet prices mixed p with_pair q without) =
-      omega (arith, closed_splits (part keeps leg fleet true) with_pair, closed_splits (part keeps leg fleet false) without)
+  closed_splits keeps (tree.Trim' leg choice p with_pair q without) =
+      omega (arith, closed_splits (part keeps leg choice true) with_pair, closed_splits (part keeps leg choice false) without)
+  closed_splits keeps (tree.Split' leg choice prices mixed p with_pair q without) =
+      omega (arith, closed_splits (part keeps leg choice true) with_pair, closed_splits (part keeps leg choice false) without)
 
   pub closed_searched : (keeps : Domains) (whole : Tree) → AreSearched t keeps whole → AreSearched t keeps (closed t cost keeps whole)
   closed_searched keeps (tree.Bare leg) is = is
@@ -97,20 +97,20 @@ module _ (t : Tables) (cost : ℤ) where
   closed_searched keeps (tree.Refuted prices) is = is
   closed_searched keeps (tree.Priced prices) is = is
   closed_searched keeps (tree.Open prices why) is = by_reach (AreSearched t keeps) keeps prices why (λ e. is) (λ e. is)
-  closed_searched keeps (tree.Trim' leg fleet p with_pair q without) is = absurd is
-  closed_searched keeps (tree.Split' leg fleet prices mixed p with_pair q without) is =
-      (is.0, closed_searched (part keeps leg fleet true) with_pair is.1, closed_searched (part keeps leg fleet false) without is.2)
+  closed_searched keeps (tree.Trim' leg choice p with_pair q without) is = absurd is
+  closed_searched keeps (tree.Split' leg choice prices mixed p with_pair q without) is =
+      (is.0, closed_searched (part keeps leg choice true) with_pair is.1, closed_searched (part keeps leg choice false) without is.2)
 
   closed_top : (keeps : Domains) (removals : List Removal) (whole : Tree) → AreOnTop t keeps removals whole → AreOnTop t keeps removals (closed t cost keeps whole)
   closed_top keeps [] whole is = closed_searched keeps whole is
-  closed_top keeps (removal ∷ removals) (tree.Trim' leg fleet p with_pair q without) is =
-      (is.0, is.1, ap (closed t cost (part keeps leg fleet true)) is.2, closed_top (part keeps leg fleet false) removals without is.3)
+  closed_top keeps (removal ∷ removals) (tree.Trim' leg choice p with_pair q without) is =
+      (is.0, is.1, ap (closed t cost (part keeps leg choice true)) is.2, closed_top (part keeps leg choice false) removals without is.3)
   closed_top keeps (removal ∷ removals) (tree.Bare leg) is = absurd is
   closed_top keeps (removal ∷ removals) tree.Sole is = absurd is
   closed_top keeps (removal ∷ removals) (tree.Refuted prices) is = absurd is
   closed_top keeps (removal ∷ removals) (tree.Priced prices) is = absurd is
   closed_top keeps (removal ∷ removals) (tree.Open prices why) is = absurd is
-  closed_top keeps (removal ∷ removals) (tree.Split' leg fleet prices mixed p with_pair q without) is = absurd is
+  closed_top keeps (removal ∷ removals) (tree.Split' leg choice prices mixed p with_pair q without) is = absurd is
 
   pub closed_trimmed : (whole : Tree) → IsTrimmed t whole → IsTrimmed t (closed t cost (all_pairs t) whole)
   closed_trimmed whole is = record { removals = is.removals; given = is.given; on_top = closed_top (all_pairs t) is.removals whole is.on_top }
@@ -121,10 +121,10 @@ module _ (t : Tables) (cost : ℤ) where
   closed_caused pivots keeps above (tree.Refuted prices) is = is
   closed_caused pivots keeps above (tree.Priced prices) is = is
   closed_caused pivots keeps above (tree.Open prices why) is = by_reach (AreCaused t pivots keeps above) keeps prices why (λ e. tt) (λ e. is)
-  closed_caused pivots keeps above (tree.Trim' leg fleet p with_pair q without) is =
-      (closed_caused pivots (part keeps leg fleet true) above with_pair is.0, closed_caused pivots (part keeps leg fleet false) above without is.1)
-  closed_caused pivots keeps above (tree.Split' leg fleet prices mixed p with_pair q without) is =
-      (is.0, closed_caused pivots (part keeps leg fleet true) prices with_pair is.1, closed_caused pivots (part keeps leg fleet false) prices without is.2)
+  closed_caused pivots keeps above (tree.Trim' leg choice p with_pair q without) is =
+      (closed_caused pivots (part keeps leg choice true) above with_pair is.0, closed_caused pivots (part keeps leg choice false) above without is.1)
+  closed_caused pivots keeps above (tree.Split' leg choice prices mixed p with_pair q without) is =
+      (is.0, closed_caused pivots (part keeps leg choice true) prices with_pair is.1, closed_caused pivots (part keeps leg choice false) prices without is.2)
 
   -- a child of a trim that ends at once stays as it is
   ends_closed : (keeps : Domains) (whole : Tree) → EndsAtOnce t keeps whole → EndsAtOnce t keeps (closed t cost keeps whole)
@@ -133,41 +133,41 @@ module _ (t : Tables) (cost : ℤ) where
   ends_closed keeps (tree.Refuted prices) ends = ends
   ends_closed keeps (tree.Priced prices) ends = ends
   ends_closed keeps (tree.Open prices why) ends = absurd ends
-  ends_closed keeps (tree.Trim' leg fleet p with_pair q without) ends = ends
-  ends_closed keeps (tree.Split' leg fleet prices mixed p with_pair q without) ends = ends
+  ends_closed keeps (tree.Trim' leg choice p with_pair q without) ends = ends
+  ends_closed keeps (tree.Split' leg choice prices mixed p with_pair q without) ends = ends
 
-  one_closed : (keeps : Domains) (leg fleet : ℕ) (with_pair without : Tree) → OneEnds t keeps leg fleet with_pair without
-      → OneEnds t keeps leg fleet (closed t cost (part keeps leg fleet true) with_pair) (closed t cost (part keeps leg fleet false) without)
-  one_closed keeps leg fleet with_pair without (inl ends) = inl (ends_closed (part keeps leg fleet true) with_pair ends)
-  one_closed keeps leg fleet with_pair without (inr ends) = inr (ends_closed (part keeps leg fleet false) without ends)
+  one_closed : (keeps : Domains) (leg choice : ℕ) (with_pair without : Tree) → OneEnds t keeps leg choice with_pair without
+      → OneEnds t keeps leg choice (closed t cost (part keeps leg choice true) with_pair) (closed t cost (part keeps leg choice false) without)
+  one_closed keeps leg choice with_pair without (inl ends) = inl (ends_closed (part keeps leg choice true) with_pair ends)
+  one_closed keeps leg choice with_pair without (inr ends) = inr (ends_closed (part keeps leg choice false) without ends)
 
   -- ---- what holds at all nodes
   -- the rules at a trim and at a split, whose children are closed
-  trim_rules : (keeps : Domains) (leg fleet : ℕ) (with_pair without : Tree) (r : Rule) (p q : _) → IsSound t (Some cost) (node keeps (tree.Trim' leg fleet p with_pair q without))
-      → Keeps t (Some cost) (node keeps (tree.Trim' leg fleet p (closed t cost (part keeps leg fleet true) with_pair) q (closed t cost (part keeps leg fleet false) without))) r
-  trim_rules keeps leg fleet with_pair without rule.Scale p q here = tt
-  trim_rules keeps leg fleet with_pair without rule.Limits p q here = tt
-  trim_rules keeps leg fleet with_pair without rule.Fall p q here = tt
-  trim_rules keeps leg fleet with_pair without rule.Rent p q here = tt
-  trim_rules keeps leg fleet with_pair without rule.Pairs p q here = tt
-  trim_rules keeps leg fleet with_pair without rule.Refuted p q here = tt
-  trim_rules keeps leg fleet with_pair without rule.Priced p q here = tt
-  trim_rules keeps leg fleet with_pair without rule.Parts p q here = ((here.each rule.Parts).0, one_closed keeps leg fleet with_pair without (here.each rule.Parts).1)
-  trim_rules keeps leg fleet with_pair without rule.Mixed p q here = tt
-  trim_rules keeps leg fleet with_pair without rule.Fraction p q here = tt
+  trim_rules : (keeps : Domains) (leg choice : ℕ) (with_pair without : Tree) (r : Rule) (p q : _) → IsSound t (Some cost) (node keeps (tree.Trim' leg choice p with_pair q without))
+      → Keeps t (Some cost) (node keeps (tree.Trim' leg choice p (closed t cost (part keeps leg choice true) with_pair) q (closed t cost (part keeps leg choice false) without))) r
+  trim_rules keeps leg choice with_pair without rule.Scale p q here = tt
+  trim_rules keeps leg choice with_pair without rule.Limits p q here = tt
+  trim_rules keeps leg choice with_pair without rule.Fall p q here = tt
+  trim_rules keeps leg choice with_pair without rule.Rent p q here = tt
+  trim_rules keeps leg choice with_pair without rule.Pairs p q here = tt
+  trim_rules keeps leg choice with_pair without rule.Refuted p q here = tt
+  trim_rules keeps leg choice with_pair without rule.Priced p q here = tt
+  trim_rules keeps leg choice with_pair without rule.Parts p q here = ((here.each rule.Parts).0, one_closed keeps leg choice with_pair without (here.each rule.Parts).1)
+  trim_rules keeps leg choice with_pair without rule.Mixed p q here = tt
+  trim_rules keeps leg choice with_pair without rule.Fraction p q here = tt
 
-  split_rules : (keeps : Domains) (leg fleet : ℕ) (prices : Prices) (mixed : Mixed) (with_pair without : Tree) (r : Rule) (p q : _) → IsSound t (Some cost) (node keeps (tree.Split' leg fleet prices mixed p with_pair q without))
-      → Keeps t (Some cost) (node keeps (tree.Split' leg fleet prices mixed p (closed t cost (part keeps leg fleet true) with_pair) q (closed t cost (part keeps leg fleet false) without))) r
-  split_rules keeps leg fleet prices mixed with_pair without rule.Scale p q here = here.each rule.Scale
-  split_rules keeps leg fleet prices mixed with_pair without rule.Limits p q here = here.each rule.Limits
-  split_rules keeps leg fleet prices mixed with_pair without rule.Fall p q here = here.each rule.Fall
-  split_rules keeps leg fleet prices mixed with_pair without rule.Rent p q here = here.each rule.Rent
-  split_rules keeps leg fleet prices mixed with_pair without rule.Pairs p q here = here.each rule.Pairs
-  split_rules keeps leg fleet prices mixed with_pair without rule.Refuted p q here = tt
-  split_rules keeps leg fleet prices mixed with_pair without rule.Priced p q here = tt
-  split_rules keeps leg fleet prices mixed with_pair without rule.Parts p q here = here.each rule.Parts
-  split_rules keeps leg fleet prices mixed with_pair without rule.Mixed p q here = here.each rule.Mixed
-  split_rules keeps leg fleet prices mixed with_pair without rule.Fraction p q here = here.each rule.Fraction
+  split_rules : (keeps : Domains) (leg choice : ℕ) (prices : Prices) (mixed : Mixed) (with_pair without : Tree) (r : Rule) (p q : _) → IsSound t (Some cost) (node keeps (tree.Split' leg choice prices mixed p with_pair q without))
+      → Keeps t (Some cost) (node keeps (tree.Split' leg choice prices mixed p (closed t cost (part keeps leg choice true) with_pair) q (closed t cost (part keeps leg choice false) without))) r
+  split_rules keeps leg choice prices mixed with_pair without rule.Scale p q here = here.each rule.Scale
+  split_rules keeps leg choice prices mixed with_pair without rule.Limits p q here = here.each rule.Limits
+  split_rules keeps leg choice prices mixed with_pair without rule.Fall p q here = here.each rule.Fall
+  split_rules keeps leg choice prices mixed with_pair without rule.Rent p q here = here.each rule.Rent
+  split_rules keeps leg choice prices mixed with_pair without rule.Pairs p q here = here.each rule.Pairs
+  split_rules keeps leg choice prices mixed with_pair without rule.Refuted p q here = tt
+  split_rules keeps leg choice prices mixed with_pair without rule.Priced p q here = tt
+  split_rules keeps leg choice prices mixed with_pair without rule.Parts p q here = here.each rule.Parts
+  split_rules keeps leg choice prices mixed with_pair without rule.Mixed p q here = here.each rule.Mixed
+  split_rules keeps leg choice prices mixed with_pair without rule.Fraction p q here = here.each rule.Fraction
 
   pub closed_sound : (keeps : Domains) (whole : Tree) → AreSound t (Some cost) keeps whole → AreSound t (Some cost) keeps (closed t cost keeps whole)
   closed_sound keeps (tree.Bare leg) sound = sound
@@ -180,16 +180,16 @@ module _ (t : Tables) (cost : ℤ) where
       by_reach (AreSound t (Some cost) keeps) keeps prices why
       (λ e. all_one (IsSound t (Some cost)) (node keeps (tree.Priced prices)) (priced_sound t (Some cost) keeps prices proper (here.each rule.Pairs) (does_reach_is t keeps prices cost proper.scale.some e)))
       (λ e. sound)
-  closed_sound keeps (tree.Trim' leg fleet p with_pair q without) sound =
+  closed_sound keeps (tree.Trim' leg choice p with_pair q without) sound =
       let below = All-tail (IsSound t (Some cost)) _ _ sound in
-      all_more (IsSound t (Some cost)) _ _ _ (record { each = λ r. trim_rules keeps leg fleet with_pair without r p q (All-head (IsSound t (Some cost)) _ _ sound) })
-      (closed_sound (part keeps leg fleet true) with_pair (first_all (IsSound t (Some cost)) _ _ below))
-      (closed_sound (part keeps leg fleet false) without (second_all (IsSound t (Some cost)) (nodes_in (part keeps leg fleet true) with_pair) _ below))
-  closed_sound keeps (tree.Split' leg fleet prices mixed p with_pair q without) sound =
+      all_more (IsSound t (Some cost)) _ _ _ (record { each = λ r. trim_rules keeps leg choice with_pair without r p q (All-head (IsSound t (Some cost)) _ _ sound) })
+      (closed_sound (part keeps leg choice true) with_pair (first_all (IsSound t (Some cost)) _ _ below))
+      (closed_sound (part keeps leg choice false) without (second_all (IsSound t (Some cost)) (nodes_in (part keeps leg choice true) with_pair) _ below))
+  closed_sound keeps (tree.Split' leg choice prices mixed p with_pair q without) sound =
       let below = All-tail (IsSound t (Some cost)) _ _ sound in
-      all_more (IsSound t (Some cost)) _ _ _ (record { each = λ r. split_rules keeps leg fleet prices mixed with_pair without r p q (All-head (IsSound t (Some cost)) _ _ sound) })
-      (closed_sound (part keeps leg fleet true) with_pair (first_all (IsSound t (Some cost)) _ _ below))
-      (closed_sound (part keeps leg fleet false) without (second_all (IsSound t (Some cost)) (nodes_in (part keeps leg fleet true) with_pair) _ below))
+      all_more (IsSound t (Some cost)) _ _ _ (record { each = λ r. split_rules keeps leg choice prices mixed with_pair without r p q (All-head (IsSound t (Some cost)) _ _ sound) })
+      (closed_sound (part keeps leg choice true) with_pair (first_all (IsSound t (Some cost)) _ _ below))
+      (closed_sound (part keeps leg choice false) without (second_all (IsSound t (Some cost)) (nodes_in (part keeps leg choice true) with_pair) _ below))
 
   pub closed_soles : (keeps : Domains) (whole : Tree) → All (AnswersSole t (Some cost)) (nodes_in keeps whole) → All (AnswersSole t (Some cost)) (nodes_in keeps (closed t cost keeps whole))
   closed_soles keeps (tree.Bare leg) soles = soles
@@ -199,16 +199,16 @@ module _ (t : Tables) (cost : ℤ) where
   closed_soles keeps (tree.Open prices why) soles =
       by_reach (λ x. All (AnswersSole t (Some cost)) (nodes_in keeps x)) keeps prices why
       (λ e. all_one (AnswersSole t (Some cost)) (node keeps (tree.Priced prices)) (answers_none t (Some cost) keeps (tree.Priced prices) (λ same. cc))) (λ e. soles)
-  closed_soles keeps (tree.Trim' leg fleet p with_pair q without) soles =
+  closed_soles keeps (tree.Trim' leg choice p with_pair q without) soles =
       let below = All-tail (AnswersSole t (Some cost)) _ _ soles in
       all_more (AnswersSole t (Some cost)) _ _ _ (answers_none t (Some cost) keeps _ (λ same. cc))
-      (closed_soles (part keeps leg fleet true) with_pair (first_all (AnswersSole t (Some cost)) _ _ below))
-      (closed_soles (part keeps leg fleet false) without (second_all (AnswersSole t (Some cost)) (nodes_in (part keeps leg fleet true) with_pair) _ below))
-  closed_soles keeps (tree.Split' leg fleet prices mixed p with_pair q without) soles =
+      (closed_soles (part keeps leg choice true) with_pair (first_all (AnswersSole t (Some cost)) _ _ below))
+      (closed_soles (part keeps leg choice false) without (second_all (AnswersSole t (Some cost)) (nodes_in (part keeps leg choice true) with_pair) _ below))
+  closed_soles keeps (tree.Split' leg choice prices mixed p with_pair q without) soles =
       let below = All-tail (AnswersSole t (Some cost)) _ _ soles in
       all_more (AnswersSole t (Some cost)) _ _ _ (answers_none t (Some cost) keeps _ (λ same. cc))
-      (closed_soles (part keeps leg fleet true) with_pair (first_all (AnswersSole t (Some cost)) _ _ below))
-      (closed_soles (part keeps leg fleet false) without (second_all (AnswersSole t (Some cost)) (nodes_in (part keeps leg fleet true) with_pair) _ below))
+      (closed_soles (part keeps leg choice true) with_pair (first_all (AnswersSole t (Some cost)) _ _ below))
+      (closed_soles (part keeps leg choice false) without (second_all (AnswersSole t (Some cost)) (nodes_in (part keeps leg choice true) with_pair) _ below))
 
   -- a node that is not open leaves no gap
   no_gap : (keeps : Domains) (whole : Tree) → ((prices : Prices) (why : Cause) → whole ≢ tree.Open prices why) → LeavesGap t (Some cost) (node keeps whole)
@@ -232,16 +232,16 @@ module _ (t : Tables) (cost : ℤ) where
       by_reach (λ x. All (LeavesGap t (Some cost)) (nodes_in keeps x)) keeps prices why
       (λ e. all_one (LeavesGap t (Some cost)) (node keeps (tree.Priced prices)) (no_gap keeps (tree.Priced prices) (λ own cause same. cc)))
       (λ e. all_one (LeavesGap t (Some cost)) (node keeps (tree.Open prices why)) (open_gap keeps prices why proper e))
-  closed_gaps keeps (tree.Trim' leg fleet p with_pair q without) sound =
+  closed_gaps keeps (tree.Trim' leg choice p with_pair q without) sound =
       let below = All-tail (IsSound t (Some cost)) _ _ sound in
       all_more (LeavesGap t (Some cost)) _ _ _ (no_gap keeps _ (λ prices why e. cc))
-      (closed_gaps (part keeps leg fleet true) with_pair (first_all (IsSound t (Some cost)) _ _ below))
-      (closed_gaps (part keeps leg fleet false) without (second_all (IsSound t (Some cost)) (nodes_in (part keeps leg fleet true) with_pair) _ below))
-  closed_gaps keeps (tree.Split' leg fleet own mixed p with_pair q without) sound =
+      (closed_gaps (part keeps leg choice true) with_pair (first_all (IsSound t (Some cost)) _ _ below))
+      (closed_gaps (part keeps leg choice false) without (second_all (IsSound t (Some cost)) (nodes_in (part keeps leg choice true) with_pair) _ below))
+  closed_gaps keeps (tree.Split' leg choice own mixed p with_pair q without) sound =
       let below = All-tail (IsSound t (Some cost)) _ _ sound in
       all_more (LeavesGap t (Some cost)) _ _ _ (no_gap keeps _ (λ prices why e. cc))
-      (closed_gaps (part keeps leg fleet true) with_pair (first_all (IsSound t (Some cost)) _ _ below))
-      (closed_gaps (part keeps leg fleet false) without (second_all (IsSound t (Some cost)) (nodes_in (part keeps leg fleet true) with_pair) _ below))
+      (closed_gaps (part keeps leg choice true) with_pair (first_all (IsSound t (Some cost)) _ _ below))
+      (closed_gaps (part keeps leg choice false) without (second_all (IsSound t (Some cost)) (nodes_in (part keeps leg choice true) with_pair) _ below))
 
   -- ---- the node at which a plan is found
   pub found_closed : (a : List ℕ) (c : ℤ) (keeps : Domains) (whole : Tree) → Any (IsFoundAt t a c) (nodes_in keeps whole) → Any (IsFoundAt t a c) (nodes_in keeps (closed t cost keeps whole))
@@ -250,13 +250,13 @@ module _ (t : Tables) (cost : ℤ) where
   found_closed a c keeps (tree.Refuted prices) found = found
   found_closed a c keeps (tree.Priced prices) found = found
   found_closed a c keeps (tree.Open prices why) found = absurd (only (IsFoundAt t a c) (node keeps (tree.Open prices why)) found).here.ends
-  found_closed a c keeps (tree.Trim' leg fleet p with_pair q without) found =
-      by_place (IsFoundAt t a c) _ (nodes_in (part keeps leg fleet true) with_pair) (nodes_in (part keeps leg fleet false) without) found
+  found_closed a c keeps (tree.Trim' leg choice p with_pair q without) found =
+      by_place (IsFoundAt t a c) _ (nodes_in (part keeps leg choice true) with_pair) (nodes_in (part keeps leg choice false) without) found
       (λ here. absurd here.here.ends)
-      (λ first. any_after (IsFoundAt t a c) _ _ (any_first (IsFoundAt t a c) _ _ (found_closed a c (part keeps leg fleet true) with_pair first)))
-      (λ second. any_after (IsFoundAt t a c) _ _ (any_second (IsFoundAt t a c) (nodes_in (part keeps leg fleet true) (closed t cost (part keeps leg fleet true) with_pair)) _ (found_closed a c (part keeps leg fleet false) without second)))
-  found_closed a c keeps (tree.Split' leg fleet prices mixed p with_pair q without) found =
-      by_place (IsFoundAt t a c) _ (nodes_in (part keeps leg fleet true) with_pair) (nodes_in (part keeps leg fleet false) without) found
+      (λ first. any_after (IsFoundAt t a c) _ _ (any_first (IsFoundAt t a c) _ _ (found_closed a c (part keeps leg choice true) with_pair first)))
+      (λ second. any_after (IsFoundAt t a c) _ _ (any_second (IsFoundAt t a c) (nodes_in (part keeps leg choice true) (closed t cost (part keeps leg choice true) with_pair)) _ (found_closed a c (part keeps leg choice false) without second)))
+  found_closed a c keeps (tree.Split' leg choice prices mixed p with_pair q without) found =
+      by_place (IsFoundAt t a c) _ (nodes_in (part keeps leg choice true) with_pair) (nodes_in (part keeps leg choice false) without) found
       (λ here. absurd here.here.ends)
-      (λ first. any_after (IsFoundAt t a c) _ _ (any_first (IsFoundAt t a c) _ _ (found_closed a c (part keeps leg fleet true) with_pair first)))
-      (λ second. any_after (IsFoundAt t a c) _ _ (any_second (IsFoundAt t a c) (nodes_in (part keeps leg fleet true) (closed t cost (part keeps leg fleet true) with_pair)) _ (found_closed a c (part keeps leg fleet false) without second)))
+      (λ first. any_after (IsFoundAt t a c) _ _ (any_first (IsFoundAt t a c) _ _ (found_closed a c (part keeps leg choice true) with_pair first)))
+      (λ second. any_after (IsFoundAt t a c) _ _ (any_second (IsFoundAt t a c) (nodes_in (part keeps leg choice true) (closed t cost (part keeps leg choice true) with_pair)) _ (found_closed a c (part keeps leg choice false) without second)))

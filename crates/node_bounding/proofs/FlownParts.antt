@@ -24,13 +24,13 @@ flies_more t mixed a fleet flies part = record {
 }
 
 -- the first pair of a leg, where all legs before are whole, is the first of all
-pub first_of_all : (t : Tables) (mixed : Mixed) (leg fleet : ℕ) → leg < legs_in t → ((k : ℕ) → k < leg → IsWholeLeg t mixed k) → IsFirstPartialOn t mixed leg fleet
-    → IsSplitPair t mixed (record { leg = leg; choice = fleet })
-first_of_all t mixed leg fleet within before here = record {
+pub first_of_all : (t : Tables) (mixed : Mixed) (leg choice : ℕ) → leg < legs_in t → ((k : ℕ) → k < leg → IsWholeLeg t mixed k) → IsFirstPartialOn t mixed leg choice
+    → IsSplitPair t mixed (record { leg = leg; choice = choice })
+first_of_all t mixed leg choice within before here = record {
   known = record { leg = within; choice = here.known };
   first = record { some = here.partial.some; not_all = here.partial.not_all; first = each };
 }
   where
-    each : (l f : ℕ) → f < choices_in t l → ComesBefore l f leg fleet → IsWholePair mixed l f
+    each : (l f : ℕ) → f < choices_in t l → ComesBefore l f leg choice → IsWholePair mixed l f
     each l f known (inl earlier) = before l earlier f known
     each l f known (inr same) = rw same.0 (here.first f same.1)

@@ -89,11 +89,11 @@ module _ (t : Tables) (cost : Option ℤ) (keeps : Domains) where
       each rule.Fraction = fraction
 
 -- ---- a trim whose part with the pair is refuted, and a split
-module _ (t : Tables) (cost : Option ℤ) (keeps : Domains) (leg fleet : ℕ) (yes no : Box Tree Global) where
-  pub trim_sound : (prices : Prices) → yes.value ≡ tree.Refuted prices → IsKeptPair keeps leg fleet → IsSound t cost (node keeps (Trim leg fleet yes no))
+module _ (t : Tables) (cost : Option ℤ) (keeps : Domains) (leg choice : ℕ) (yes no : Box Tree Global) where
+  pub trim_sound : (prices : Prices) → yes.value ≡ tree.Refuted prices → IsKeptPair keeps leg choice → IsSound t cost (node keeps (Trim leg choice yes no))
   trim_sound prices e kept = record { each = each }
     where
-      each : (r : Rule) → Keeps t cost (node keeps (Trim leg fleet yes no)) r
+      each : (r : Rule) → Keeps t cost (node keeps (Trim leg choice yes no)) r
       each rule.Scale = tt
       each rule.Limits = tt
       each rule.Fall = tt
@@ -106,14 +106,14 @@ module _ (t : Tables) (cost : Option ℤ) (keeps : Domains) (leg fleet : ℕ) (y
       each rule.Fraction = tt
 
   -- the first pair that is flown in part is not flown wholly
-  is_partial : (mixed : Mixed) → IsFirstPartial t mixed leg fleet → ¬ (IsWholePair mixed leg fleet)
+  is_partial : (mixed : Mixed) → IsFirstPartial t mixed leg choice → ¬ (IsWholePair mixed leg choice)
   is_partial mixed first (inl none) = absurd (omega (arith, ints, first.some, none))
   is_partial mixed first (inr all) = absurd (omega (arith, ints, first.not_all, all))
 
-  pub split_sound : (prices : Prices) (mixed : Mixed) → IsSplit t keeps leg fleet prices mixed → IsSound t cost (node keeps (Split leg fleet prices mixed yes no))
+  pub split_sound : (prices : Prices) (mixed : Mixed) → IsSplit t keeps leg choice prices mixed → IsSound t cost (node keeps (Split leg choice prices mixed yes no))
   split_sound prices mixed is = record { each = each }
     where
-      each : (r : Rule) → Keeps t cost (node keeps (Split leg fleet prices mixed yes no)) r
+      each : (r : Rule) → Keeps t cost (node keeps (Split leg choice prices mixed yes no)) r
       each rule.Scale = is.best.good.proper.scale
       each rule.Limits = is.best.good.proper.within
       each rule.Fall = is.best.good.proper.fall
@@ -121,6 +121,6 @@ module _ (t : Tables) (cost : Option ℤ) (keeps : Domains) (leg fleet : ℕ) (y
       each rule.Pairs = is.searched.some_pair
       each rule.Refuted = tt
       each rule.Priced = tt
-      each rule.Parts = (is.kept, not_one t keeps leg fleet is.pair is.kept is.other)
+      each rule.Parts = (is.kept, not_one t keeps leg choice is.pair is.kept is.other)
       each rule.Mixed = is.best.mixed_at
       each rule.Fraction = (is.fraction, is_partial mixed is.first)

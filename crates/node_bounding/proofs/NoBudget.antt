@@ -24,11 +24,11 @@ module _ (t : Tables) where
   none_spent keeps above (tree.Refuted prices) is = refl
   none_spent keeps above (tree.Priced prices) is = refl
   none_spent keeps above (tree.Open prices why) is = never_spent keeps above prices why is
-  none_spent keeps above (tree.Trim' leg fleet p with_pair q without) is =
-      let first = none_spent (part keeps leg fleet true) above with_pair is.0 in
-      let second = none_spent (part keeps leg fleet false) above without is.1 in
+  none_spent keeps above (tree.Trim' leg choice p with_pair q without) is =
+      let first = none_spent (part keeps leg choice true) above with_pair is.0 in
+      let second = none_spent (part keeps leg choice false) above without is.1 in
       omega (arith, first, second)
-  none_spent keeps above (tree.Split' leg fleet prices mixed p with_pair q without) is =
-      let first = none_spent (part keeps leg fleet true) prices with_pair is.1 in
-      let second = none_spent (part keeps leg fleet false) prices without is.2 in
+  none_spent keeps above (tree.Split' leg choice prices mixed p with_pair q without) is =
+      let first = none_spent (part keeps leg choice true) prices with_pair is.1 in
+      let second = none_spent (part keeps leg choice false) prices without is.2 in
       omega (arith, first, second)

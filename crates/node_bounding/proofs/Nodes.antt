@@ -13,7 +13,7 @@ node keeps whole = record { keeps = keeps; tree = whole }
 
 -- the nodes of two lists
 abbrev pub nodes_below : Domains → ℕ → ℕ → Tree → Tree → List Node
-nodes_below keeps leg fleet with_pair without = nodes_in (part keeps leg fleet true) with_pair ++ nodes_in (part keeps leg fleet false) without
+nodes_below keeps leg choice with_pair without = nodes_in (part keeps leg choice true) with_pair ++ nodes_in (part keeps leg choice false) without
 
 -- ---- at all
 pub all_one : {N : Type 0} (P : N → Type 0) (one : N) → P one → All P (one ∷ [])

@@ -38,14 +38,14 @@ leaf_part t pivots final keeps above leaf one flat known in_order sound answers 
 }
 
 -- a split, of its two parts
-pub split_part : (t : Tables) (pivots : Option ℕ) (final : Option ℤ) (keeps : Domains) (above : Prices) (leg fleet : ℕ) (prices : Prices) (mixed : Mixed) (first second : Box Tree Global) → IsSplit t keeps leg fleet prices mixed
-    → IsPart t pivots final (part keeps leg fleet true) prices first.value → IsPart t pivots final (part keeps leg fleet false) prices second.value → IsPart t pivots final keeps above (Split leg fleet prices mixed first second)
-split_part t pivots final keeps above leg fleet prices mixed first second is with_pair without = record {
+pub split_part : (t : Tables) (pivots : Option ℕ) (final : Option ℤ) (keeps : Domains) (above : Prices) (leg choice : ℕ) (prices : Prices) (mixed : Mixed) (first second : Box Tree Global) → IsSplit t keeps leg choice prices mixed
+    → IsPart t pivots final (part keeps leg choice true) prices first.value → IsPart t pivots final (part keeps leg choice false) prices second.value → IsPart t pivots final keeps above (Split leg choice prices mixed first second)
+split_part t pivots final keeps above leg choice prices mixed first second is with_pair without = record {
   of_tables = (is.pair, is.best.good.known, is.best.known, with_pair.of_tables, without.of_tables);
   in_order = all_more (IsNodeInOrder t) _ _ _ (is.pair, is.best.good.in_order, is.best.in_order) with_pair.in_order without.in_order;
-  shallow = omega (arith, with_pair.shallow, without.shallow, fewer_with t keeps leg fleet is.pair is.kept is.other, fewer_without t keeps leg fleet is.pair is.kept is.other);
-  sound = all_more (IsSound t final) _ _ _ (split_sound t final keeps leg fleet first second prices mixed is) with_pair.sound without.sound;
-  soles = all_more (AnswersSole t final) _ _ _ (answers_none t final keeps (Split leg fleet prices mixed first second) (λ e. cc)) with_pair.soles without.soles;
+  shallow = omega (arith, with_pair.shallow, without.shallow, fewer_with t keeps leg choice is.pair is.kept is.other, fewer_without t keeps leg choice is.pair is.kept is.other);
+  sound = all_more (IsSound t final) _ _ _ (split_sound t final keeps leg choice first second prices mixed is) with_pair.sound without.sound;
+  soles = all_more (AnswersSole t final) _ _ _ (answers_none t final keeps (Split leg choice prices mixed first second) (λ e. cc)) with_pair.soles without.soles;
   caused = (is.first, with_pair.caused, without.caused);
 }
 

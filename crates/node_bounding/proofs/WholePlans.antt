@@ -37,7 +37,7 @@ times_cost : (t : Tables) (c : ℕ) (w u : Weights) → ((p : Pair) → IsPair t
 unfolding mixed_cost
 times_cost t c w u same =
     sum_below_ℤ-same _ _ (legs_in t) (λ l leg.
-    sum_below_ℤ-same _ _ (choices_in t l) (λ f fleet. ap (λ n. pos n *ℤ unwrap_or (cost_of t (leg_on l f)) (pos 0)) (same (leg_on l f) (record { leg = leg; choice = fleet }))
+    sum_below_ℤ-same _ _ (choices_in t l) (λ f choice. ap (λ n. pos n *ℤ unwrap_or (cost_of t (leg_on l f)) (pos 0)) (same (leg_on l f) (record { leg = leg; choice = choice }))
     ∙ regroup c (u (leg_on l f)) (unwrap_or (cost_of t (leg_on l f)) (pos 0)))
     ∙ sym (*ℤ-sum_below_ℤ (pos c) (weighted_cost t u l) (choices_in t l)))
     ∙ sym (*ℤ-sum_below_ℤ (pos c) (λ l. sum_below_ℤ (weighted_cost t u l) (choices_in t l)) (legs_in t))

@@ -53,10 +53,10 @@ AreCaused t pivots keeps above tree.Sole = ⊤
 AreCaused t pivots keeps above (tree.Refuted prices) = ⊤
 AreCaused t pivots keeps above (tree.Priced prices) = ⊤
 AreCaused t pivots keeps above (tree.Open prices why) = IsOpenBy t keeps pivots above prices why
-AreCaused t pivots keeps above (tree.Trim' leg fleet p with_pair q without) =
-    AreCaused t pivots (part keeps leg fleet true) above with_pair × AreCaused t pivots (part keeps leg fleet false) above without
-AreCaused t pivots keeps above (tree.Split' leg fleet prices mixed p with_pair q without) =
-    IsFirstPartial t mixed leg fleet × AreCaused t pivots (part keeps leg fleet true) prices with_pair × AreCaused t pivots (part keeps leg fleet false) prices without
+AreCaused t pivots keeps above (tree.Trim' leg choice p with_pair q without) =
+    AreCaused t pivots (part keeps leg choice true) above with_pair × AreCaused t pivots (part keeps leg choice false) above without
+AreCaused t pivots keeps above (tree.Split' leg choice prices mixed p with_pair q without) =
+    IsFirstPartial t mixed leg choice × AreCaused t pivots (part keeps leg choice true) prices with_pair × AreCaused t pivots (part keeps leg choice false) prices without
 
 -- prices of 0 throughout, over 1, with a rent for each fleet
 abbrev pub zero_prices : Tables → Prices

@@ -33,8 +33,8 @@ IsDoneLeaf tree.Sole = ⊤
 IsDoneLeaf (tree.Refuted prices) = ⊤
 IsDoneLeaf (tree.Priced prices) = ⊤
 IsDoneLeaf (tree.Open prices why) = IsStoppedBy why
-IsDoneLeaf (tree.Trim' leg fleet p with_pair q without) = ⊥
-IsDoneLeaf (tree.Split' leg fleet prices mixed p with_pair q without) = ⊥
+IsDoneLeaf (tree.Trim' leg choice p with_pair q without) = ⊥
+IsDoneLeaf (tree.Split' leg choice prices mixed p with_pair q without) = ⊥
 
 -- a subproblem that was just made is a leaf, or waits to be split
 abbrev pub IsFresh : State → Type 0

@@ -20,8 +20,8 @@ EndsAt t keeps cost leaf.Sole = ⊤
 EndsAt t keeps cost (leaf.Refuted prices) = ⊥
 EndsAt t keeps cost (leaf.Priced prices) = IsCeiling (worth_of t keeps prices 1) prices.scale cost
 EndsAt t keeps cost (leaf.Open prices why) = ⊥
-EndsAt t keeps cost (leaf.Trim leg fleet) = ⊥
-EndsAt t keeps cost (leaf.Split leg fleet prices mixed) = ⊥
+EndsAt t keeps cost (leaf.Trim leg choice) = ⊥
+EndsAt t keeps cost (leaf.Split leg choice prices mixed) = ⊥
 
 -- a plan lies in a subproblem, and is found there
 pub record IsEndOf (t : Tables) (plan : List ℕ) (cost : ℤ) (here : Worked) : Type 0 where

@@ -55,19 +55,19 @@ IsMadeAs t best keeps node.Sole found = IsSoleBound t keeps found
 IsMadeAs t best keeps (node.Refuted prices) found = found ≡ None
 IsMadeAs t best keeps (node.Priced prices) found = IsReached t keeps prices best found ⊎ IsWholeFound t keeps prices found
 IsMadeAs t best keeps (node.Open prices why) found = CouldBeSplit t keeps prices why best × (found ≡ None)
-IsMadeAs t best keeps (node.Trim leg fleet) found = ⊥
-IsMadeAs t best keeps (node.Split leg fleet prices mixed) found = found ≡ None
+IsMadeAs t best keeps (node.Trim leg choice) found = ⊥
+IsMadeAs t best keeps (node.Split leg choice prices mixed) found = found ≡ None
 
 -- A subproblem that could be split and isn't yet at some number: it never is, or its own parts, which are made at
 -- `parts`, come later. It has this rounded worth.
 abbrev pub WaitsAs : Tables → Domains → Node → ℕ → ℕ → ℤ → Type 0
 WaitsAs t keeps (node.Open prices why) parts number worth = IsOpenWorth t keeps prices why worth
-WaitsAs t keeps (node.Split leg fleet prices mixed) parts number worth = (number < parts) × IsCeiling (worth_of t keeps prices 1) prices.scale worth
+WaitsAs t keeps (node.Split leg choice prices mixed) parts number worth = (number < parts) × IsCeiling (worth_of t keeps prices 1) prices.scale worth
 WaitsAs t keeps (node.Bare leg) parts number worth = ⊥
 WaitsAs t keeps node.Sole parts number worth = ⊥
 WaitsAs t keeps (node.Refuted prices) parts number worth = ⊥
 WaitsAs t keeps (node.Priced prices) parts number worth = ⊥
-WaitsAs t keeps (node.Trim leg fleet) parts number worth = ⊥
+WaitsAs t keeps (node.Trim leg choice) parts number worth = ⊥
 
 -- a subproblem is split before another: it has the lesser rounded worth, or the same and was made first
 abbrev pub IsNextBefore : ℤ → ℕ → ℤ → ℕ → Type 0
@@ -75,18 +75,18 @@ IsNextBefore worth k other j = (worth <ℤ other) ⊎ ((worth ≡ other) × (k <
 
 -- A split. Its parts are made after it, one behind the other, the part with the pair first. By then its rounded worth is
 -- below the cost of the cheapest plan, and of all that wait it comes first.
-pub record IsSplitInTurn (t : Tables) (count : ℕ) (made : ℕ → Worked) (found : ℕ → Option ℤ) (parts : ℕ → ℕ) (k leg fleet : ℕ) (prices : Prices) : Type 0 where
+pub record IsSplitInTurn (t : Tables) (count : ℕ) (made : ℕ → Worked) (found : ℕ → Option ℤ) (parts : ℕ → ℕ) (k leg choice : ℕ) (prices : Prices) : Type 0 where
   pub later : k < parts k
   pub within : suc (parts k) < count
-  pub with_pair : (made (parts k)).keeps ≡ part (made k).keeps leg fleet true
-  pub without : (made (suc (parts k))).keeps ≡ part (made k).keeps leg fleet false
+  pub with_pair : (made (parts k)).keeps ≡ part (made k).keeps leg choice true
+  pub without : (made (suc (parts k))).keeps ≡ part (made k).keeps leg choice false
   pub below : IsBelowBest t (made k).keeps prices (best_before found (parts k))
   pub first : (j : ℕ) (worth other : ℤ) → j < parts k → IsCeiling (worth_of t (made k).keeps prices 1) prices.scale worth
       → WaitsAs t (made j).keeps (made j).node (parts j) (parts k) other → IsNextBefore worth k other j
 
 -- where a subproblem is a split, it is split in turn
 abbrev pub IsInTurn : Tables → ℕ → (ℕ → Worked) → (ℕ → Option ℤ) → (ℕ → ℕ) → ℕ → Node → Type 0
-IsInTurn t count made found parts k (node.Split leg fleet prices mixed) = IsSplitInTurn t count made found parts k leg fleet prices
+IsInTurn t count made found parts k (node.Split leg choice prices mixed) = IsSplitInTurn t count made found parts k leg choice prices
 IsInTurn t count made found parts k other = ⊤
 
 -- The subproblems of a tree, below its trims, were made one by one: `made` has them by their numbers, `found` what a plan

@@ -27,14 +27,14 @@ pub record IsOffered (t : Tables) (a : List ℕ) (before after : Option Plan) : 
   pub cheapest : cost_of after ≡ lesser_bound (cost_of before) found
   pub taken : (after ≡ before) ⊎ IsTaken t a before after
 
--- each leg keeps one fleet, and that assignment was offered
+-- each leg keeps one choice, and that assignment was offered
 pub record IsSoleOffered (t : Tables) (keeps : Domains) (before after : Option Plan) : Type 0 where
   pub sole : IsSole t keeps
   pub plan : List ℕ
   pub kept : IsKeptAssignment t keeps plan
   pub offered : IsOffered t plan before after
 
--- some leg does not keep just one fleet, and nothing was offered
+-- some leg does not keep just one choice, and nothing was offered
 pub record IsNoSole (t : Tables) (keeps : Domains) (before after : Option Plan) : Type 0 where
   pub not_sole : ¬ (IsSole t keeps)
   pub same : after ≡ before

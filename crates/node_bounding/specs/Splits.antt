@@ -19,11 +19,11 @@ pub record KeepsOther (t : Tables) (keeps : Domains) (leg choice : ℕ) : Type 0
   pub differs : other ≢ choice
 
 -- a subproblem that may be split by a pair
-pub record IsSplit (t : Tables) (keeps : Domains) (leg fleet : ℕ) (prices : Prices) (mixed : Mixed) : Type 0 where
+pub record IsSplit (t : Tables) (keeps : Domains) (leg choice : ℕ) (prices : Prices) (mixed : Mixed) : Type 0 where
   pub searched : IsSearched t keeps
   pub best : AreBest t keeps prices mixed
   pub fraction : IsFraction t keeps prices mixed
-  pub first : IsFirstPartial t mixed leg fleet
-  pub pair : IsPair t (leg_on leg fleet)
-  pub kept : IsKeptPair keeps leg fleet
-  pub other : KeepsOther t keeps leg fleet
+  pub first : IsFirstPartial t mixed leg choice
+  pub pair : IsPair t (leg_on leg choice)
+  pub kept : IsKeptPair keeps leg choice
+  pub other : KeepsOther t keeps leg choice

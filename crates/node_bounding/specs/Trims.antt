@@ -37,15 +37,15 @@ AreSearched t keeps tree.Sole = ⊤
 AreSearched t keeps (tree.Refuted prices) = IsSearched t keeps
 AreSearched t keeps (tree.Priced prices) = IsSearched t keeps
 AreSearched t keeps (tree.Open prices why) = IsSearched t keeps
-AreSearched t keeps (tree.Trim' leg fleet p with_pair q without) = ⊥
-AreSearched t keeps (tree.Split' leg fleet prices mixed p with_pair q without) =
-    IsSearched t keeps × AreSearched t (part keeps leg fleet true) with_pair × AreSearched t (part keeps leg fleet false) without
+AreSearched t keeps (tree.Trim' leg choice p with_pair q without) = ⊥
+AreSearched t keeps (tree.Split' leg choice prices mixed p with_pair q without) =
+    IsSearched t keeps × AreSearched t (part keeps leg choice true) with_pair × AreSearched t (part keeps leg choice false) without
 
 -- removals on top of a tree, in their order, each refuted by its reason, and below them nothing more is removed
 abbrev pub AreOnTop : Tables → Domains → List Removal → Tree → Type 0
 AreOnTop t keeps [] whole = AreSearched t keeps whole
-AreOnTop t keeps (removal ∷ removals) (tree.Trim' leg fleet p with_pair q without) =
-    (leg ≡ removal.leg) × (fleet ≡ removal.choice) × (with_pair ≡ tree.Refuted removal.reason) × AreOnTop t (part keeps leg fleet false) removals without
+AreOnTop t keeps (removal ∷ removals) (tree.Trim' leg choice p with_pair q without) =
+    (leg ≡ removal.leg) × (choice ≡ removal.choice) × (with_pair ≡ tree.Refuted removal.reason) × AreOnTop t (part keeps leg choice false) removals without
 AreOnTop t keeps (removal ∷ removals) other = ⊥
 
 -- the trims of a tree are the removals that presolve gives for the tables

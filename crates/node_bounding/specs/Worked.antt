@@ -26,8 +26,8 @@ own_node tree.Sole = node.Sole
 own_node (tree.Refuted prices) = node.Refuted prices
 own_node (tree.Priced prices) = node.Priced prices
 own_node (tree.Open prices why) = node.Open prices why
-own_node (tree.Trim' leg fleet p with_pair q without) = node.Trim leg fleet
-own_node (tree.Split' leg fleet prices mixed p with_pair q without) = node.Split leg fleet prices mixed
+own_node (tree.Trim' leg choice p with_pair q without) = node.Trim leg choice
+own_node (tree.Split' leg choice prices mixed p with_pair q without) = node.Split leg choice prices mixed
 
 abbrev pub worked_at : TreeNode → Worked
 worked_at here = record { keeps = here.keeps; node = own_node here.tree }
@@ -38,7 +38,7 @@ worked_in keeps tree = map worked_at (nodes_in keeps tree)
 
 -- the subproblems below the trims on top of a tree
 abbrev pub searched_in : Domains → Tree → List Worked
-searched_in keeps (tree.Trim' leg fleet p with_pair q without) = searched_in (part keeps leg fleet false) without
+searched_in keeps (tree.Trim' leg choice p with_pair q without) = searched_in (part keeps leg choice false) without
 searched_in keeps other = worked_in keeps other
 
 -- a subproblem that is open for splits has this rounded worth

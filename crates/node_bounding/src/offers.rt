@@ -10,7 +10,7 @@ use crate::plans::Plan;
 use fleet_model::{Assignment, Kept, Tables};
 use plan_judge::{Verdict, judge};
 
-/// Whether each leg keeps one fleet; then the assignment that is left is offered. Takes no memory.
+/// Whether each leg keeps one choice; then the assignment that is left is offered. Takes no memory.
 ///
 /// It has an assignment on the stack, and so is kept out of the frames of the search.
 #[inline(never)]

@@ -6,7 +6,7 @@ use dual_bound::{Mixed, Prices, Tree};
 pub struct Fraction {
     /// The leg of the first such pair.
     pub leg: u32,
-    /// Its fleet.
+    /// Its choice.
     pub choice: u32,
     pub prices: Prices,
     pub mixed: Mixed,

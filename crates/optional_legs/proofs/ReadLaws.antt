@@ -6,10 +6,9 @@ use Rattle.fleet_model.specs.declared.tables.Tables.{Tables}
 use Rattle.fleet_model.proofs.TablesSame.{tables_same}
 use Rattle.sums.specs.Places.{list_below}
 use Rattle.table_rows.proofs.OneReading.{table_bad_same, table_end_exists, table_reads_no_fault, table_reads_same}
-use Rattle.optional_legs.specs.Optional.{key_of}
+use Rattle.optional_legs.specs.Optional.{key_of, read_beside, optional_header}
 use Rattle.optional_legs.specs.Laws.{OneFirstFault, OneReading, OptionalOrFault, OptionalOrFaultNotBoth}
 use Rattle.optional_legs.specs.Adding.{HaveOptional, leg_with_skip}
-use Rattle.optional_legs.specs.Optional.{read_beside, optional_header}
 use Rattle.optional_legs.specs.declared.optional.OptionalLeg.{OptionalLeg}
 use Rattle.optional_legs.proofs.TablesWith.{tables_with, they_have}
 use Rattle.optional_legs.proofs.OptionalFit.{optional_keep}

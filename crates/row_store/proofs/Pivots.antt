@@ -1,5 +1,5 @@
 -- The steps of a pivot.
-use Rattle.std.proofs.Common.{◌≡◌, ℕ, ◌+◌, ◌<◌, ◌≢◌, true, false, eqb, ℤ, pos, ◌<ℤ◌, List, length, Option, Some, None, option_map, unsigned_abs, sym, ◌∙◌, ap, arith, add-one}
+use Rattle.std.proofs.Common.{◌≡◌, ℕ, ◌+◌, ◌<◌, ◌≢◌, true, false, eqb, ℤ, pos, ◌<ℤ◌, List, length, Option, Some, None, option_map, unsigned_abs, sym, ◌∙◌, ap, arith, add-one, inl, inr}
 use Rattle.std.specs.Prelude.{is_some}
 use Rattle.std.proofs.lemmas.Bool.Decides.{nat_tests}
 use Rattle.sums.specs.Places.{first_below, or_else}
@@ -12,7 +12,6 @@ use Rattle.frac_row.specs.Row.{number_of, width_of, IsRow, IsSmall}
 use Rattle.frac_row.specs.Combined.{combined_row, factors_of, growth_of}
 use Rattle.frac_row.proofs.Combinations.{small_growth, small_growth_beside}
 use Rattle.row_store.specs.Small.{IsSmallFor}
-use Rattle.std.proofs.Common.{inl, inr}
 use Rattle.row_store.specs.Table.{row_at}
 use Rattle.row_store.specs.Pivot.{scaled_row, cleared_row, clearing_growth, new_row, row_growth, pivot_growth}
 use Rattle.row_store.specs.declared.error.Place.{Place}

@@ -1,8 +1,7 @@
 -- Sums over blocks of equal length, one after another, and over a list that is appended to another.
-use Rattle.std.proofs.Common.{◌≡◌, ℕ, zero, suc, ◌+◌, ◌*◌, ◌<◌, List, ◌++◌, length, slice_index_or, ℤ, ◌+ℤ◌, ◌∙◌, ap, arith}
+use Rattle.std.proofs.Common.{◌≡◌, ℕ, zero, suc, ◌+◌, ◌*◌, ◌<◌, List, ◌++◌, length, slice_index_or, ℤ, ◌+ℤ◌, ◌∙◌, ap, arith, length-append}
 use Rattle.std.proofs.lemmas.Int.{ints}
 use Rattle.std.proofs.lemmas.Grind.{common_steps}
-use Rattle.std.proofs.Common.{length-append}
 use Rattle.sums.specs.Below.{sum_below, sum_below_ℤ}
 use Rattle.sums.proofs.Naturals.{plus_0, plus_suc}
 use Rattle.sums.proofs.Sums.{sum_below-agree}

@@ -52,7 +52,7 @@ ask_both-returns-then-ask_in_part-clause-found t c u is = fallen_first _ _ _ _ _
 pub ask_both-returns-clause-found : goal.ask_both-returns-clause-found
 ask_both-returns-clause-found t c u is =
     children_found _ _ _ _ _ _ _ _ _ _ (c.if-ask_in_part.ensures.found u is)
-    (found_in _ _ _ _ _ _ _ (ap (λ rows. narrowed (kept_by rows) (record { leg = c.args.leg; choice = c.args.fleet; yes = false })) c.if-ask_in_part.ensures.kept)
+    (found_in _ _ _ _ _ _ _ (ap (λ rows. narrowed (kept_by rows) (record { leg = c.args.leg; choice = c.args.choice; yes = false })) c.if-ask_in_part.ensures.kept)
     (c.ask_in_part-2.ensures.found u (same_size _ _ _ _ c.if-ask_in_part.ensures.size is)))
 
 pub ask_in_part-narrow-undo-requires-clause-fleet : goal.ask_in_part-narrow-undo-requires-clause-fleet

@@ -1,6 +1,5 @@
 use Rattle.std.proofs.Common.{ℕ, ◌<◌}
-use Rattle.dual_bound.specs.Prices.{rent_of}
-use Rattle.dual_bound.specs.Prices.{IsRent}
+use Rattle.dual_bound.specs.Prices.{IsRent, rent_of}
 use Rattle.cert_check.proofs.price_rules.are_rents.Given as goal
 
 abbrev pub invariant-loop-fleet : goal.invariant-loop-fleet

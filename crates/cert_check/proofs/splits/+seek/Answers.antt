@@ -35,7 +35,7 @@ seek-returns-in-Split-clause-sought t c =
 pub seek_both-returns-clause-sought : goal.seek_both-returns-clause-sought
 seek_both-returns-clause-sought t c =
     in_second _ _ _ _ _ _ _ _ c.if-seek_in_part.ensures.sought
-    (in_same _ _ _ _ _ (record { leg = c.args.leg; choice = c.args.fleet; yes = false }) _ _ _ _ c.if-seek_in_part.ensures.kept c.if-seek_in_part.ensures.cost c.seek_in_part-2.ensures.sought)
+    (in_same _ _ _ _ _ (record { leg = c.args.leg; choice = c.args.choice; yes = false }) _ _ _ _ c.if-seek_in_part.ensures.kept c.if-seek_in_part.ensures.cost c.seek_in_part-2.ensures.sought)
 
 pub seek_in_part-narrow-undo-requires-clause-fleet : goal.seek_in_part-narrow-undo-requires-clause-fleet
 seek_in_part-narrow-undo-requires-clause-fleet t c = few_choice _ _ _ c.requires.pair

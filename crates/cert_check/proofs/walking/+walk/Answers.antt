@@ -38,7 +38,7 @@ walk_both-returns-in-Some-clause-walked t c = broken_first _ _ _ _ _ _ _ _ _ c.i
 pub walk_both-returns-in-None-clause-walked : goal.walk_both-returns-in-None-clause-walked
 walk_both-returns-in-None-clause-walked t c =
     both_walked _ _ _ _ _ _ _ _ _ _ c.in-None.ensures.walked
-    (in_same _ _ _ _ _ (record { leg = c.args.leg; choice = c.args.fleet; yes = false }) _ _ _ _ c.in-None.ensures.kept c.in-None.ensures.cost c.walk_part-in-None.ensures.walked)
+    (in_same _ _ _ _ _ (record { leg = c.args.leg; choice = c.args.choice; yes = false }) _ _ _ _ c.in-None.ensures.kept c.in-None.ensures.cost c.walk_part-in-None.ensures.walked)
 
 pub walk_part-narrow-undo-requires-clause-fleet : goal.walk_part-narrow-undo-requires-clause-fleet
 walk_part-narrow-undo-requires-clause-fleet t c = few_choice _ _ _ c.requires.pair

@@ -1,7 +1,6 @@
-use Rattle.std.proofs.Common.{pos, subst}
+use Rattle.std.proofs.Common.{ap, pos, subst}
 use Rattle.std.proofs.lemmas.List.{get_or_default}
 use Rattle.frac_row.specs.Outgrown.{IsWithin}
-use Rattle.std.proofs.Common.{ap}
 use Rattle.row_store.specs.Steps.{turned_row}
 use Rattle.row_store.proofs.turning.turn_row.Goals as goal
 
