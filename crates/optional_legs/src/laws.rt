@@ -1,5 +1,7 @@
 //! The laws of reading optional legs: of every file one thing holds beside tables and no more. Each function is a law: its
 //! contract is the statement, and it does nothing.
+ghost use Rattle.std.specs.Prelude.{◌≡◌};
+ghost use Rattle.optional_legs.specs.declared.optional.TheConstants.{MAX_OPTIONAL};
 ghost use Rattle.optional_legs.specs.Laws.{OneFirstFault, OneReading, OptionalOrFault, OptionalOrFaultNotBoth};
 
 /// A file reads as optional legs of the tables, or it has a first fault.
@@ -20,4 +22,9 @@ pub fn one_reading()
 /// A file has one first fault at most.
 pub fn one_first_fault()
     ensures { OneFirstFault }
+{}
+
+/// The most records of the table in numbers.
+pub fn limits_in_numbers()
+    ensures optional { MAX_OPTIONAL ≡ 1000 }
 {}

@@ -1,5 +1,7 @@
 //! The laws of reading windows: of every file one thing holds beside tables and no more; and of settling: what stays the same.
 //! Each function is a law: its contract is the statement, and it does nothing.
+ghost use Rattle.std.specs.Prelude.{◌≡◌};
+ghost use Rattle.retime_windows.specs.declared.window.TheConstants.{MAX_WINDOWS, MAX_WINDOWS_OF_LEG};
 ghost use Rattle.retime_windows.specs.Laws.{OneFirstFault, OneReading, WindowsOrFault, WindowsOrFaultNotBoth};
 ghost use Rattle.retime_windows.specs.SettledLaws.{SettledCostsAlike, SettledCountsAlike, SettledIsLegal, SettledOnce};
 
@@ -21,6 +23,12 @@ pub fn one_reading()
 /// A file has one first fault at most.
 pub fn one_first_fault()
     ensures { OneFirstFault }
+{}
+
+/// The limits of windows in numbers.
+pub fn limits_in_numbers()
+    ensures windows { MAX_WINDOWS ≡ 8000 }
+    ensures windows_of_leg { MAX_WINDOWS_OF_LEG ≡ 8 }
 {}
 
 /// By a settled plan as much departs and arrives at each station and minute, and as many aircraft are needed, stand and are used.
