@@ -3,7 +3,7 @@
 import os
 import shutil
 from pathlib import Path
-from typing import List, Optional
+from typing import Dict, List, Optional
 
 from gate_tests.scratch import TOP, Ended, lay, lay_command, run, scratch
 from gate_tests.tally import Tally
@@ -22,6 +22,15 @@ for crate in sys.argv[2:]:
             print(f"rt: must-fail {crate}/{edit.name}: {ENDS.get(edit.stem, 'refused, as it must be: src/lib.rt')}")
 """
 EDITS = ("low/one", "low/two", "middle/one", "high/three", "beside/one")
+# Files that change, and which edits are then tried.
+CHANGES: Dict[str, List[str]] = {
+    "crates/middle/src/lib.rt": ["high/three", "middle/one"],
+    "crates/low/specs/New.antt": ["high/three", "low/one", "low/two", "middle/one"],
+    "crates/low/must-fail/of-the-gate.edit": [],
+    "trials/middle/one.edit": ["middle/one"],
+    "trials/middle/README.md": [],
+    "docs/page.md": [],
+}
 
 
 def lay_out(top: Path) -> None:
@@ -100,14 +109,7 @@ def try_parts(tally: Tally, top: Path) -> None:
 def try_changes(tally: Tally, top: Path) -> None:
     """Wants what changed since a commit to be tried, with what stands on it."""
     want(tally, "--changed with no change", call(top, "--changed", "HEAD"), [])
-    for file, edits in (
-        ("crates/middle/src/lib.rt", ["high/three", "middle/one"]),
-        ("crates/low/specs/New.antt", ["high/three", "low/one", "low/two", "middle/one"]),
-        ("crates/low/must-fail/of-the-gate.edit", []),
-        ("trials/middle/one.edit", ["middle/one"]),
-        ("trials/middle/README.md", []),
-        ("docs/page.md", []),
-    ):
+    for file, edits in CHANGES.items():
         lay(top, {file: "changed\n"})
         want(tally, f"--changed with another {file}", call(top, "--changed", "HEAD"), edits)
         commit(top)
