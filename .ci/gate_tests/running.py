@@ -66,7 +66,7 @@ def lay_out(top: Path) -> None:
     """Lays a repository in which each part passes."""
     lay(top, {".ci/least": LEAST})
     (top / "tools").mkdir()
-    for file in (".ci/run", "tools/machine.py"):
+    for file in (".ci/run", ".ci/parts", "tools/machine.py"):
         shutil.copy2(TOP / file, top / file)
     lay_part(top, "rt", says("NAME4 passed, 0 failed"))
     for name in SCRIPTS:
@@ -82,7 +82,7 @@ def lay_part(top: Path, name: str, does: str) -> None:
 
 def call(top: Path, *words: str, **names: str) -> Ended:
     """Calls .ci/run in a repository."""
-    return run(top, ".ci/run", *words, PATH=f"{top / 'bin'}{os.pathsep}{os.environ['PATH']}", **names)
+    return run(top, "bash", ".ci/run", *words, PATH=f"{top / 'bin'}{os.pathsep}{os.environ['PATH']}", **names)
 
 
 def end_of(ended: Ended) -> Tuple[str, int]:
@@ -121,8 +121,9 @@ def try_missing(tally: Tally, top: Path) -> None:
     tally.equal(".ci/run where a script is no command", (f"{ALL_BUT_ONE} passed, 1 failed", 127), end_of(call(top)))
     (top / ".ci" / "ssim").unlink()
     tally.equal(".ci/run where a script is missing", (f"{ALL_BUT_ONE} passed, 1 failed", 127), end_of(call(top)))
-    ended = run(top, ".ci/run", PATH=os.path.dirname(shutil.which("python3") or ""))
-    if not shutil.which("rt", path=os.path.dirname(shutil.which("python3") or "")):
+    plain = os.pathsep.join((os.path.dirname(shutil.which("python3") or ""), "/usr/bin", "/bin"))
+    ended = run(top, shutil.which("bash") or "bash", ".ci/run", PATH=plain)
+    if not shutil.which("rt", path=plain):
         tally.equal(".ci/run where there is no rt", ("0 passed, 1 failed", 127), end_of(ended))
 
 
