@@ -1,8 +1,8 @@
 //! Lines, and what they are made of.
 use crate::assertions::assert_same;
 use entries::Entries;
+use frac_row::{Entry, SparseRow};
 use row_store::{Layout, Line, Rows, is_problem};
-use sparse_row::{Entry, SparseRow};
 use std::alloc::Global;
 use std::test::Fail;
 

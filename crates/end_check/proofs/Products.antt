@@ -6,9 +6,9 @@ use Rattle.sums.specs.Below.{sum_below_ℤ}
 use Rattle.sums.proofs.NumberTests.{if_apart, if_same}
 use Rattle.sums.proofs.Sizes.{nothing_added}
 use Rattle.frac_row.specs.Outgrown.{IsWithin}
-use Rattle.sparse_row.specs.declared.entry.Entry.{Entry}
-use Rattle.sparse_row.specs.Content.{number_in, AreRising}
-use Rattle.sparse_row.proofs.LineNumbers.{none_before, rising_from}
+use Rattle.frac_row.specs.declared.entry.Entry.{Entry}
+use Rattle.frac_row.specs.Content.{number_in, AreRising}
+use Rattle.frac_row.proofs.LineNumbers.{none_before, rising_from}
 use Rattle.end_check.specs.Ends.{value_in}
 use Rattle.end_check.specs.Sums.{AddsWithin, SumsWithin}
 

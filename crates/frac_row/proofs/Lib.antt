@@ -4,3 +4,12 @@ pub mod Growths
 pub mod Ratios
 pub mod Rows
 pub mod Steps
+pub mod Combined
+pub mod CommonDivisors
+pub mod Contents
+pub mod Filled
+pub mod SideBySide
+pub mod Smallness
+pub mod Turned
+pub mod LineNumbers
+pub mod FilledRows

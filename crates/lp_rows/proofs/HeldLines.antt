@@ -4,8 +4,8 @@ use Rattle.std.proofs.lemmas.List.{ext_get_or, get_or-map, length-map, get_or_ap
 use Rattle.sums.specs.Places.{list_below}
 use Rattle.sums.proofs.Places.{length-list_below, get_or-list_below}
 use Rattle.frac_row.specs.declared.row.FracRow.{FracRow}
-use Rattle.sparse_row.specs.Lines.{IsFilledRow}
-use Rattle.sparse_row.proofs.FilledRows.{filled_row}
+use Rattle.frac_row.specs.Lines.{IsFilledRow}
+use Rattle.frac_row.proofs.FilledRows.{filled_row}
 
 module _ {X : Type 0} (g : X → ℤ) (xs : List X) (r : ℤ) where
   pub column_number : (k : ℕ) (d : X) → k < length xs → g (get_or xs k d) ≡ get_or (map g xs ++ r ∷ []) k (pos 0)

@@ -9,8 +9,8 @@ use Rattle.fleet_model.specs.Schedule.{fleet_by, leg_of}
 use Rattle.fleet_model.specs.Times.{departure, ready_minute}
 use Rattle.frac_row.specs.Row.{number_of}
 use Rattle.frac_row.specs.declared.row.FracRow.{FracRow}
-use Rattle.sparse_row.specs.Lines.{IsFilledRow}
-use Rattle.sparse_row.proofs.FilledRows.{filled_more, filled_none, filled_past}
+use Rattle.frac_row.specs.Lines.{IsFilledRow}
+use Rattle.frac_row.proofs.FilledRows.{filled_more, filled_none, filled_past}
 use Rattle.lp_rows.specs.declared.kinds.Column.{Column}
 use Rattle.lp_rows.specs.declared.kinds.Column.TheVariants.{Flight, Ground, Room, Slack}
 use Rattle.lp_rows.specs.declared.kinds.Line.{Line}

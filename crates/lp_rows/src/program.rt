@@ -17,8 +17,8 @@ use crate::network::Network;
 use crate::outline::Outline;
 use entries::{Entries, NoMemory};
 use fleet_model::{Kept, Tables};
+use frac_row::SparseRow;
 use row_store::Rows;
-use sparse_row::SparseRow;
 use std::alloc::Global;
 
 /// The linear program of a subproblem: what stands where, and the lines over its kept pairs, the ground arcs of its

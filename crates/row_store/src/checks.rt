@@ -4,7 +4,7 @@ ghost use Rattle.row_store.specs.Problem.{IsProblem, IsColumnWithin};
 
 use crate::first::entry;
 use crate::problem::Rows;
-use sparse_row::{Line, with_sizes};
+use frac_row::{Line, with_sizes};
 
 /// Whether the lines have one number for each real column and a right side, and there are as many costs,
 /// few enough of all to be numbered, and nothing in their first table is outgrown.

@@ -16,6 +16,6 @@ pub mod turning;
 pub use checks::is_problem;
 pub use dense::Dense;
 pub use error::{PivotError, Place};
+pub use frac_row::{Layout, Line};
 pub use problem::Rows;
-pub use sparse_row::{Layout, Line};
 pub use store::RowStore;

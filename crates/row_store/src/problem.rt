@@ -1,5 +1,5 @@
 use entries::Entries;
-use sparse_row::Line;
+use frac_row::Line;
 
 /// Lines with their costs: find numbers of at least 0, one for each real column, that meet all lines at
 /// least cost.

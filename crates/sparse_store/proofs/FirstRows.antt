@@ -7,8 +7,8 @@ use Rattle.sums.specs.Places.{list_below}
 use Rattle.sums.proofs.Places.{length-list_below, get_or-list_below}
 use Rattle.frac_row.specs.Outgrown.{IsWithin}
 use Rattle.frac_row.specs.declared.row.FracRow.{FracRow}
-use Rattle.sparse_row.specs.Lines.{IsFilledRow}
-use Rattle.sparse_row.proofs.FilledRows.{filled_more, filled_row, filled_past, filled_as}
+use Rattle.frac_row.specs.Lines.{IsFilledRow}
+use Rattle.frac_row.proofs.FilledRows.{filled_more, filled_row, filled_past, filled_as}
 use Rattle.row_store.specs.declared.problem.Rows.{Rows}
 use Rattle.row_store.specs.Problem.{entry, IsProblem, first_amount, first_number, first_row}
 use Rattle.row_store.proofs.FirstTables.{amount_line, amount_phase, amount_cost, number_real, number_one, number_zero, number_right, part_within}

@@ -5,9 +5,9 @@ use Rattle.sums.specs.Places.{first_below}
 use Rattle.sums.proofs.Places.{first_found, all_nothing}
 use Rattle.sums.proofs.Tests.{by_choice, unlike}
 use Rattle.sums.proofs.NumberTests.{if_apart, if_same}
-use Rattle.sparse_row.specs.declared.entry.Entry.{Entry}
-use Rattle.sparse_row.specs.Content.{number_in, AreEntries}
-use Rattle.sparse_row.proofs.Contents.{nothing_before}
+use Rattle.frac_row.specs.declared.entry.Entry.{Entry}
+use Rattle.frac_row.specs.Content.{number_in, AreEntries}
+use Rattle.frac_row.proofs.Contents.{nothing_before}
 use Rattle.row_store.specs.Choice.{improves, is_negative}
 use Rattle.sparse_store.specs.Scan.{first_where}
 

@@ -1,6 +1,6 @@
 -- A search along a list of numbers by rising columns.
 use Rattle.std.specs.Prelude.{ℕ, Bool, nat_lt, List, [], ◌∷◌, if◌then◌else◌}
-use Rattle.sparse_row.specs.declared.entry.Entry.{Entry}
+use Rattle.frac_row.specs.declared.entry.Entry.{Entry}
 
 -- the column of the first number that passes, before the first column from a bound on; else the bound
 abbrev pub first_where : (Entry → Bool) → ℕ → List Entry → ℕ

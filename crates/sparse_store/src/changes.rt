@@ -2,7 +2,7 @@ ghost use Rattle.std.specs.Prelude.{◌≡◌, ◌<◌, All, length};
 ghost use Rattle.sums.specs.Places.{list_below};
 ghost use Rattle.sparse_store.specs.Changes.{row_after};
 
-use sparse_row::SparseRow;
+use frac_row::SparseRow;
 
 /// A row that is to take the place of another.
 #[derive(Debug, Drop)]

@@ -5,8 +5,8 @@ use crate::sparse_first::first_rows;
 use crate::sparse_pivoting::{changed_rows, pivot_growth, turn_row};
 use crate::sparse_scanning::{first_entering, least_ratio};
 use entries::NoMemory;
+use frac_row::SparseRow;
 use row_store::{PivotError, RowStore, Rows};
-use sparse_row::SparseRow;
 use std::alloc::Global;
 
 /// A table that holds of each row the numbers that are not 0.

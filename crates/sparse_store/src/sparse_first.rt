@@ -4,8 +4,8 @@ ghost use Rattle.sums.specs.Places.{list_below};
 ghost use Rattle.row_store.specs.Problem.{IsProblem, entry, first_row, first_table};
 
 use entries::NoMemory;
+use frac_row::{SparseRow, add_line, begun};
 use row_store::Rows;
-use sparse_row::{SparseRow, add_line, begun};
 use std::alloc::Global;
 
 /// The rows of the first table: the lines, the phase row, the cost row.

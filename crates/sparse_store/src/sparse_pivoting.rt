@@ -7,10 +7,12 @@ ghost use Rattle.row_store.specs.Steps.{turned_row};
 
 use crate::changes::Change;
 use entries::NoMemory;
-use frac_row::Growth;
+use frac_row::sparse_combining::combine;
+use frac_row::sparse_growth::growth_by;
+use frac_row::sparse_sizes::is_small;
+use frac_row::{Growth, SparseRow, factors_between, scaled, turn};
 use row_store::Place;
 use row_store::for_stores::place_in;
-use sparse_row::{SparseRow, combine, factors_between, growth_by, is_small, scaled, turn};
 use std::alloc::Global;
 
 /// The place of the first outgrown product or difference of a pivot.

@@ -1,14 +1,14 @@
 ghost use Rattle.std.specs.Prelude.{◌≡◌, ◌+◌, ◌<◌, ◌≤◌, ◌^◌, ◌==◌, ◌&&◌, Some, None, length, unsigned_abs, pos, ◌<ℤ◌, if◌then◌else◌};
 ghost use Rattle.sums.specs.Places.{first_below};
 ghost use Rattle.frac_row.specs.Row.{number_of, width_of};
-ghost use Rattle.sparse_row.specs.Content.{AreEntries, number_in};
+ghost use Rattle.frac_row.specs.Content.{AreEntries, number_in};
 ghost use Rattle.row_store.specs.declared.choice.Candidate.{Candidate};
 ghost use Rattle.row_store.specs.Table.{IsTable, columns_of, height_of};
 ghost use Rattle.row_store.specs.Choice.{improves, is_negative, better, candidate_at, entering, leaving};
 ghost use Rattle.sparse_store.specs.Scan.{first_where};
 
+use frac_row::{Entry, SparseRow};
 use row_store::for_stores::{Candidate, better, row_of};
-use sparse_row::{Entry, SparseRow};
 
 /// The least improving one of the first columns of a table.
 pub fn first_entering(rows: &[SparseRow], columns: u32) -> Option<u32>

@@ -2,8 +2,8 @@ use Rattle.std.proofs.Common.{◌+◌, length, rules, arith, refl, ◌∙◌}
 use Rattle.std.proofs.lemmas.Int.{to_z-of_z}
 use mir.Val.{SFits}
 use mir.Syntax.{w128}
-use Rattle.sparse_row.specs.Lines.{IsFilledRow}
-use Rattle.sparse_row.proofs.FilledRows.{filled_more}
+use Rattle.frac_row.specs.Lines.{IsFilledRow}
+use Rattle.frac_row.proofs.FilledRows.{filled_more}
 use Rattle.lp_rows.specs.Entries.{entry_of, right_side_of}
 use Rattle.lp_rows.specs.Layout.{starts_in}
 use Rattle.lp_rows.proofs.HeldLines.{right_number, as_long, all_filled}

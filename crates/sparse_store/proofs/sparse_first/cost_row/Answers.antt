@@ -2,7 +2,7 @@ use Rattle.std.proofs.Common.{◌+◌, pos, get_or, rules, arith, ◌∙◌, ap}
 use Rattle.std.proofs.lemmas.Int.{to_z-of_z}
 use mir.Val.{SFits}
 use mir.Syntax.{w128}
-use Rattle.sparse_row.proofs.FilledRows.{filled_none, filled_more}
+use Rattle.frac_row.proofs.FilledRows.{filled_none, filled_more}
 use Rattle.sparse_store.proofs.FirstRows.{cost_number, cost_done}
 use Rattle.sparse_store.proofs.sparse_first.cost_row.Goals as goal
 

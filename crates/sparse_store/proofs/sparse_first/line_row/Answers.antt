@@ -3,7 +3,7 @@ use Rattle.std.proofs.lemmas.Int.{to_z-of_z}
 use Rattle.std.proofs.lemmas.List.{get_or_read}
 use mir.Val.{SFits}
 use mir.Syntax.{w128}
-use Rattle.sparse_row.specs.Lines.{IsFilledRow}
+use Rattle.frac_row.specs.Lines.{IsFilledRow}
 use Rattle.row_store.specs.Problem.{first_number, first_amount}
 use Rattle.row_store.proofs.FirstTables.{amount_line}
 use Rattle.sparse_store.proofs.FirstRows.{width_in, line_begun, line_unit, right_put}

@@ -2,7 +2,7 @@ use Rattle.std.proofs.Common.{◌≡◌, ◌+◌, length, slice_set, rules, arit
 use Rattle.std.proofs.lemmas.Int.{to_z-of_z}
 use mir.Val.{SFits}
 use mir.Syntax.{w128}
-use Rattle.sparse_row.proofs.FilledRows.{filled_none, filled_more}
+use Rattle.frac_row.proofs.FilledRows.{filled_none, filled_more}
 use Rattle.sparse_store.proofs.FirstRows.{phase_number, phase_right, past_identity, right_put}
 use Rattle.sparse_store.proofs.sparse_first.phase_row.Goals as goal
 

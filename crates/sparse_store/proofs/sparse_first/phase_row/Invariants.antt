@@ -1,5 +1,5 @@
 use Rattle.std.proofs.Common.{◌+◌, length}
-use Rattle.sparse_row.specs.Lines.{IsFilledRow}
+use Rattle.frac_row.specs.Lines.{IsFilledRow}
 use Rattle.row_store.specs.Problem.{first_number}
 use Rattle.sparse_store.proofs.sparse_first.phase_row.Given as goal
 

@@ -1,6 +1,6 @@
 use Rattle.std.proofs.Common.{◌≤◌, arith, sym, subst}
 use Rattle.frac_row.specs.Row.{number_of, width_of}
-use Rattle.sparse_row.specs.Content.{AreEntries}
+use Rattle.frac_row.specs.Content.{AreEntries}
 use Rattle.row_store.specs.Choice.{is_negative}
 use Rattle.sparse_store.proofs.Scans.{IsScanned, first_where_is, scanned_from, scan_found, scan_none}
 use Rattle.sparse_store.proofs.sparse_scanning.first_improving.Goals as goal

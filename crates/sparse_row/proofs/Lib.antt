@@ -1,9 +1,0 @@
-pub mod Combined
-pub mod CommonDivisors
-pub mod Contents
-pub mod Filled
-pub mod SideBySide
-pub mod Smallness
-pub mod Turned
-pub mod LineNumbers
-pub mod FilledRows

@@ -1,7 +1,0 @@
-use Rattle.std.proofs.Common.{◌≡◌, pos, unsigned_abs}
-use Rattle.sums.specs.Divisors.{gcd_below}
-use Rattle.sparse_row.specs.Content.{number_at}
-use Rattle.sparse_row.proofs.lowest_terms.divisor_of.Given as goal
-
-abbrev pub invariant-loop-entry : goal.invariant-loop-entry
-invariant-loop-entry l = l.divisor ≡ pos (gcd_below (unsigned_abs l.den) (λ k. unsigned_abs (number_at l.entries k)) l.entry-index)

@@ -1,3 +1,0 @@
-pub mod Content
-pub mod Pairs
-pub mod Lines
