@@ -18,7 +18,7 @@ use Rattle.frac_row.specs.declared.row.FracRow.{FracRow}
 use Rattle.row_store.specs.Problem.{entry}
 use Rattle.row_store.specs.declared.problem.Rows.{Rows}
 use Rattle.row_store.specs.Table.{cost_row, height_of, number_at, phase_row, right_side}
-use Rattle.reached_tables.specs.Duality.{IsTableOf, ReadsOff, amount_at, den_at, identity_at, weighed}
+use Rattle.simplex_frac.specs.ReachedTables.{IsTableOf, ReadsOff, amount_at, den_at, identity_at, weighed}
 use Rattle.simplex_frac.specs.LastTables.{IsBestTable, IsNoPointTable}
 use Rattle.dual_lift.specs.Duals.{best_scale, best_value, cost_den, cost_number, cost_part, den_divisor, identity_column, phase_den, phase_number, phase_part, phase_value, phases_added, phases_wanted, real_columns}
 use Rattle.dual_lift.proofs.Ceilings.{phases_enough}

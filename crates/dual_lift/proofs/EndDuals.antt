@@ -6,7 +6,7 @@ use Rattle.frac_row.specs.declared.row.FracRow.{FracRow}
 use Rattle.row_store.specs.Table.{cost_row, right_side}
 use Rattle.row_store.specs.declared.problem.Rows.{Rows}
 use Rattle.simplex_frac.specs.LastTables.{IsBestTable, IsNoPointTable}
-use Rattle.reached_tables.specs.Duality.{weighed}
+use Rattle.simplex_frac.specs.ReachedTables.{weighed}
 use Rattle.dual_lift.specs.Duals.{best_scale, best_value, cost_den, phase_den, phase_part, phase_value}
 use Rattle.dual_lift.specs.LastTables.{AreDualValues, IsEndBy, IsReachedTable, WeighMore, WeighTheCost, counts_costs}
 use Rattle.dual_lift.specs.Mixture.{HasPhases}

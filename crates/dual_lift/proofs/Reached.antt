@@ -2,10 +2,10 @@
 use Rattle.std.proofs.Common.{ℕ, List}
 use Rattle.frac_row.specs.declared.row.FracRow.{FracRow}
 use Rattle.row_store.specs.declared.problem.Rows.{Rows}
-use Rattle.reached_tables.specs.Duality.{IsReachedBySteps}
-use Rattle.reached_tables.proofs.ReachedPoints.{has_tables}
-use Rattle.reached_tables.proofs.ReadOff.{reads_off}
-use Rattle.reached_tables.proofs.UnitColumns.{has_unit_columns}
+use Rattle.simplex_frac.specs.ReachedTables.{IsReachedBySteps}
+use Rattle.simplex_frac.proofs.ReachedPoints.{has_tables}
+use Rattle.simplex_frac.proofs.ReachedRows.{reads_off}
+use Rattle.simplex_frac.proofs.ReachedUnitColumns.{has_unit_columns}
 use Rattle.dual_lift.specs.LastTables.{IsReachedTable}
 
 module _ (rows : Rows) (table : List FracRow) (basis : List ℕ) (reached : IsReachedBySteps rows table basis) where

@@ -5,9 +5,9 @@ use Rattle.row_store.specs.Problem.{IsProblem}
 pub use Rattle.row_store.specs.DualValues.{AreDualValues, WeighMore}
 use Rattle.row_store.specs.Table.{cost_row, right_side}
 use Rattle.row_store.specs.declared.problem.Rows.{Rows}
-use Rattle.reached_tables.specs.Duality.{HasUnitColumns, IsTableOf, ReadsOff, den_at, weighed}
+use Rattle.simplex_frac.specs.ReachedTables.{HasUnitColumns, IsTableOf, ReadsOff, den_at, weighed}
 use Rattle.simplex_frac.specs.LastTables.{IsBestTable, IsNoPointTable}
-use Rattle.reached_tables.specs.BasicPoints.{IsBasicPoint, MeetsAtCost}
+use Rattle.simplex_frac.specs.BasicPoints.{IsBasicPoint, MeetsAtCost}
 use Rattle.dual_lift.specs.Mixture.{IsMixture}
 use Rattle.dual_lift.specs.declared.reading.Reading.{Reading}
 use Rattle.dual_lift.specs.declared.reading.Reading.TheVariants.{BothRows, PhaseRow}

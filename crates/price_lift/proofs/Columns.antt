@@ -10,7 +10,7 @@ use Rattle.fleet_model.specs.Schedule.{legs_in}
 use Rattle.row_store.specs.Problem.{entry}
 use Rattle.row_store.specs.declared.problem.Rows.{Rows}
 use Rattle.simplex_frac.specs.Duality.{AreRightSidesAtLeast0}
-use Rattle.reached_tables.specs.Duality.{weighed}
+use Rattle.simplex_frac.specs.ReachedTables.{weighed}
 use Rattle.lp_rows.specs.declared.kinds.Column.TheVariants.{Slack}
 use Rattle.lp_rows.specs.declared.kinds.Line.{Line}
 use Rattle.lp_rows.specs.declared.kinds.Line.TheVariants.{Balance, Count, Cover, Parking}

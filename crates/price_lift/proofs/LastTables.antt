@@ -15,7 +15,7 @@ use Rattle.fleet_model.specs.Kept.{Domains, IsBare, pairs_kept}
 use Rattle.fleet_model.specs.Schedule.{fleets_in, legs_in}
 use Rattle.row_store.specs.Table.{HasColumns, height_of, row_at}
 use Rattle.row_store.specs.declared.problem.Rows.{Rows}
-use Rattle.reached_tables.specs.Duality.{weighed}
+use Rattle.simplex_frac.specs.ReachedTables.{weighed}
 use Rattle.dual_lift.specs.LastTables.{AreDualValues, IsReachedTable, WeighMore}
 use Rattle.lp_rows.specs.declared.kinds.Column.{Column}
 use Rattle.lp_rows.specs.Entries.{column_cost, entry_of}

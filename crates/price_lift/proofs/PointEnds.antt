@@ -5,7 +5,7 @@ use Rattle.fleet_model.specs.declared.tables.Tables.{Tables}
 use Rattle.fleet_model.specs.Kept.{Domains, pairs_kept}
 use Rattle.row_store.specs.Table.{height_of, right_side, row_at}
 use Rattle.row_store.specs.declared.problem.Rows.{Rows}
-use Rattle.reached_tables.specs.BasicPoints.{IsBasicPoint, MeetsAtCost}
+use Rattle.simplex_frac.specs.BasicPoints.{IsBasicPoint, MeetsAtCost}
 use Rattle.lp_rows.specs.Layout.{Starts, pair_at_column}
 use Rattle.lp_rows.specs.Points.{AreLinesOf}
 use Rattle.lp_rows.proofs.PairParts.{is_pair, part_at}

@@ -16,12 +16,12 @@ use Rattle.simplex_frac.specs.Duality.{den_at, IsReached, AreRightSidesAtLeast0}
 use Rattle.simplex_frac.specs.LastTables.{IsTurn, BestTells, NoPointTells}
 use Rattle.simplex_frac.specs.declared.turn.Turn.{Turn}
 use Rattle.simplex_frac.proofs.TurnCauses.{EndsBest, EndsNoPoint, ImprovesNot, best_ends, no_point_ends, none_improves}
-use Rattle.reached_tables.proofs.FirstPoints.{rest_sum}
-use Rattle.reached_tables.proofs.ReachedPoints.{phase_is, last_is, phase_kept}
+use Rattle.simplex_frac.proofs.FirstPoints.{rest_sum}
+use Rattle.simplex_frac.proofs.ReachedPoints.{phase_is, last_is, phase_kept}
 use Rattle.simplex_frac.proofs.RunPoints.{run_is_reached}
 use Rattle.simplex_frac.proofs.RightSides.{run_keeps_right_sides}
-use Rattle.reached_tables.proofs.BasicSums.{IsBasicTable, basic_table, basic, basic_point, surplus_below_lines, common_scale, scale_over, scale_positive, scale_over_positive}
-use Rattle.reached_tables.proofs.SameBases.{basic_value, whole_point, whole_meets}
+use Rattle.simplex_frac.proofs.BasicSums.{IsBasicTable, basic_table, basic, basic_point, surplus_below_lines, common_scale, scale_over, scale_positive, scale_over_positive}
+use Rattle.simplex_frac.proofs.SameBases.{basic_value, whole_point, whole_meets}
 
 pub reached_of : {rows : Rows} {made : ℕ} {table : List FracRow} {basis : List ℕ} {does : Turn} → IsTurn rows made table basis does → IsReached rows made table basis
 reached_of h = record { problem = h.problem; reaches = h.turns.reaches }

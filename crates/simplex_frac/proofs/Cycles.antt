@@ -17,13 +17,13 @@ use Rattle.row_store.specs.declared.problem.Rows.{Rows}
 use Rattle.row_store.specs.Table.{row_at, number_at}
 use Rattle.row_store.specs.Points.{surplus}
 use Rattle.row_store.specs.Problem.{first_table}
-use Rattle.reached_tables.specs.Tableaux.{Tableau}
-use Rattle.reached_tables.specs.Duality.{den_at, IsReachedBySteps}
-use Rattle.reached_tables.proofs.BasicSums.{IsBasicTable, basic_table, basic, basic_apart, common_scale, scale_over, scale_positive, scale_over_positive}
-use Rattle.reached_tables.proofs.FirstPoints.{MeetsFirst}
-use Rattle.reached_tables.proofs.ReachedPoints.{has_tables, kept}
-use Rattle.reached_tables.proofs.Rises.{rise_point, rise_below, rise_meets, rise_at_column, rise_elsewhere, rise_at_line}
-use Rattle.reached_tables.proofs.SameBases.{AreBasicIn, same_values}
+use Rattle.simplex_frac.specs.Tableaux.{Tableau}
+use Rattle.simplex_frac.specs.ReachedTables.{den_at, IsReachedBySteps}
+use Rattle.simplex_frac.proofs.BasicSums.{IsBasicTable, basic_table, basic, basic_apart, common_scale, scale_over, scale_positive, scale_over_positive}
+use Rattle.simplex_frac.proofs.FirstPoints.{MeetsFirst}
+use Rattle.simplex_frac.proofs.ReachedPoints.{has_tables, kept}
+use Rattle.simplex_frac.proofs.Rises.{rise_point, rise_below, rise_meets, rise_at_column, rise_elsewhere, rise_at_line}
+use Rattle.simplex_frac.proofs.SameBases.{AreBasicIn, same_values}
 use Rattle.simplex_frac.proofs.OnePivot.{IsOnePivot, NoLess, Rises, side_of, no_less_same, no_less_chain, values_rise, own_zero, other_zero, other_was_zero}
 use Rattle.simplex_frac.proofs.Pairs.{equal_values, stands, times_some, times_none, times_zero, times_below, sums_not_below, clash}
 use Rattle.simplex_frac.proofs.TurnCauses.{Improves, ImprovesNot}

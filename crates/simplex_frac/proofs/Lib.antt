@@ -18,3 +18,13 @@ pub mod PivotsLeft
 pub mod BasisCounts
 pub mod UnboundedRuns
 pub mod OneEnd
+pub mod Uprights
+pub mod StepLaws
+pub mod FirstPoints
+pub mod ReachedPoints
+pub mod ReachedUnitColumns
+pub mod ReachedRows
+pub mod BasicSums
+pub mod BasicPoints
+pub mod Rises
+pub mod SameBases

@@ -1,8 +1,8 @@
 -- The basic point of the best table meets the lines.
 use Rattle.std.proofs.Common.{ap, ◌∙◌}
 use Rattle.row_store.specs.Table.{number_at}
-use Rattle.reached_tables.proofs.MetPoints.{meets_at_cost}
-use Rattle.reached_tables.proofs.ReachedPoints.{last_is}
+use Rattle.simplex_frac.proofs.BasicPoints.{meets_at_cost}
+use Rattle.simplex_frac.proofs.ReachedPoints.{last_is}
 use Rattle.simplex_frac.specs.LastTables.{BasicPointMeets}
 use Rattle.simplex_frac.proofs.RunPoints.{run_is_reached, has_tables}
 use Rattle.simplex_frac.proofs.BestPoints.{reached_of, best_tells, side_is_0}

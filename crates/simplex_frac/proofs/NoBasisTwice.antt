@@ -13,10 +13,10 @@ use Rattle.row_store.specs.Choice.{entering}
 use Rattle.row_store.specs.Problem.{IsProblem, first_table}
 use Rattle.row_store.proofs.Choices.{before_entering}
 use Rattle.row_store.proofs.Ties.{least_of_ties}
-use Rattle.reached_tables.specs.Tableaux.{Tableau, first_tableau}
-use Rattle.reached_tables.specs.Duality.{IsReachedBySteps, IsTableOf}
-use Rattle.reached_tables.proofs.BasicSums.{IsBasicTable, basic_table, basic, basic_apart}
-use Rattle.reached_tables.proofs.ReachedPoints.{has_tables, phase_is, cost_is, last_is}
+use Rattle.simplex_frac.specs.Tableaux.{Tableau, first_tableau}
+use Rattle.simplex_frac.specs.ReachedTables.{IsReachedBySteps, IsTableOf}
+use Rattle.simplex_frac.proofs.BasicSums.{IsBasicTable, basic_table, basic, basic_apart}
+use Rattle.simplex_frac.proofs.ReachedPoints.{has_tables, phase_is, cost_is, last_is}
 use Rattle.simplex_frac.specs.Bases.{NoBasisTwice, PivotsAreFew, IsStartedBy, IsSpentEarly, bases_of}
 use Rattle.simplex_frac.specs.Duality.{AreRightSidesAtLeast0}
 use Rattle.simplex_frac.specs.Ends.{end_of}

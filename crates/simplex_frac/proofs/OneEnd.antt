@@ -3,7 +3,7 @@ use Rattle.std.proofs.Common.{◌≡◌, ℕ, ◌+◌, List, Option, Some, None,
 use Rattle.frac_row.specs.declared.row.FracRow.{FracRow}
 use Rattle.row_store.specs.declared.error.Place.{Place}
 use Rattle.row_store.specs.Pivot.{pivot_growth}
-use Rattle.reached_tables.specs.Tableaux.{Tableau}
+use Rattle.simplex_frac.specs.Tableaux.{Tableau}
 use Rattle.simplex_frac.specs.Run.{turn, after_turn, unless_outgrown, next_tableau, stage}
 use Rattle.simplex_frac.specs.Outcomes.{TurnsAt}
 use Rattle.simplex_frac.specs.Finished.{IsFinished, HasOneEnd, counted}

@@ -8,7 +8,7 @@ use Rattle.sums.proofs.Tests.{none_some}
 use Rattle.frac_row.specs.declared.row.FracRow.{FracRow}
 use Rattle.row_store.specs.declared.error.Place.{Place}
 use Rattle.row_store.specs.Pivot.{pivot_growth}
-use Rattle.reached_tables.specs.Tableaux.{Tableau}
+use Rattle.simplex_frac.specs.Tableaux.{Tableau}
 use Rattle.simplex_frac.specs.Run.{turn, after_turn, unless_outgrown, next_tableau, stage}
 use Rattle.simplex_frac.specs.Outcomes.{IsOutcome}
 use Rattle.simplex_frac.specs.Laws.{HasOneOutcome}

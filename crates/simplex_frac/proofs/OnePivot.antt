@@ -11,10 +11,10 @@ use Rattle.row_store.specs.declared.problem.Rows.{Rows}
 use Rattle.row_store.specs.Table.{row_at, number_at}
 use Rattle.row_store.specs.Pivot.{pivoted}
 use Rattle.row_store.proofs.PivotNumbers.{IsCleared, IsScaled, pivot_clears, pivot_scales}
-use Rattle.reached_tables.specs.Tableaux.{Tableau}
-use Rattle.reached_tables.specs.Duality.{den_at, IsReachedBySteps, IsTableOf}
-use Rattle.reached_tables.proofs.BasicSums.{basic}
-use Rattle.reached_tables.proofs.ReachedPoints.{has_tables}
+use Rattle.simplex_frac.specs.Tableaux.{Tableau}
+use Rattle.simplex_frac.specs.ReachedTables.{den_at, IsReachedBySteps, IsTableOf}
+use Rattle.simplex_frac.proofs.BasicSums.{basic}
+use Rattle.simplex_frac.proofs.ReachedPoints.{has_tables}
 use Rattle.simplex_frac.proofs.TurnCauses.{Improves, ImprovesNot}
 
 -- the right side of a row

@@ -4,7 +4,7 @@ use Rattle.std.specs.Prelude.{option_and_then}
 use Rattle.std.proofs.lemmas.Bool.{cases_lt}
 use Rattle.sums.proofs.Naturals.{plus_0, suc_moved}
 use Rattle.frac_row.specs.declared.row.FracRow.{FracRow}
-use Rattle.reached_tables.specs.Tableaux.{Tableau}
+use Rattle.simplex_frac.specs.Tableaux.{Tableau}
 use Rattle.simplex_frac.specs.Run.{next_tableau, stage}
 
 -- one more than after the next one, where there is one

@@ -20,11 +20,11 @@ use Rattle.simplex_frac.specs.Duality.{den_at, IsReached}
 use Rattle.simplex_frac.specs.LastTables.{IsTurn, IsDirection, RayIsDirection}
 use Rattle.simplex_frac.specs.declared.turn.Turn.TheVariants.{Ray}
 use Rattle.simplex_frac.proofs.TurnCauses.{EndsRay, Improves, ray_ends, entering_improves}
-use Rattle.reached_tables.proofs.FirstPoints.{line_sum, cost_sum, rest_sum}
-use Rattle.reached_tables.proofs.ReachedPoints.{phase_is, cost_is, phase_kept, cost_kept}
+use Rattle.simplex_frac.proofs.FirstPoints.{line_sum, cost_sum, rest_sum}
+use Rattle.simplex_frac.proofs.ReachedPoints.{phase_is, cost_is, phase_kept, cost_kept}
 use Rattle.simplex_frac.proofs.RunPoints.{run_is_reached}
-use Rattle.reached_tables.proofs.BasicSums.{IsBasicTable, basic_table, basic, basic_point, common_scale, scale_over, scale_positive, scale_over_positive}
-use Rattle.reached_tables.proofs.Rises.{rise_value, rise_point, rise_below, rise_meets}
+use Rattle.simplex_frac.proofs.BasicSums.{IsBasicTable, basic_table, basic, basic_point, common_scale, scale_over, scale_positive, scale_over_positive}
+use Rattle.simplex_frac.proofs.Rises.{rise_value, rise_point, rise_below, rise_meets}
 use Rattle.simplex_frac.proofs.BestPoints.{reached_of}
 
 -- a column that may rise without end

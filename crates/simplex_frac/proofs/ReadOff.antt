@@ -1,5 +1,5 @@
 -- The rows of each table of the run, read off its identity block.
-use Rattle.reached_tables.proofs.ReadOff.{reads_off}
+use Rattle.simplex_frac.proofs.ReachedRows.{reads_off}
 use Rattle.simplex_frac.specs.Duality.{RunReadsOff}
 use Rattle.simplex_frac.proofs.RunPoints.{run_is_reached}
 

@@ -18,14 +18,14 @@ use Rattle.row_store.specs.Problem.{IsProblem, first_table}
 use Rattle.row_store.proofs.FirstTables.{amount_line}
 use Rattle.row_store.proofs.LeastRatio.{leaves_least}
 use Rattle.row_store.proofs.PivotNumbers.{IsCleared, IsScaled, pivot_clears, pivot_scales}
-use Rattle.reached_tables.specs.Tableaux.{Tableau, first_tableau}
+use Rattle.simplex_frac.specs.Tableaux.{Tableau, first_tableau}
 use Rattle.simplex_frac.specs.Run.{stage}
 use Rattle.simplex_frac.specs.Duality.{IsTableOf, AreRightSidesAtLeast0, RunKeepsRightSides}
 use Rattle.simplex_frac.proofs.Turns.{IsPivotPlace, pivot_place}
 use Rattle.simplex_frac.proofs.TurnCauses.{pivot_leaves}
 use Rattle.simplex_frac.proofs.RunLaws.{IsStep, stage_step}
-use Rattle.reached_tables.proofs.FirstPoints.{right_first}
-use Rattle.reached_tables.proofs.ReachedPoints.{phase_is, last_is}
+use Rattle.simplex_frac.proofs.FirstPoints.{right_first}
+use Rattle.simplex_frac.proofs.ReachedPoints.{phase_is, last_is}
 use Rattle.simplex_frac.proofs.RunPoints.{has_tables}
 
 -- no right side of a line is below 0

@@ -8,8 +8,8 @@ use Rattle.row_store.specs.declared.error.Place.{Place}
 use Rattle.row_store.specs.Table.{number_at}
 use Rattle.row_store.specs.Pivot.{pivoted, pivot_growth}
 use Rattle.row_store.proofs.Turns.{stepped-same, step_growth-same}
-use Rattle.reached_tables.specs.Tableaux.{Tableau, after_step, IsReachedFrom, IsStep as IsMade}
-use Rattle.reached_tables.proofs.StepLaws.{steps_keep_shape, steps_keep_points, steps_keep_surplus}
+use Rattle.simplex_frac.specs.Tableaux.{Tableau, after_step, IsReachedFrom, IsStep as IsMade}
+use Rattle.simplex_frac.proofs.StepLaws.{steps_keep_shape, steps_keep_points, steps_keep_surplus}
 use Rattle.simplex_frac.specs.Run.{turn, after_turn, unless_outgrown, next_tableau, stage}
 use Rattle.simplex_frac.specs.Laws.{RunKeepsPoints, RunKeepsSurplus, RunKeepsShape}
 use Rattle.simplex_frac.specs.declared.turn.Turn.{Turn}

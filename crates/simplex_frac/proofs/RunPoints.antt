@@ -1,6 +1,6 @@
 -- The tables of the run are reached by steps.
 use Rattle.row_store.specs.Problem.{first_table}
-use Rattle.reached_tables.proofs.ReachedPoints as reached
+use Rattle.simplex_frac.proofs.ReachedPoints as reached
 use Rattle.simplex_frac.specs.Duality.{RunHasTables, RunIsReached}
 use Rattle.simplex_frac.proofs.RunLaws.{reached_from}
 

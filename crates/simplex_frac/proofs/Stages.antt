@@ -7,7 +7,7 @@ use Rattle.frac_row.specs.declared.row.FracRow.{FracRow}
 use Rattle.row_store.specs.Table.{HasColumns, height_of, IsTable}
 use Rattle.row_store.specs.Pivot.{pivoted, pivot_growth}
 use Rattle.row_store.proofs.Tables.{length-pivoted, columns_of-pivoted}
-use Rattle.reached_tables.specs.Tableaux.{Tableau, first_tableau}
+use Rattle.simplex_frac.specs.Tableaux.{Tableau, first_tableau}
 use Rattle.simplex_frac.specs.Run.{turn, after_turn, unless_outgrown, next_tableau, stage}
 use Rattle.simplex_frac.specs.Outcomes.{Reaches}
 use Rattle.simplex_frac.specs.declared.turn.Turn.TheVariants.{Pivot}

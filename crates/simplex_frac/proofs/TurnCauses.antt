@@ -9,7 +9,7 @@ use Rattle.row_store.specs.Table.{number_at, phase_row, cost_row, right_side}
 use Rattle.row_store.specs.Choice.{is_negative, improves, is_improving, entering, leaving}
 use Rattle.row_store.proofs.Choices.{entering_is}
 use Rattle.row_store.proofs.SignTests.{not_negative_is}
-use Rattle.reached_tables.specs.Tableaux.{Tableau}
+use Rattle.simplex_frac.specs.Tableaux.{Tableau}
 use Rattle.simplex_frac.specs.Run.{turn, turn_by, turn_at}
 use Rattle.simplex_frac.specs.declared.turn.Turn.TheVariants.{Best, NoPoint, Ray, Pivot}
 use Rattle.simplex_frac.proofs.Turns.{no_end_pivots, no_ray_pivots}

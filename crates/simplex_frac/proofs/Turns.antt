@@ -6,7 +6,7 @@ use Rattle.frac_row.specs.declared.row.FracRow.{FracRow}
 use Rattle.row_store.specs.Table.{HasColumns, number_at, height_of, columns_of, phase_row, right_side}
 use Rattle.row_store.specs.Choice.{entering, leaving}
 use Rattle.row_store.proofs.Choices.{entering_is, leaving_is}
-use Rattle.reached_tables.specs.Tableaux.{Tableau}
+use Rattle.simplex_frac.specs.Tableaux.{Tableau}
 use Rattle.simplex_frac.specs.Run.{turn, turn_by, turn_at}
 use Rattle.simplex_frac.specs.declared.turn.Turn.{Turn}
 use Rattle.simplex_frac.specs.declared.turn.Turn.TheVariants.{Best, NoPoint, Ray, Pivot}

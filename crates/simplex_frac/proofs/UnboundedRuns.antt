@@ -9,8 +9,8 @@ use Rattle.row_store.specs.declared.error.PivotError.TheVariants as refusals
 use Rattle.row_store.specs.Table.{HasColumns, height_of}
 use Rattle.row_store.specs.Pivot.{pivoted, pivot_growth}
 use Rattle.row_store.proofs.FirstTables.{first_has_columns}
-use Rattle.reached_tables.specs.Tableaux.{Tableau}
-use Rattle.reached_tables.proofs.ReachedPoints.{first_height}
+use Rattle.simplex_frac.specs.Tableaux.{Tableau}
+use Rattle.simplex_frac.proofs.ReachedPoints.{first_height}
 use Rattle.simplex_frac.specs.Bases.{bases_of}
 use Rattle.simplex_frac.specs.Finished.{IsStarted, IsCutOff, WantsMemory, counted}
 use Rattle.simplex_frac.specs.Outcomes.{Reaches, TurnsAt}

@@ -1,5 +1,5 @@
 -- The basic columns of each table of the run are unit columns.
-use Rattle.reached_tables.proofs.UnitColumns.{has_unit_columns}
+use Rattle.simplex_frac.proofs.ReachedUnitColumns.{has_unit_columns}
 use Rattle.simplex_frac.specs.Duality.{RunHasUnitColumns}
 use Rattle.simplex_frac.proofs.RunPoints.{run_is_reached}
 

@@ -5,9 +5,9 @@ use Rattle.frac_row.specs.declared.row.FracRow.{FracRow}
 use Rattle.row_store.specs.declared.problem.Rows.{Rows}
 use Rattle.row_store.specs.Table.{right_side}
 use Rattle.row_store.specs.Problem.{entry, IsProblem, first_table}
-use Rattle.reached_tables.specs.Duality.{IsReachedBySteps}
+use Rattle.simplex_frac.specs.ReachedTables.{IsReachedBySteps}
 use Rattle.simplex_frac.specs.Outcomes.{Reaches}
-pub use Rattle.reached_tables.specs.Duality.{den_at, amount_at, identity_at, weighed, IsTableOf, ReadsOff, HasUnitColumns}
+pub use Rattle.simplex_frac.specs.ReachedTables.{den_at, amount_at, identity_at, weighed, IsTableOf, ReadsOff, HasUnitColumns}
 
 -- a problem, and the table and basis that its run has after so many pivots
 pub record IsReached (rows : Rows) (made : ℕ) (table : List FracRow) (basis : List ℕ) : Type 0 where

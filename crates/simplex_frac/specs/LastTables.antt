@@ -6,7 +6,7 @@ use Rattle.row_store.specs.Table.{number_at, phase_row, cost_row, right_side}
 use Rattle.row_store.specs.Problem.{IsProblem, first_table, MeetsRows, point_cost}
 use Rattle.simplex_frac.specs.Outcomes.{TurnsAt}
 use Rattle.simplex_frac.specs.Duality.{AreRightSidesAtLeast0}
-pub use Rattle.reached_tables.specs.BasicPoints.{IsBasicPoint, MeetsAtCost}
+pub use Rattle.simplex_frac.specs.BasicPoints.{IsBasicPoint, MeetsAtCost}
 use Rattle.simplex_frac.specs.declared.turn.Turn.{Turn}
 use Rattle.simplex_frac.specs.declared.turn.Turn.TheVariants.{Best, NoPoint, Ray}
 

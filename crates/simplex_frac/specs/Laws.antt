@@ -3,8 +3,8 @@ use Rattle.std.specs.Prelude.{ℕ, ℤ, ◌*ℤ◌, ◌-◌, ◌<◌, ◌≡◌,
 use Rattle.frac_row.specs.declared.row.FracRow.{FracRow}
 use Rattle.row_store.specs.Table.{row_at, columns_of, HasColumns, IsTable}
 use Rattle.row_store.specs.Points.{surplus, MeetsLines}
-use Rattle.reached_tables.specs.Tableaux.{Tableau}
-use Rattle.reached_tables.specs.Laws.{KeepsShape}
+use Rattle.simplex_frac.specs.Tableaux.{Tableau}
+use Rattle.simplex_frac.specs.StepLaws.{KeepsShape}
 use Rattle.simplex_frac.specs.Run.{stage}
 use Rattle.simplex_frac.specs.Outcomes.{IsOutcome}
 use Rattle.simplex_frac.specs.declared.outcome.Outcome.{Outcome}

@@ -6,3 +6,7 @@ pub mod Duality
 pub mod LastTables
 pub mod Bases
 pub mod Finished
+pub mod Tableaux
+pub mod StepLaws
+pub mod ReachedTables
+pub mod BasicPoints

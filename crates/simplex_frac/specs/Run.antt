@@ -5,7 +5,7 @@ use Rattle.row_store.specs.declared.error.Place.{Place}
 use Rattle.row_store.specs.Table.{phase_row, right_side}
 use Rattle.row_store.specs.Pivot.{pivoted, pivot_growth}
 use Rattle.row_store.specs.Choice.{entering, leaving}
-use Rattle.reached_tables.specs.Tableaux.{Tableau, first_tableau}
+use Rattle.simplex_frac.specs.Tableaux.{Tableau, first_tableau}
 use Rattle.simplex_frac.specs.declared.turn.Turn.{Turn}
 use Rattle.simplex_frac.specs.declared.turn.Turn.TheVariants.{Best, NoPoint, Ray, Pivot}
 

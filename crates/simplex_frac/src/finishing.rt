@@ -2,10 +2,10 @@ ghost use Rattle.std.specs.Prelude.{◌≡◌, length, IfOk, OnErr};
 ghost use Rattle.row_store.specs.Table.{HasColumns};
 ghost use Rattle.simplex_frac.specs.Finished.{IsStarted, IsFinished, IsCutOff, WantsMemory};
 
+use crate::basis::first_basis;
 use crate::outcome::End;
 use crate::turn::{Turn, next_turn};
 use entries::{Entries, NoMemory};
-use reached_tables::first_basis;
 use row_store::{PivotError, RowStore};
 use std::alloc::Global;
 

@@ -1,6 +1,8 @@
-//! The simplex method in exact fractions, with Bland's rule, over any store of tables.
+//! The simplex method in exact fractions, with Bland's rule, over any store of tables; and what the tables that
+//! any steps reach from the first table of lines tell of the lines.
 #![tactic(auto)]
 
+pub mod basis;
 pub mod basis_count;
 pub mod checks;
 pub mod finishing;
@@ -9,6 +11,7 @@ pub mod outcome;
 pub mod run;
 pub mod turn;
 
+pub use basis::first_basis;
 pub use basis_count::bases;
 pub use checks::are_right_sides_at_least_0;
 pub use finishing::finish;

@@ -4,10 +4,10 @@ ghost use Rattle.simplex_frac.specs.Bases.{IsSpentEarly};
 ghost use Rattle.simplex_frac.specs.Outcomes.{IsOutcome, MayWantMemory};
 ghost use Rattle.simplex_frac.specs.Ends.{IsRefused, end_of};
 
+use crate::basis::first_basis;
 use crate::outcome::Outcome;
 use crate::turn::{Turn, next_turn};
 use entries::{Entries, NoMemory};
-use reached_tables::first_basis;
 use row_store::{PivotError, RowStore};
 use std::alloc::Global;
 

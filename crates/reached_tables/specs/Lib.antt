@@ -1,4 +1,0 @@
-pub mod Tableaux
-pub mod Laws
-pub mod Duality
-pub mod BasicPoints
