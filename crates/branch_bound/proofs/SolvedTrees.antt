@@ -28,12 +28,12 @@ use Rattle.node_bounding.specs.Made.{AreMade}
 use Rattle.node_bounding.specs.Subproblems.{IsPart, cost_of}
 use Rattle.branch_bound.specs.Settled.{IsAllFound, IsProvedBy, plan_of}
 use Rattle.branch_bound.specs.Solved.{IsLeastFirst, IsLeft, IsRight, IsSolved, IsTreeOf}
-use Rattle.solutions.specs.Solved.{tree_of}
+use Rattle.dual_bound.specs.Solved.{tree_of}
 use Rattle.node_bounding.specs.Trims.{IsTrimmed}
 use Rattle.node_bounding.specs.Worked.{own_node, worked_at}
 use Rattle.node_bounding.specs.declared.plans.Plan.{Plan}
-use Rattle.solutions.specs.declared.solved.Solved.{Solved}
-use Rattle.solutions.specs.declared.solved.Solved.TheVariants as solved
+use Rattle.dual_bound.specs.declared.solved.Solved.{Solved}
+use Rattle.dual_bound.specs.declared.solved.Solved.TheVariants as solved
 use Rattle.branch_bound.proofs.AllNodes.{all_below, all_closed, any_below, at_node, at_nodes, nodes_twice, none_open, searched_below, split_level, splits_below, waiting_level}
 use Rattle.node_bounding.proofs.Closings.{closed_caused, closed_depth, closed_gaps, closed_known, closed_order, closed_soles, closed_sound, closed_splits, closed_trimmed, found_closed}
 use Rattle.node_bounding.proofs.Orders.{no_more_same}

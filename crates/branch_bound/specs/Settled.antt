@@ -13,8 +13,8 @@ use Rattle.branch_bound.specs.History.{ComesTo}
 use Rattle.node_bounding.specs.Trims.{AreBelow}
 use Rattle.node_bounding.specs.Subproblems.{IsPlan, cost_of}
 use Rattle.node_bounding.specs.declared.plans.Plan.{Plan}
-use Rattle.solutions.specs.declared.solved.Solved.{Solved}
-use Rattle.solutions.specs.declared.solved.Solved.TheVariants as solved
+use Rattle.dual_bound.specs.declared.solved.Solved.{Solved}
+use Rattle.dual_bound.specs.declared.solved.Solved.TheVariants as solved
 
 -- the plan of a solution, where it has one
 abbrev pub plan_of : Solved → Option Plan

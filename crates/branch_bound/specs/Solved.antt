@@ -18,9 +18,9 @@ use Rattle.node_bounding.specs.Found.{AnswersSole, IsFoundAt, LeavesGap}
 use Rattle.node_bounding.specs.Made.{AreMade}
 use Rattle.node_bounding.specs.Trims.{IsTrimmed}
 use Rattle.node_bounding.specs.Worked.{IsWaitingWorth}
-use Rattle.solutions.specs.Solved.{plan_cost, tree_of}
-use Rattle.solutions.specs.declared.solved.Solved.{Solved}
-use Rattle.solutions.specs.declared.solved.Solved.TheVariants as solved
+use Rattle.dual_bound.specs.Solved.{plan_cost, tree_of}
+use Rattle.dual_bound.specs.declared.solved.Solved.{Solved}
+use Rattle.dual_bound.specs.declared.solved.Solved.TheVariants as solved
 
 -- The plan is legal and its cost exact. The bound is the tree's, and no legal assignment undercuts it. It is the
 -- cost where no leaf is open, and less where one is.

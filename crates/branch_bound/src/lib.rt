@@ -9,5 +9,5 @@ mod settling;
 pub mod solving;
 mod subproblems;
 
-pub use solutions::Solved;
+pub use dual_bound::Solved;
 pub use solving::solve;

@@ -6,13 +6,12 @@ ghost use Rattle.cert_check.specs.Verdicts.{AreSound};
 ghost use Rattle.node_bounding.specs.Subproblems.{IsPlan};
 ghost use Rattle.branch_bound.specs.Settled.{IsProvedBy, plan_of};
 ghost use Rattle.branch_bound.specs.Solved.{IsRight};
-ghost use Rattle.solutions.specs.Solved.{tree_of};
+ghost use Rattle.dual_bound.specs.Solved.{tree_of};
 
 use cert_check::{Checked, check};
-use dual_bound::Tree;
+use dual_bound::{Solved, Tree};
 use fleet_model::Tables;
 use node_bounding::Plan;
-use solutions::Solved;
 
 /// What the tree of a search proves, whose plan, if any, is the cheapest. Takes no memory.
 pub(crate) fn settle(tables: &Tables, best: Option<Plan>, tree: Tree) -> Solved

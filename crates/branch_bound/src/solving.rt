@@ -12,13 +12,12 @@ use crate::branching::branch;
 use crate::growing::grown;
 use crate::search::Search;
 use crate::settling::settle;
-use dual_bound::Tree;
+use dual_bound::{Solved, Tree};
 use entries::NoMemory;
 use fleet_model::{Kept, Tables};
 use node_bounding::removals::{below, remove};
 use node_bounding::{Plan, close};
 use presolve::trim;
-use solutions::Solved;
 use std::alloc::Global;
 
 /// Solves tables, with at most so many splits, and at most so many pivots for each subproblem, or with no budget of them

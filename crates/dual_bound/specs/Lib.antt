@@ -12,3 +12,4 @@ pub mod Rising
 pub mod Sizes
 pub mod Worth
 pub mod WrittenOrder
+pub mod Solved

@@ -1,4 +1,5 @@
-//! Dual prices, the bound that they give, and trees of subproblems with the prices that prove one.
+//! Dual prices, the bound that they give, and trees of subproblems with the prices that prove one, and what the
+//! solver answers with such a tree.
 #![tactic(auto)]
 
 pub mod charge_at;
@@ -12,6 +13,7 @@ pub mod price_finder;
 pub mod prices;
 mod rising;
 mod rising_weights;
+pub mod solved;
 pub mod trees;
 pub mod weight_finder;
 pub mod worth;
@@ -20,5 +22,6 @@ mod worth_less;
 pub use mixed::{Mixed, Weight};
 pub use price_finder::PriceFinder;
 pub use prices::{Charge, PriceStep, Prices};
+pub use solved::Solved;
 pub use trees::{Cause, Tree, TreeCounts};
 pub use weight_finder::WeightFinder;

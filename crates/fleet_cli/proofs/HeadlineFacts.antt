@@ -23,12 +23,12 @@ use Rattle.fleet_cli.specs.Answer.{Answers, Solves}
 use Rattle.fleet_cli.specs.Contents.{bytes_in, table_bytes}
 use Rattle.fleet_cli.specs.Headline.{TellsSolution, is_planned, plan_there}
 use Rattle.fleet_cli.specs.Run.{IsSolution}
-use Rattle.solutions.specs.Solved.{tree_of}
+use Rattle.dual_bound.specs.Solved.{tree_of}
 use Rattle.fleet_cli.specs.Solution.{solved_files}
 use Rattle.fleet_cli.specs.Written.{held_with_texts, with_texts}
 use Rattle.fleet_cli.specs.declared.answer.Answer.{Answer}
-use Rattle.solutions.specs.declared.solved.Solved.{Solved}
-use Rattle.solutions.specs.declared.solved.Solved.TheVariants as solved
+use Rattle.dual_bound.specs.declared.solved.Solved.{Solved}
+use Rattle.dual_bound.specs.declared.solved.Solved.TheVariants as solved
 
 -- the names of the files differ
 proof_not_plan : (dir : List ℕ) → path_of dir desk_file.Proof ≢ path_of dir desk_file.Plan

@@ -5,8 +5,8 @@ use Rattle.std.proofs.lemmas.Bool.{cases_Bool}
 use Rattle.std.proofs.lemmas.List.{get_or-append_right}
 use Rattle.dual_bound.specs.Leaves.{has_open}
 use Rattle.branch_bound.specs.Solved.{IsRight}
-use Rattle.solutions.specs.declared.solved.Solved.{Solved}
-use Rattle.solutions.specs.declared.solved.Solved.TheVariants as solved
+use Rattle.dual_bound.specs.declared.solved.Solved.{Solved}
+use Rattle.dual_bound.specs.declared.solved.Solved.TheVariants as solved
 use Rattle.command_words.specs.Words.{make, solve}
 use Rattle.command_words.specs.declared.command.TheConstants.{DEFAULT_OPTIONS, DEFAULT_READING}
 use Rattle.fleet_model.specs.Legal.{IsLegal}

@@ -5,8 +5,8 @@ use Rattle.bound_cert.specs.declared.reading.Proof.{Proof}
 use Rattle.dual_bound.specs.Leaves.{has_open}
 use Rattle.dual_bound.specs.Nodes.{nodes_of}
 use Rattle.dual_bound.specs.declared.trees.Tree.{Tree}
-use Rattle.solutions.specs.declared.solved.Solved.{Solved}
-use Rattle.solutions.specs.declared.solved.Solved.TheVariants as solved
+use Rattle.dual_bound.specs.declared.solved.Solved.{Solved}
+use Rattle.dual_bound.specs.declared.solved.Solved.TheVariants as solved
 use Rattle.cert_check.proofs.OneVerdict as tree
 use Rattle.cert_check.specs.Verdicts.{HoldsWith}
 use Rattle.cert_check.specs.declared.checked.Checked.TheVariants as checked

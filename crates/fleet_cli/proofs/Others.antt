@@ -6,8 +6,8 @@ use Rattle.std.proofs.lemmas.Map.{update_other}
 use Rattle.table_rows.proofs.Numbered.{bytes_eq-differ}
 use Rattle.dual_bound.specs.declared.trees.Tree.{Tree}
 use Rattle.bound_cert.specs.declared.reading.Proof.{Proof}
-use Rattle.solutions.specs.declared.solved.Solved.{Solved}
-use Rattle.solutions.specs.declared.solved.Solved.TheVariants as solved
+use Rattle.dual_bound.specs.declared.solved.Solved.{Solved}
+use Rattle.dual_bound.specs.declared.solved.Solved.TheVariants as solved
 use Rattle.cert_check.specs.declared.checked.Checked.{Checked}
 use Rattle.cert_check.specs.declared.checked.Checked.TheVariants as checked
 use Rattle.command_words.specs.Words.{Asked, check, due, judge, make, solve, tails, whatif}

@@ -4,9 +4,9 @@ use Rattle.fleet_model.specs.declared.tables.Tables.{Tables}
 use Rattle.bound_cert.proofs.WrittenTrees.{reads_what_was_written}
 use Rattle.dual_bound.specs.Bound.{IsBound}
 use Rattle.branch_bound.specs.Solved.{IsSolved}
-use Rattle.solutions.specs.Solved.{tree_of}
-use Rattle.solutions.specs.declared.solved.Solved.{Solved}
-use Rattle.solutions.specs.declared.solved.Solved.TheVariants as solved
+use Rattle.dual_bound.specs.Solved.{tree_of}
+use Rattle.dual_bound.specs.declared.solved.Solved.{Solved}
+use Rattle.dual_bound.specs.declared.solved.Solved.TheVariants as solved
 use Rattle.plan_report.specs.Summary.{printed_bound}
 use Rattle.fleet_cli.specs.Headline.{is_planned}
 use Rattle.fleet_cli.specs.SolvedChecked.{ReadsAndHolds}

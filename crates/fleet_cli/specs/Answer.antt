@@ -5,7 +5,7 @@ use Rattle.dual_bound.specs.declared.trees.Tree.{Tree}
 use Rattle.due_report.specs.Lines.{due_text}
 use Rattle.due_report.specs.Placings.{ArePlacings, are_unplaced}
 use Rattle.branch_bound.specs.Solved.{IsSolved}
-use Rattle.solutions.specs.declared.solved.Solved.{Solved}
+use Rattle.dual_bound.specs.declared.solved.Solved.{Solved}
 use Rattle.cert_check.specs.Verdicts.{IsChecked}
 use Rattle.cert_check.specs.declared.checked.Checked.{Checked}
 use Rattle.cert_check.specs.declared.checked.Checked.TheVariants as checked

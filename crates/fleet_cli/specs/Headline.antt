@@ -29,12 +29,12 @@ use Rattle.fleet_cli.specs.Reading.{five_tables, proof_files, tables_of}
 use Rattle.fleet_cli.specs.Refusals.{fleet_named}
 use Rattle.fleet_cli.specs.Run.{IsSolution, PlanThere}
 use Rattle.branch_bound.specs.Solved.{IsSolved}
-use Rattle.solutions.specs.Solved.{tree_of}
+use Rattle.dual_bound.specs.Solved.{tree_of}
 use Rattle.fleet_cli.specs.Solution.{AreRotationsOf, printed_text, solved_status}
 use Rattle.fleet_cli.specs.Texts.{checked_text, what_if_text}
 use Rattle.fleet_cli.specs.Written.{with_texts}
-use Rattle.solutions.specs.declared.solved.Solved.{Solved}
-use Rattle.solutions.specs.declared.solved.Solved.TheVariants as solved
+use Rattle.dual_bound.specs.declared.solved.Solved.{Solved}
+use Rattle.dual_bound.specs.declared.solved.Solved.TheVariants as solved
 use Rattle.fleet_cli.specs.declared.status.TheConstants.{DONE}
 
 -- there is a plan

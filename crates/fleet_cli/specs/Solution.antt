@@ -3,8 +3,8 @@ use Rattle.std.specs.Prelude.{◌≡◌, ℕ, List, [], ◌∷◌, Bool, true, f
 use Rattle.dual_bound.specs.Leaves.{has_open}
 use Rattle.bound_cert.specs.ProofText.{proof_text}
 use Rattle.dual_bound.specs.declared.trees.Tree.{Tree}
-use Rattle.solutions.specs.declared.solved.Solved.{Solved}
-use Rattle.solutions.specs.declared.solved.Solved.TheVariants as solved
+use Rattle.dual_bound.specs.declared.solved.Solved.{Solved}
+use Rattle.dual_bound.specs.declared.solved.Solved.TheVariants as solved
 use Rattle.command_words.specs.declared.command.RotationLimits.{RotationLimits}
 use Rattle.command_words.specs.declared.command.SolveOptions.{SolveOptions}
 use Rattle.fleet_model.specs.declared.tables.Tables.{Tables}

@@ -12,10 +12,10 @@ use Rattle.plan_desk.specs.Desk.{Files}
 use Rattle.fleet_cli.specs.Answer.{Answers}
 use Rattle.fleet_cli.specs.Headline.{is_planned}
 use Rattle.fleet_cli.specs.Run.{AnswersInFull, IsSolution}
-use Rattle.solutions.specs.Solved.{plan_cost, tree_of}
+use Rattle.dual_bound.specs.Solved.{plan_cost, tree_of}
 use Rattle.plan_report.specs.Summary.{printed_bound}
 use Rattle.fleet_cli.specs.declared.answer.Answer.{Answer}
-use Rattle.solutions.specs.declared.solved.Solved.{Solved}
+use Rattle.dual_bound.specs.declared.solved.Solved.{Solved}
 use Rattle.fleet_cli.specs.declared.status.TheConstants.{DONE}
 
 -- The text of a solution's proof reads; it says whether a plan comes with it as the solution has one, and its tree holds

@@ -1,7 +1,7 @@
 //! What is printed and written of a solution and the rotations of its plan.
 ghost use Rattle.std.specs.Prelude.{◌≡◌, ◌++◌, [], ◌∷◌, IfOk, OnOk};
 ghost use Rattle.dual_bound.specs.OfTables.{IsOfTables};
-ghost use Rattle.solutions.specs.Solved.{PlanFits, tree_of};
+ghost use Rattle.dual_bound.specs.Solved.{PlanFits, tree_of};
 ghost use Rattle.fleet_cli.specs.Solution.{plan_file, printed_text, proof_file, rotation_file, solved_files, solved_status};
 ghost use Rattle.fleet_model.specs.Legal.{IsAssignment};
 ghost use Rattle.fleet_rotations.specs.Rotations.{AreRotations};
@@ -9,7 +9,7 @@ ghost use Rattle.fleet_rotations.specs.Rotations.{AreRotations};
 use crate::answer::FileText;
 use crate::status::{DONE, GAP, INFEASIBLE, UNSETTLED};
 use bound_cert::write_proof;
-use dual_bound::Tree;
+use dual_bound::{Solved, Tree};
 use entries::{Entries, NoMemory};
 use fleet_model::{Assignment, Tables};
 use fleet_rotations::FleetRotation;
@@ -17,7 +17,6 @@ use plan_desk::DeskFile;
 use plan_report::{summary, summary_json};
 use plan_text::write_plan;
 use rotation_report::rotation_csv;
-use solutions::Solved;
 use std::alloc::Global;
 
 /// The exit status of a solution.

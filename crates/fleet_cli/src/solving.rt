@@ -2,7 +2,7 @@
 ghost use Rattle.std.specs.Prelude.{◌≡◌, IfOk};
 ghost use Rattle.dual_bound.specs.OfTables.{IsOfTables};
 ghost use Rattle.branch_bound.specs.Solved.{IsRight};
-ghost use Rattle.solutions.specs.Solved.{PlanFits, tree_of};
+ghost use Rattle.dual_bound.specs.Solved.{PlanFits, tree_of};
 ghost use Rattle.command_words.specs.Arguments.{AreOptions, AreRotationLimits};
 ghost use Rattle.fleet_cli.specs.Answer.{GivesSolution, ShowsRotations, ShowsSolution, Solves};
 ghost use Rattle.fleet_cli.specs.Contents.{content_of, table_bytes};
@@ -23,11 +23,11 @@ use crate::solution::{printed_text, solved_files, status_of};
 use crate::status::Status;
 use branch_bound::solve;
 use command_words::SolveOptions;
+use dual_bound::Solved;
 use entries::{Entries, NoMemory};
 use fleet_model::{Assignment, TableOptions, Tables};
 use fleet_rotations::FleetRotation;
 use plan_rotations::rotations;
-use solutions::Solved;
 use std::alloc::Global;
 
 /// Solves by what the tables hold.

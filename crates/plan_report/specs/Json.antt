@@ -7,9 +7,9 @@ use Rattle.serde_json.specs.Written.{compact_text}
 use Rattle.sums.specs.Places.{list_below}
 use Rattle.dual_bound.specs.Leaves.{counts_of}
 use Rattle.dual_bound.specs.declared.trees.TreeCounts.{TreeCounts}
-use Rattle.solutions.specs.Solved.{plan_cost, tree_of}
-use Rattle.solutions.specs.declared.solved.Solved.{Solved}
-use Rattle.solutions.specs.declared.solved.Solved.TheVariants as solved
+use Rattle.dual_bound.specs.Solved.{plan_cost, tree_of}
+use Rattle.dual_bound.specs.declared.solved.Solved.{Solved}
+use Rattle.dual_bound.specs.declared.solved.Solved.TheVariants as solved
 use Rattle.fleet_model.specs.Counts.{weights_of}
 use Rattle.fleet_model.specs.Schedule.{fleet_of, fleets_in}
 use Rattle.fleet_model.specs.Use.{used_of}

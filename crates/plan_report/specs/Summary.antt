@@ -3,9 +3,9 @@ use Rattle.std.specs.Prelude.{ℕ, zero, suc, List, [], ◌∷◌, ◌++◌, cod
 use Rattle.std.specs.Fmt.{decimal}
 use Rattle.dual_bound.specs.Leaves.{counts_of, has_open}
 use Rattle.dual_bound.specs.declared.trees.TreeCounts.{TreeCounts}
-use Rattle.solutions.specs.Solved.{plan_cost, tree_of}
-use Rattle.solutions.specs.declared.solved.Solved.{Solved}
-use Rattle.solutions.specs.declared.solved.Solved.TheVariants as solved
+use Rattle.dual_bound.specs.Solved.{plan_cost, tree_of}
+use Rattle.dual_bound.specs.declared.solved.Solved.{Solved}
+use Rattle.dual_bound.specs.declared.solved.Solved.TheVariants as solved
 use Rattle.fleet_model.specs.Schedule.{fleet_of, fleets_in}
 use Rattle.fleet_model.specs.declared.tables.Tables.{Tables}
 use Rattle.fleet_rotations.specs.Rotations.{rotation_of}

@@ -1,6 +1,6 @@
 //! The summary of a solution and its rotations as JSON.
 ghost use Rattle.std.specs.Prelude.{◌≡◌, ◌<◌, IfOk, IsOkAnd, OnOk, length, map};
-ghost use Rattle.solutions.specs.Solved.{PlanFits, plan_cost};
+ghost use Rattle.dual_bound.specs.Solved.{PlanFits, plan_cost};
 ghost use Rattle.fleet_model.specs.Legal.{IsAssignment};
 ghost use Rattle.fleet_model.specs.Schedule.{fleet_of, fleets_in};
 ghost use Rattle.plan_report.specs.Json.{count_data, fleet_data, fleets_data, json_text, number_data, open_data, rotation_data, rotations_data, summary_data};
@@ -11,14 +11,13 @@ ghost use Rattle.serde_json.specs.View.{items_of, members_view, view};
 ghost use Rattle.sums.specs.Places.{list_below};
 
 use crate::summary_lines::outcome;
-use dual_bound::TreeCounts;
+use dual_bound::{Solved, TreeCounts};
 use entries::NoMemory;
 use fleet_model::{Assignment, Tables};
 use fleet_rotations::FleetRotation;
 use plan_judge::used;
 use rotation_report::rotation_words;
 use serde_json::{Map, Value, put};
-use solutions::Solved;
 use std::alloc::Global;
 
 /// The summary of a solution and its rotations as JSON: one object in one line. Cost and bound are texts, since they may be

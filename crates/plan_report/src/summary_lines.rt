@@ -1,19 +1,18 @@
 //! The summary of a solution and its rotations, in lines.
 ghost use Rattle.std.specs.Prelude.{◌≡◌, ◌++◌, ◌<◌, [], ◌∷◌, IfOk, OnOk, codes, length};
 ghost use Rattle.std.specs.Fmt.{decimal};
-ghost use Rattle.solutions.specs.Solved.{PlanFits, plan_cost};
+ghost use Rattle.dual_bound.specs.Solved.{PlanFits, plan_cost};
 ghost use Rattle.fleet_model.specs.Legal.{IsAssignment};
 ghost use Rattle.fleet_rotations.specs.Rotations.{AreRotations};
 ghost use Rattle.plan_report.specs.Summary.{count_lines, outcome_word, plan_lines, printed_bound, result_lines, rotation_line, rotation_lines, summary_text};
 ghost use Rattle.rotation_report.specs.TextLines.{line_of, number_word};
 
-use dual_bound::TreeCounts;
+use dual_bound::{Solved, TreeCounts};
 use entries::NoMemory;
 use fleet_model::{Assignment, Tables};
 use fleet_rotations::FleetRotation;
 use rotation_report::rotation_words;
 use rotation_report::text_lines::{push_fleets, push_line};
-use solutions::Solved;
 use std::alloc::Global;
 
 /// The summary of a solution and its rotations: how the search ended, cost, bound, splits and open leaves, and where there

@@ -3,7 +3,7 @@ use Rattle.std.proofs.lemmas.Result.{on_ok_weaker}
 use Rattle.serde_json.specs.Data.{array, object, put, string}
 use Rattle.serde_json.specs.View.{items_of, members_view}
 use Rattle.dual_bound.specs.Leaves.{counts_of}
-use Rattle.solutions.specs.Solved.{plan_cost, tree_of}
+use Rattle.dual_bound.specs.Solved.{plan_cost, tree_of}
 use Rattle.plan_report.specs.Json.{count_data, fleets_data, number_data, open_data, rotations_data}
 use Rattle.plan_report.specs.Summary.{outcome_word, printed_bound}
 use Rattle.plan_report.proofs.Members.{put_known, seven_members}

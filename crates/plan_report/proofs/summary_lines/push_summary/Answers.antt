@@ -1,7 +1,7 @@
 use Rattle.std.proofs.Common.{◌≡◌, List, ℕ, ◌++◌, Result, Ok, Err, OnOk, ap, ◌∙◌, append_assoc, rules}
 use Rattle.dual_bound.specs.Leaves.{counts_of}
 use Rattle.entries.specs.declared.memory.NoMemory.{NoMemory}
-use Rattle.solutions.specs.Solved.{tree_of}
+use Rattle.dual_bound.specs.Solved.{tree_of}
 use Rattle.plan_report.specs.Summary.{count_lines, plan_lines, result_lines, summary_text}
 use Rattle.plan_report.proofs.summary_lines.push_summary.Goals as goal
 

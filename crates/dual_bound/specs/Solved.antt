@@ -4,8 +4,8 @@ use Rattle.std.specs.Prelude.{Option, Some, None, ℤ, ⊤}
 use Rattle.fleet_model.specs.Legal.{IsAssignment}
 use Rattle.fleet_model.specs.declared.tables.Tables.{Tables}
 use Rattle.dual_bound.specs.declared.trees.Tree.{Tree}
-use Rattle.solutions.specs.declared.solved.Solved.{Solved}
-use Rattle.solutions.specs.declared.solved.Solved.TheVariants as solved
+use Rattle.dual_bound.specs.declared.solved.Solved.{Solved}
+use Rattle.dual_bound.specs.declared.solved.Solved.TheVariants as solved
 
 -- the tree of a solution
 abbrev pub tree_of : Solved → Tree

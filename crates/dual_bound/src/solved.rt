@@ -1,8 +1,8 @@
 //! A plan with a bound, that there is none, or a bound alone.
 ghost use Rattle.std.specs.Prelude.{◌≡◌};
-ghost use Rattle.solutions.specs.Solved.{tree_of};
+ghost use Rattle.dual_bound.specs.Solved.{tree_of};
 
-use dual_bound::Tree;
+use crate::trees::Tree;
 use fleet_model::Assignment;
 
 /// What the solver answers on tables, with the tree of subproblems that proves it.
