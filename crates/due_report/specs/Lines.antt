@@ -6,8 +6,8 @@ use Rattle.euler_rotation.specs.declared.rotation.Rotation.{Rotation}
 use Rattle.euler_rotation.specs.declared.rotation.Rotation.TheVariants as rotation
 use Rattle.fleet_model.specs.Schedule.{days_in, fleet_of}
 use Rattle.fleet_model.specs.declared.tables.Tables.{Tables}
-use Rattle.fleet_rotations.specs.Rotations.{last_made, rotation_of}
-use Rattle.fleet_rotations.specs.declared.made.FleetRotation.{FleetRotation}
+use Rattle.euler_rotation.specs.FleetRotations.{last_made, rotation_of}
+use Rattle.euler_rotation.specs.declared.fleet_rotation.FleetRotation.{FleetRotation}
 use Rattle.rotation_report.specs.Tails.{flights_text, line_from, lines_by, no_tour_line}
 use Rattle.rotation_report.specs.TextLines.{line_of}
 use Rattle.rotation_report.specs.declared.flying.FleetLines.{FleetLines}

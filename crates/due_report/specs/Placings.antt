@@ -4,8 +4,8 @@ use Rattle.std.specs.List.{list_any}
 use Rattle.euler_rotation.specs.declared.rotation.Rotation.{Rotation}
 use Rattle.euler_rotation.specs.declared.rotation.Rotation.TheVariants as rotation
 use Rattle.fleet_model.specs.declared.tables.Tables.{Tables}
-use Rattle.fleet_rotations.specs.Rotations.{last_made, rotation_of}
-use Rattle.fleet_rotations.specs.declared.made.FleetRotation.{FleetRotation}
+use Rattle.euler_rotation.specs.FleetRotations.{last_made, rotation_of}
+use Rattle.euler_rotation.specs.declared.fleet_rotation.FleetRotation.{FleetRotation}
 use Rattle.tail_dates.specs.InTime.{GivesStarts, ShowsNone}
 use Rattle.tail_dates.specs.Placing.{IsPlaced}
 use Rattle.tail_dates.specs.declared.placing.Placed.{Placed}

@@ -5,7 +5,7 @@ ghost use Rattle.due_report.specs.Lines.{AreBegun, begun_lines, days_tails, due_
 ghost use Rattle.due_report.specs.Placings.{ArePlacings, IsPlacing};
 ghost use Rattle.fleet_model.specs.Legal.{IsAssignment};
 ghost use Rattle.fleet_model.specs.Schedule.{days_in, fleets_in};
-ghost use Rattle.fleet_rotations.specs.Rotations.{AreFlown, AreRotations, IsFleetRotation, IsFlown, last_made};
+ghost use Rattle.euler_rotation.specs.FleetRotations.{AreFlown, AreRotations, IsFleetRotation, IsFlown, last_made};
 ghost use Rattle.ground_turns.specs.Maps.{IsTour};
 ghost use Rattle.lines_of_flying.specs.Lines.{BeginsAfterStart};
 ghost use Rattle.rotation_report.specs.Tails.{AreLinesOf, lines_by};
@@ -13,9 +13,8 @@ ghost use Rattle.tail_dates.specs.Placing.{IsPlaced};
 
 use calendar_dates::dates_from;
 use entries::{Entries, NoMemory};
-use euler_rotation::Rotation;
+use euler_rotation::{FleetRotation, Rotation};
 use fleet_model::{Assignment, Tables};
-use fleet_rotations::FleetRotation;
 use jiff::civil::Date;
 use rotation_report::FleetLines;
 use rotation_report::tails::{flights_text, line_from, lines_by, push_no_tour};

@@ -3,12 +3,11 @@ ghost use Rattle.std.specs.Prelude.{◌≡◌, ◌<◌, IfOk};
 ghost use Rattle.due_report.specs.Placings.{ArePlacings, IsPlacing, are_unplaced, is_unplaced};
 ghost use Rattle.fleet_model.specs.Legal.{IsAssignment};
 ghost use Rattle.fleet_model.specs.Schedule.{fleets_in};
-ghost use Rattle.fleet_rotations.specs.Rotations.{AreFlown, AreKept, AreRotations, IsFlown, IsKept};
+ghost use Rattle.euler_rotation.specs.FleetRotations.{AreFlown, AreKept, AreRotations, IsFlown, IsKept};
 
 use entries::NoMemory;
-use euler_rotation::Rotation;
+use euler_rotation::{FleetRotation, Rotation};
 use fleet_model::{Assignment, Tables};
-use fleet_rotations::FleetRotation;
 use std::alloc::Global;
 use tail_dates::{Placed, TailState, place};
 

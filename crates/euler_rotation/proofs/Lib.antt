@@ -18,3 +18,4 @@ pub mod FoundTours
 pub mod EntriesKept
 pub mod EntriesRise
 pub mod Filtered
+pub mod OtherTables

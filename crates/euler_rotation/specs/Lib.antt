@@ -8,3 +8,4 @@ pub mod Walks
 pub mod Searches
 pub mod Starts
 pub mod Laws
+pub mod FleetRotations

@@ -15,7 +15,7 @@ use Rattle.plan_desk.specs.Desk.{Files, with_file}
 use Rattle.plan_desk.specs.DeskFile.{path_of}
 use Rattle.plan_desk.specs.Sink.{output_with}
 use Rattle.rotation_report.specs.RotationRecords.{rotation_text}
-use Rattle.fleet_rotations.specs.declared.made.FleetRotation.{FleetRotation}
+use Rattle.euler_rotation.specs.declared.fleet_rotation.FleetRotation.{FleetRotation}
 use Rattle.plan_text.specs.Text.{plan_text}
 use Rattle.plan_desk.specs.declared.file.DeskFile.TheVariants as desk_file
 use Rattle.fleet_cli.proofs.OneAnswer.{not_refused}

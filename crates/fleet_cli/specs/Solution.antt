@@ -12,7 +12,7 @@ use Rattle.plan_desk.specs.declared.file.DeskFile.TheVariants as desk_file
 use Rattle.plan_report.specs.Json.{json_text}
 use Rattle.rotation_report.specs.RotationRecords.{rotation_text}
 use Rattle.plan_report.specs.Summary.{summary_text}
-use Rattle.fleet_rotations.specs.declared.made.FleetRotation.{FleetRotation}
+use Rattle.euler_rotation.specs.declared.fleet_rotation.FleetRotation.{FleetRotation}
 use Rattle.plan_rotations.specs.Rotations.{ArePlanRotations}
 use Rattle.plan_text.specs.Text.{plan_text}
 use Rattle.retime_windows.specs.Settled.{IsSettled}

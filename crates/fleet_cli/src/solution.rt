@@ -4,15 +4,15 @@ ghost use Rattle.dual_bound.specs.OfTables.{IsOfTables};
 ghost use Rattle.dual_bound.specs.Solved.{PlanFits, tree_of};
 ghost use Rattle.fleet_cli.specs.Solution.{plan_file, printed_text, proof_file, rotation_file, solved_files, solved_status};
 ghost use Rattle.fleet_model.specs.Legal.{IsAssignment};
-ghost use Rattle.fleet_rotations.specs.Rotations.{AreRotations};
+ghost use Rattle.euler_rotation.specs.FleetRotations.{AreRotations};
 
 use crate::answer::FileText;
 use crate::status::{DONE, GAP, INFEASIBLE, UNSETTLED};
 use bound_cert::write_proof;
 use dual_bound::{Solved, Tree};
 use entries::{Entries, NoMemory};
+use euler_rotation::FleetRotation;
 use fleet_model::{Assignment, Tables};
-use fleet_rotations::FleetRotation;
 use plan_desk::DeskFile;
 use plan_report::{summary, summary_json};
 use plan_text::write_plan;

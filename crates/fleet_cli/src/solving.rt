@@ -12,7 +12,7 @@ ghost use Rattle.fleet_model.specs.Legal.{IsLegal};
 ghost use Rattle.fleet_model.specs.Limits.{AreSettings};
 ghost use Rattle.fleet_model.specs.Plain.{IsPlain};
 ghost use Rattle.fleet_model.specs.Schedule.{fleets_in, legs_in};
-ghost use Rattle.fleet_rotations.specs.Rotations.{AreRotations};
+ghost use Rattle.euler_rotation.specs.FleetRotations.{AreRotations};
 ghost use Rattle.retime_windows.specs.Settled.{CanSettle};
 
 use crate::answer::Answer;
@@ -25,8 +25,8 @@ use branch_bound::solve;
 use command_words::SolveOptions;
 use dual_bound::Solved;
 use entries::{Entries, NoMemory};
+use euler_rotation::FleetRotation;
 use fleet_model::{Assignment, TableOptions, Tables};
-use fleet_rotations::FleetRotation;
 use plan_rotations::rotations;
 use std::alloc::Global;
 

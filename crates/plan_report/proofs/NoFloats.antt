@@ -11,7 +11,7 @@ use Rattle.fleet_model.specs.Schedule.{fleets_in}
 use Rattle.fleet_model.specs.declared.tables.Tables.{Tables}
 use Rattle.plan_report.specs.Json.{fleet_data, fleets_data, number_data, rotation_data, rotations_data, summary_data}
 use Rattle.plan_report.specs.Summary.{printed_bound}
-use Rattle.fleet_rotations.specs.declared.made.FleetRotation.{FleetRotation}
+use Rattle.euler_rotation.specs.declared.fleet_rotation.FleetRotation.{FleetRotation}
 
 list_has_none : (f : ℕ → Data) → ((k : ℕ) → has_float (f k) ≡ false) → (ks : List ℕ) → items_have_float (items_of (map f ks)) ≡ false
 list_has_none f none [] = refl

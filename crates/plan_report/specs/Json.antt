@@ -14,10 +14,10 @@ use Rattle.fleet_model.specs.Counts.{weights_of}
 use Rattle.fleet_model.specs.Schedule.{fleet_of, fleets_in}
 use Rattle.fleet_model.specs.Use.{used_of}
 use Rattle.fleet_model.specs.declared.tables.Tables.{Tables}
-use Rattle.fleet_rotations.specs.Rotations.{rotation_of}
+use Rattle.euler_rotation.specs.FleetRotations.{rotation_of}
 use Rattle.rotation_report.specs.RotationWords.{rotation_words}
 use Rattle.plan_report.specs.Summary.{outcome_word, printed_bound}
-use Rattle.fleet_rotations.specs.declared.made.FleetRotation.{FleetRotation}
+use Rattle.euler_rotation.specs.declared.fleet_rotation.FleetRotation.{FleetRotation}
 
 -- a number as text, which may be larger than readers of JSON take
 abbrev pub number_data : Option ℤ → Data

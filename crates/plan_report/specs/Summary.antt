@@ -8,10 +8,10 @@ use Rattle.dual_bound.specs.declared.solved.Solved.{Solved}
 use Rattle.dual_bound.specs.declared.solved.Solved.TheVariants as solved
 use Rattle.fleet_model.specs.Schedule.{fleet_of, fleets_in}
 use Rattle.fleet_model.specs.declared.tables.Tables.{Tables}
-use Rattle.fleet_rotations.specs.Rotations.{rotation_of}
+use Rattle.euler_rotation.specs.FleetRotations.{rotation_of}
 use Rattle.rotation_report.specs.RotationWords.{rotation_words}
 use Rattle.rotation_report.specs.TextLines.{fleet_lines, line_of, number_word}
-use Rattle.fleet_rotations.specs.declared.made.FleetRotation.{FleetRotation}
+use Rattle.euler_rotation.specs.declared.fleet_rotation.FleetRotation.{FleetRotation}
 
 -- how the search ended
 abbrev pub outcome_word : Solved → List ℕ

@@ -4,7 +4,7 @@
 pub mod json;
 pub mod summary_lines;
 
-pub use fleet_rotations::FleetRotation;
+pub use euler_rotation::FleetRotation;
 pub use json::summary_json;
 pub use rotation_report::{rotation_csv, tail_lines};
 pub use summary_lines::summary;

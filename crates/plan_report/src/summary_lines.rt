@@ -3,14 +3,14 @@ ghost use Rattle.std.specs.Prelude.{◌≡◌, ◌++◌, ◌<◌, [], ◌∷◌,
 ghost use Rattle.std.specs.Fmt.{decimal};
 ghost use Rattle.dual_bound.specs.Solved.{PlanFits, plan_cost};
 ghost use Rattle.fleet_model.specs.Legal.{IsAssignment};
-ghost use Rattle.fleet_rotations.specs.Rotations.{AreRotations};
+ghost use Rattle.euler_rotation.specs.FleetRotations.{AreRotations};
 ghost use Rattle.plan_report.specs.Summary.{count_lines, outcome_word, plan_lines, printed_bound, result_lines, rotation_line, rotation_lines, summary_text};
 ghost use Rattle.rotation_report.specs.TextLines.{line_of, number_word};
 
 use dual_bound::{Solved, TreeCounts};
 use entries::NoMemory;
+use euler_rotation::FleetRotation;
 use fleet_model::{Assignment, Tables};
-use fleet_rotations::FleetRotation;
 use rotation_report::rotation_words;
 use rotation_report::text_lines::{push_fleets, push_line};
 use std::alloc::Global;

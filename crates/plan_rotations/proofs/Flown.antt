@@ -5,8 +5,8 @@ use Rattle.fleet_model.specs.declared.tables.Tables.{Tables}
 use Rattle.euler_rotation.specs.Answers.{IsRotation}
 use Rattle.euler_rotation.specs.declared.rotation.Rotation.{Rotation}
 use Rattle.euler_rotation.specs.declared.rotation.Rotation.TheVariants as rotation
-use Rattle.fleet_rotations.specs.Rotations.{AreFlown, AreKept, AreRotations, IsFleetRotation, IsFlown, IsKept, IsOfLegs, rotation_of}
-use Rattle.fleet_rotations.specs.declared.made.FleetRotation.{FleetRotation}
+use Rattle.euler_rotation.specs.FleetRotations.{AreFlown, AreKept, AreRotations, IsFleetRotation, IsFlown, IsKept, IsOfLegs, rotation_of}
+use Rattle.euler_rotation.specs.declared.fleet_rotation.FleetRotation.{FleetRotation}
 use Rattle.plan_rotations.specs.Rotations.{ArePlanRotations, IsMadeRotation, IsRotationWith, are_some, is_given_up}
 use Rattle.plan_rotations.proofs.Listed.{apart_listed, order_listed, prefix_listed, tour_listed}
 

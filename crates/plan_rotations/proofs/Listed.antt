@@ -15,7 +15,7 @@ use Rattle.cycle_join.specs.Joins.{IsApart}
 use Rattle.euler_rotation.specs.Prefixes.{may_follow, numbered, preorder, preorder_from}
 use Rattle.euler_rotation.specs.Tours.{IsOrder, times_in}
 use Rattle.euler_rotation.proofs.TourTurns.{own_leg, tour_order}
-use Rattle.fleet_rotations.specs.Rotations.{AreListed}
+use Rattle.euler_rotation.specs.FleetRotations.{AreListed}
 
 pub apart_listed : (t : Tables) (a : List ℕ) (f : ℕ) (pairs : List Connection) (legs : List ℕ) → IsApart t a f pairs legs → AreListed t legs
 apart_listed t a f pairs legs is = record {

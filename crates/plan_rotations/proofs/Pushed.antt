@@ -3,8 +3,8 @@ use Rattle.std.proofs.Common.{◌≡◌, ℕ, ◌+◌, ◌<◌, inl, inr, List, 
 use Rattle.std.proofs.lemmas.Bool.{cases_lt}
 use Rattle.std.proofs.lemmas.List.{get_or_append_left, get_or_push}
 use Rattle.fleet_model.specs.declared.tables.Tables.{Tables}
-use Rattle.fleet_rotations.specs.Rotations.{no_rotation, rotation_of}
-use Rattle.fleet_rotations.specs.declared.made.FleetRotation.{FleetRotation}
+use Rattle.euler_rotation.specs.FleetRotations.{no_rotation, rotation_of}
+use Rattle.euler_rotation.specs.declared.fleet_rotation.FleetRotation.{FleetRotation}
 use Rattle.plan_rotations.specs.Rotations.{AreMadeBelow, IsMadeRotation}
 
 pub made_pushed : (t : Tables) (a : List ℕ) (days visits : ℕ) (all grown : List FleetRotation) (f : ℕ) (made : FleetRotation) → grown ≡ all ++ made ∷ []

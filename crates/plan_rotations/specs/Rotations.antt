@@ -8,8 +8,8 @@ use Rattle.through_flights.specs.Choice.{AreListed}
 use Rattle.euler_rotation.specs.Answers.{IsComplete, IsRotation}
 use Rattle.euler_rotation.specs.declared.rotation.Rotation.{Rotation}
 use Rattle.euler_rotation.specs.declared.rotation.Rotation.TheVariants as rotation
-use Rattle.fleet_rotations.specs.Rotations.{rotation_of}
-use Rattle.fleet_rotations.specs.declared.made.FleetRotation.{FleetRotation}
+use Rattle.euler_rotation.specs.FleetRotations.{rotation_of}
+use Rattle.euler_rotation.specs.declared.fleet_rotation.FleetRotation.{FleetRotation}
 
 -- through pairs that are worth most of all through sets, each worth something, by the leg that arrives
 pub record AreWorthMost (t : Tables) (a : List ℕ) (f : ℕ) (pairs : List Connection) : Type 0 where

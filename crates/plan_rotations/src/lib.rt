@@ -4,5 +4,5 @@
 
 pub mod making;
 
-pub use fleet_rotations::FleetRotation;
+pub use euler_rotation::FleetRotation;
 pub use making::rotations;

@@ -3,13 +3,12 @@ ghost use Rattle.fleet_model.specs.Legal.{IsLegal};
 ghost use Rattle.fleet_model.specs.Schedule.{fleets_in};
 ghost use Rattle.fleet_model.specs.Plain.{IsPlain};
 ghost use Rattle.ground_turns.specs.Maps.{IsHeld};
-ghost use Rattle.fleet_rotations.specs.Rotations.{AreFlown, AreKept, AreRotations, rotation_of};
+ghost use Rattle.euler_rotation.specs.FleetRotations.{AreFlown, AreKept, AreRotations, rotation_of};
 ghost use Rattle.plan_rotations.specs.Rotations.{ArePlanRotations, AreWorthMost, IsMadeIf, IsMadeRotation, IsRotationWith, are_some, is_given_up};
 
 use entries::{Entries, NoMemory};
-use euler_rotation::{Rotation, rotate};
+use euler_rotation::{FleetRotation, Rotation, rotate};
 use fleet_model::{Assignment, Connection, Tables};
-use fleet_rotations::FleetRotation;
 use std::alloc::Global;
 use through_flights::choose;
 

@@ -24,8 +24,8 @@ use Rattle.lines_of_flying.specs.Lines.{AreLegs}
 use Rattle.plan_text.proofs.NameText.{name_is_plain}
 use Rattle.plan_text.specs.CsvText.{csv_text}
 use Rattle.rotation_report.specs.RotationRecords.{Fields, Row, fleet_records, fleets_records, flight_of, leg_row, line_of_record, listed_row, night_row, pair_row, rotation_header, rotation_records, rotation_rows, rotation_text, round_records, second_round, tour_rows, yes_no}
-use Rattle.fleet_rotations.specs.Rotations.{AreConnections, AreRotations, IsFleetRotation, IsOfLegs, rotation_of}
-use Rattle.fleet_rotations.specs.declared.made.FleetRotation.{FleetRotation}
+use Rattle.euler_rotation.specs.FleetRotations.{AreConnections, AreRotations, IsFleetRotation, IsOfLegs, rotation_of}
+use Rattle.euler_rotation.specs.declared.fleet_rotation.FleetRotation.{FleetRotation}
 use Rattle.plan_text.proofs.CsvWriting.{csv_text-append}
 
 abbrev needs : List ℕ → Bool

@@ -13,8 +13,8 @@ use Rattle.ground_turns.specs.declared.nights.Night.TheVariants as night
 use Rattle.plan_text.proofs.CsvWriting.{text_more, written_more}
 use Rattle.plan_text.specs.CsvText.{HasWritten, TextWriter, csv_text, text_in}
 use Rattle.rotation_report.specs.RotationRecords.{Row, begun_tour_rows, fleet_records, fleets_records, leg_row, night_row, rotation_header, round_records, row_record, yes_no}
-use Rattle.fleet_rotations.specs.Rotations.{rotation_of}
-use Rattle.fleet_rotations.specs.declared.made.FleetRotation.{FleetRotation}
+use Rattle.euler_rotation.specs.FleetRotations.{rotation_of}
+use Rattle.euler_rotation.specs.declared.fleet_rotation.FleetRotation.{FleetRotation}
 
 -- nought in decimal
 pub zero_digit : decimal 0 ≡ codes "0"

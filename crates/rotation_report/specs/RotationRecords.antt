@@ -14,8 +14,8 @@ use Rattle.ground_turns.specs.Nights.{nights_in_turn}
 use Rattle.ground_turns.specs.declared.nights.Night.{Night}
 use Rattle.ground_turns.specs.declared.nights.Night.TheVariants as night
 use Rattle.lines_of_flying.specs.Lines.{days_of_tour, nights_after}
-use Rattle.fleet_rotations.specs.Rotations.{rotation_of}
-use Rattle.fleet_rotations.specs.declared.made.FleetRotation.{FleetRotation}
+use Rattle.euler_rotation.specs.FleetRotations.{rotation_of}
+use Rattle.euler_rotation.specs.declared.fleet_rotation.FleetRotation.{FleetRotation}
 
 abbrev pub Fields : Type 0
 Fields = List (List ℕ)

@@ -7,7 +7,7 @@ use Rattle.fleet_model.specs.Counts.{weights_of}
 use Rattle.fleet_model.specs.Schedule.{days_in}
 use Rattle.fleet_model.specs.Use.{used_of}
 use Rattle.fleet_model.specs.declared.tables.Tables.{Tables}
-use Rattle.fleet_rotations.specs.declared.made.FleetRotation.{FleetRotation}
+use Rattle.euler_rotation.specs.declared.fleet_rotation.FleetRotation.{FleetRotation}
 
 -- the days in which an aircraft comes round a tour: those of the period, for each aircraft that the fleet uses
 abbrev pub days_used : Tables → List ℕ → ℕ → ℕ

@@ -10,10 +10,10 @@ use Rattle.fleet_model.specs.Use.{used_of}
 use Rattle.fleet_model.specs.declared.tables.Tables.{Tables}
 use Rattle.lines_of_flying.specs.Lines.{AreLegs, lines_of}
 use Rattle.calendar_dates.specs.Days.{Day, day_text, days_from, no_day}
-use Rattle.fleet_rotations.specs.Rotations.{last_made, rotation_of}
+use Rattle.euler_rotation.specs.FleetRotations.{last_made, rotation_of}
 use Rattle.rotation_report.specs.RotationWords.{rotation_words}
 use Rattle.rotation_report.specs.TextLines.{line_of}
-use Rattle.fleet_rotations.specs.declared.made.FleetRotation.{FleetRotation}
+use Rattle.euler_rotation.specs.declared.fleet_rotation.FleetRotation.{FleetRotation}
 use Rattle.rotation_report.specs.declared.flying.FleetLines.{FleetLines}
 
 -- the lines of a fleet's tour, and the aircraft that fly them

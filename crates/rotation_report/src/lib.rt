@@ -11,7 +11,7 @@ pub mod text_lines;
 mod tour_records;
 pub mod words;
 
-pub use fleet_rotations::FleetRotation;
+pub use euler_rotation::FleetRotation;
 pub use flying::FleetLines;
 pub use records::rotation_csv;
 pub use tails::tail_lines;

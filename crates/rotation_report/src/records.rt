@@ -4,15 +4,14 @@ ghost use Rattle.fleet_model.specs.Schedule.{fleets_in};
 ghost use Rattle.plan_text.specs.CsvText.{HasWritten, IsBetweenRecords, csv_text, text_in};
 ghost use Rattle.rotation_report.specs.RoundRows.{HasRows};
 ghost use Rattle.rotation_report.specs.RotationRecords.{apart_rows, fleet_records, listed_row, pair_row, rotation_header, rotation_records, rotation_rows, rotation_text, second_round, spent_rows};
-ghost use Rattle.fleet_rotations.specs.Rotations.{AreConnections, AreListed, AreRotations, IsFleetRotation, IsOfLegs};
+ghost use Rattle.euler_rotation.specs.FleetRotations.{AreConnections, AreListed, AreRotations, IsFleetRotation, IsOfLegs};
 
 use crate::record_writer::{Round, put_numbers, put_row};
 use crate::tour_records::put_tour;
 use csv::{Writer, WriterBuilder};
 use entries::NoMemory;
-use euler_rotation::Rotation;
+use euler_rotation::{FleetRotation, Rotation};
 use fleet_model::{Connection, Tables};
-use fleet_rotations::FleetRotation;
 use plan_text::record_writer::{put_record, want_of_memory};
 use std::alloc::Global;
 

@@ -8,7 +8,7 @@ ghost use Rattle.lines_of_flying.specs.Lines.{days_of_tour};
 ghost use Rattle.plan_text.specs.CsvText.{IsBetweenRecords};
 ghost use Rattle.rotation_report.specs.RoundRows.{HasRows};
 ghost use Rattle.rotation_report.specs.RotationRecords.{begun_tour_rows, leg_row, night_row, yes_no};
-ghost use Rattle.fleet_rotations.specs.Rotations.{AreListed};
+ghost use Rattle.euler_rotation.specs.FleetRotations.{AreListed};
 
 use crate::record_writer::{Round, put_numbers, put_row};
 use csv::Writer;

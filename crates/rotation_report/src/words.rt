@@ -4,12 +4,11 @@ ghost use Rattle.std.specs.Fmt.{decimal};
 ghost use Rattle.fleet_model.specs.Legal.{IsAssignment};
 ghost use Rattle.fleet_model.specs.Schedule.{fleets_in};
 ghost use Rattle.rotation_report.specs.RotationWords.{days_used, rotation_words, words_of};
-ghost use Rattle.fleet_rotations.specs.Rotations.{IsFleetRotation, IsOfLegs};
+ghost use Rattle.euler_rotation.specs.FleetRotations.{IsFleetRotation, IsOfLegs};
 
 use entries::NoMemory;
-use euler_rotation::Rotation;
+use euler_rotation::{FleetRotation, Rotation};
 use fleet_model::{Assignment, Tables};
-use fleet_rotations::FleetRotation;
 use plan_judge::used;
 use std::alloc::Global;
 

@@ -1,7 +1,7 @@
 use Rattle.std.proofs.Common.{◌≡◌, ◌++◌, ◌<◌, length, map, None, sym, subst, ap, ◌∙◌, add-one, arith}
 use Rattle.std.proofs.lemmas.List.{get_or_default}
 use Rattle.calendar_dates.specs.Days.{day_on}
-use Rattle.fleet_rotations.specs.Rotations.{IsFleetRotation, IsFlown, last_made, no_rotation, rotation_of}
+use Rattle.euler_rotation.specs.FleetRotations.{IsFleetRotation, IsFlown, last_made, no_rotation, rotation_of}
 use Rattle.due_report.specs.Lines.{fleet_due, fleets_due}
 use Rattle.due_report.specs.Placings.{IsPlacing, placing_of}
 use Rattle.due_report.proofs.lines.due_on.Goals as goal

@@ -1,6 +1,6 @@
 use Rattle.std.proofs.Common.{◌≡◌, ◌<◌, length, subst, sym, ap, ◌∙◌, arith}
 use Rattle.std.proofs.lemmas.List.{get_or_default}
-use Rattle.fleet_rotations.specs.Rotations.{IsFlown, IsKept, last_made, no_rotation, rotation_of}
+use Rattle.euler_rotation.specs.FleetRotations.{IsFlown, IsKept, last_made, no_rotation, rotation_of}
 use Rattle.due_report.specs.Placings.{IsPlacing}
 use Rattle.due_report.proofs.Pushed.{placing_pushed}
 use Rattle.due_report.proofs.placing.placings.Goals as goal

@@ -1,7 +1,7 @@
 use Rattle.std.proofs.Common.{sym, subst}
 use Rattle.std.proofs.lemmas.Result.{IfOk-weaker}
-use Rattle.fleet_rotations.specs.Rotations.{AreRotations}
-use Rattle.fleet_rotations.proofs.OtherTables.{rotations_alike}
+use Rattle.euler_rotation.specs.FleetRotations.{AreRotations}
+use Rattle.euler_rotation.proofs.OtherTables.{rotations_alike}
 use Rattle.fleet_cli.proofs.solving.show_rotated.Goals as goal
 
 pub answer_of-requires-clause-rotations : goal.answer_of-requires-clause-rotations

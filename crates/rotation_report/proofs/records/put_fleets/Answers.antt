@@ -2,7 +2,7 @@ use Rattle.std.proofs.Common.{◌≡◌, ◌<◌, ◌∙◌, subst, length, arit
 use Rattle.std.proofs.lemmas.List.{get_or_default}
 use Rattle.plan_text.specs.CsvText.{HasWritten}
 use Rattle.rotation_report.specs.RotationRecords.{fleet_records}
-use Rattle.fleet_rotations.specs.Rotations.{no_rotation, rotation_of}
+use Rattle.euler_rotation.specs.FleetRotations.{no_rotation, rotation_of}
 use Rattle.rotation_report.proofs.RowWriting.{fleet_more}
 use Rattle.rotation_report.proofs.records.put_fleets.Goals as goal
 

@@ -1,7 +1,7 @@
 use Rattle.std.proofs.Common.{◌≡◌, ◌++◌, ◌<◌, length, map, sym, subst, ap, ◌∙◌, add-one, arith}
 use Rattle.std.proofs.lemmas.List.{get_or_default}
 use Rattle.calendar_dates.specs.Days.{day_on}
-use Rattle.fleet_rotations.specs.Rotations.{IsFleetRotation, IsFlown, last_made, no_rotation, rotation_of}
+use Rattle.euler_rotation.specs.FleetRotations.{IsFleetRotation, IsFlown, last_made, no_rotation, rotation_of}
 use Rattle.rotation_report.specs.Tails.{fleet_tails, fleets_tails}
 use Rattle.rotation_report.proofs.tails.tails_on.Goals as goal
 

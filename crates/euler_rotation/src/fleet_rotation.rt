@@ -1,8 +1,8 @@
 ghost use Rattle.std.specs.Prelude.{◌≡◌};
-ghost use Rattle.fleet_rotations.specs.Rotations.{last_made};
+ghost use Rattle.euler_rotation.specs.FleetRotations.{last_made};
 
+use crate::rotation::Rotation;
 use entries::Entries;
-use euler_rotation::Rotation;
 use fleet_model::Connection;
 
 /// What was made of a fleet's rotation. A list of these has one for each fleet, in table order, and is empty where there

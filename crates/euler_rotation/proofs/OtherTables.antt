@@ -4,8 +4,8 @@ use Rattle.euler_rotation.specs.declared.rotation.Rotation.{Rotation}
 use Rattle.euler_rotation.specs.declared.rotation.Rotation.TheVariants as rotation
 use Rattle.fleet_model.specs.Schedule.{fleets_in, legs_in}
 use Rattle.fleet_model.specs.declared.tables.Tables.{Tables}
-use Rattle.fleet_rotations.specs.Rotations.{AreConnections, AreListed, AreRotations, IsOfLegs, rotation_of}
-use Rattle.fleet_rotations.specs.declared.made.FleetRotation.{FleetRotation}
+use Rattle.euler_rotation.specs.FleetRotations.{AreConnections, AreListed, AreRotations, IsOfLegs, rotation_of}
+use Rattle.euler_rotation.specs.declared.fleet_rotation.FleetRotation.{FleetRotation}
 use Rattle.fleet_model.specs.declared.parts.Connection.{Connection}
 
 module _ (t u : Tables) (legs : legs_in u ≡ legs_in t) where

@@ -8,7 +8,7 @@ use Rattle.fleet_model.specs.Schedule.{fleets_in, legs_in}
 use Rattle.ground_turns.specs.Maps.{IsTour, turn_at}
 use Rattle.ground_turns.specs.Nights.{IsKeptFor, nights_of_tour}
 use Rattle.lines_of_flying.specs.Lines.{AreLegs, BeginsAfterStart}
-use Rattle.fleet_rotations.specs.declared.made.FleetRotation.{FleetRotation}
+use Rattle.euler_rotation.specs.declared.fleet_rotation.FleetRotation.{FleetRotation}
 
 -- the rotation of a fleet
 abbrev pub no_rotation : FleetRotation
