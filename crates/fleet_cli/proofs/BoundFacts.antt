@@ -15,7 +15,7 @@ use Rattle.fleet_model.specs.declared.tables.Tables.{Tables}
 use Rattle.plan_desk.specs.Desk.{Files}
 use Rattle.plan_desk.specs.Sink.{output_with}
 use Rattle.plan_desk.specs.declared.file.DeskFile.TheVariants as file
-use Rattle.table_files.specs.Files.{FilesRead}
+use Rattle.sched_read.specs.Files.{FilesRead}
 use Rattle.fleet_cli.proofs.Skeletons.{either_legal, either_plan, either_proof, either_tables}
 use Rattle.fleet_cli.specs.Answer.{Answers, ChecksTree, TellsOn, TellsProof, TellsRead, TellsWith, checked_status}
 use Rattle.fleet_cli.specs.Contents.{bytes_in, table_bytes}

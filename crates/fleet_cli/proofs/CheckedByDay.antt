@@ -14,9 +14,9 @@ use Rattle.fleet_model.specs.declared.tables.Tables.{Tables}
 use Rattle.plan_desk.specs.Desk.{Files}
 use Rattle.plan_desk.specs.declared.file.DeskFile.TheVariants as file
 use Rattle.sched_read.proofs.OtherSettings.{with_settings}
-use Rattle.table_files.proofs.OtherSettings.{fault_by_day, read_by_day, settings_read}
-use Rattle.table_files.proofs.ReadLaws.{no_fault}
-use Rattle.table_files.specs.Files.{AllBytes, FilesRead}
+use Rattle.sched_read.proofs.OtherFileSettings.{fault_by_day, read_by_day, settings_read}
+use Rattle.sched_read.proofs.FileReadLaws.{no_fault}
+use Rattle.sched_read.specs.Files.{AllBytes, FilesRead}
 use Rattle.fleet_cli.proofs.OneAnswer.{all_within}
 use Rattle.fleet_cli.proofs.OneReading.{within_or_long}
 use Rattle.fleet_cli.specs.Answer.{Answers, Checks}

@@ -24,7 +24,7 @@ use Rattle.plan_desk.specs.declared.file.TheConstants.{PROOF_LIMIT}
 use Rattle.euler_rotation.specs.declared.fleet_rotation.FleetRotation.{FleetRotation}
 use Rattle.sched_read.proofs.ReadLaws as tables
 use Rattle.sched_read.specs.Reading.{IsFirstBad, Reads, TableBytes}
-use Rattle.table_files.specs.Files.{FilesRead}
+use Rattle.sched_read.specs.Files.{FilesRead}
 use Rattle.table_maker.proofs.MadeRead.{made_read}
 use Rattle.table_maker.proofs.TextLengths.{made_short}
 use Rattle.table_maker.specs.Laws.{AreShort, all_on_first, bytes_of}

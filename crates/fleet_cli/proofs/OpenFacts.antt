@@ -9,8 +9,8 @@ use Rattle.command_words.specs.Words.{check, whatif}
 use Rattle.fleet_model.specs.declared.options.TableOptions.{TableOptions}
 use Rattle.fleet_model.specs.declared.tables.Tables.{Tables}
 use Rattle.plan_desk.specs.declared.file.DeskFile.TheVariants as file
-use Rattle.table_files.proofs.ReadLaws as tables
-use Rattle.table_files.specs.Files.{AllBytes, FilesRead}
+use Rattle.sched_read.proofs.FileReadLaws as tables
+use Rattle.sched_read.specs.Files.{AllBytes, FilesRead}
 use Rattle.fleet_cli.proofs.Skeletons.{never_read, says_one}
 use Rattle.fleet_cli.specs.Answer.{TellsOn, TellsProof}
 use Rattle.fleet_cli.specs.Refusals.{RefusesProof, RefusesTables, fleet_named, says}

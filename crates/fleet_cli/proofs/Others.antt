@@ -19,7 +19,7 @@ use Rattle.command_words.specs.declared.command.SolveOptions.{SolveOptions}
 use Rattle.command_words.specs.declared.command.TheConstants.{DEFAULT_OPTIONS}
 use Rattle.fleet_model.specs.Legal.{total_cost}
 use Rattle.fleet_model.specs.declared.options.TableOptions.{TableOptions}
-use Rattle.table_files.specs.Files.{AllBytes}
+use Rattle.sched_read.specs.Files.{AllBytes}
 use Rattle.table_maker.specs.Made.{made_tables}
 use Rattle.table_maker.specs.declared.made.MadeTables.{MadeTables}
 use Rattle.fleet_model.specs.declared.tables.Tables.{Tables}

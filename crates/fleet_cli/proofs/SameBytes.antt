@@ -9,8 +9,8 @@ use Rattle.fleet_model.specs.declared.tables.Tables.{Tables}
 use Rattle.plan_desk.specs.declared.file.DeskFile.{DeskFile}
 use Rattle.plan_desk.specs.declared.file.DeskFile.TheVariants as file
 use Rattle.bound_cert.specs.ReadProof.{ReadsAs}
-use Rattle.table_files.proofs.Unasked.{AreAlike, bad_alike, read_alike}
-use Rattle.table_files.specs.Files.{AllBytes, FilesRead}
+use Rattle.sched_read.proofs.Unasked.{AreAlike, bad_alike, read_alike}
+use Rattle.sched_read.specs.Files.{AllBytes, FilesRead}
 use Rattle.fleet_cli.proofs.Members.{among_left, among_right}
 use Rattle.fleet_cli.proofs.Skeletons.{map_fleet, map_proof, map_tables}
 use Rattle.fleet_cli.specs.Answer.{AnswersOf, Asks, AsksOn, Checks, DueOf, DueOn, GivesSolution, Judges, JudgesOn, TailsOf, TailsOn, TellsOn, TellsProof, TellsRead}

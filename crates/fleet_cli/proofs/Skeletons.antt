@@ -19,8 +19,8 @@ use Rattle.plan_judge.proofs.OneVerdict.{one_verdict}
 use Rattle.plan_judge.specs.declared.verdicts.Verdict.TheVariants as verdict
 use Rattle.plan_text.proofs.ReadOrNot.{reads_or_not}
 use Rattle.plan_text.specs.Reading.{PlanReads}
-use Rattle.table_files.proofs.ReadLaws as tables
-use Rattle.table_files.specs.Files.{AllBytes, FilesRead}
+use Rattle.sched_read.proofs.FileReadLaws as tables
+use Rattle.sched_read.specs.Files.{AllBytes, FilesRead}
 use Rattle.fleet_cli.specs.Refusals.{RefusesFleet, RefusesPlan, RefusesProof, RefusesTables, RefusesTails, RefusesVerdict, fleet_named, says, verdict_status}
 use Rattle.fleet_cli.specs.Skeletons.{OnFleet, OnLegal, OnPlan, OnProof, OnTables, OnTails}
 use Rattle.table_rows.proofs.OneReading.{table_bad_same, table_reads_no_fault, table_reads_same}

@@ -22,7 +22,7 @@ use Rattle.plan_text.proofs.Lines.{reads_what_was_written}
 use Rattle.plan_text.specs.Reading.{PlanReads}
 use Rattle.plan_text.specs.Text.{plan_text}
 use Rattle.csv_fields.specs.Record.{records_of}
-use Rattle.table_files.specs.Files.{FilesRead}
+use Rattle.sched_read.specs.Files.{FilesRead}
 use Rattle.bound_cert.specs.ReadProof.{ReadsAs}
 use Rattle.fleet_cli.proofs.CheckedByDay.{proof_by_day}
 use Rattle.fleet_cli.proofs.FrontFacts.{held_in, stands_in}

@@ -29,7 +29,7 @@ use Rattle.plan_judge.specs.Verdicts.{IsVerdict}
 use Rattle.plan_judge.specs.declared.verdicts.Verdict.{Verdict}
 use Rattle.plan_rotations.specs.Rotations.{ArePlanRotations}
 use Rattle.rotation_report.specs.Tails.{tails_text}
-use Rattle.table_files.specs.Files.{AllBytes}
+use Rattle.sched_read.specs.Files.{AllBytes}
 use Rattle.table_maker.specs.Laws.{bytes_of}
 use Rattle.table_maker.specs.Made.{CanBeMade, made_tables}
 use Rattle.tail_dates.specs.declared.placing.Placed.{Placed}

@@ -5,7 +5,7 @@ use Rattle.plan_desk.specs.DeskFile.{path_of}
 use Rattle.plan_desk.specs.declared.file.DeskFile.{DeskFile}
 use Rattle.plan_desk.specs.declared.file.DeskFile.TheVariants as file
 use Rattle.sched_read.specs.Reading.{TableBytes}
-use Rattle.table_files.specs.Files.{AllBytes}
+use Rattle.sched_read.specs.Files.{AllBytes}
 use Rattle.fleet_cli.specs.declared.contents.Contents.{Contents}
 
 -- the bytes of each file

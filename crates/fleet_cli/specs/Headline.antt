@@ -19,7 +19,7 @@ use Rattle.plan_desk.specs.declared.file.DeskFile.TheVariants as desk_file
 use Rattle.rotation_report.specs.RotationRecords.{rotation_text}
 use Rattle.euler_rotation.specs.declared.fleet_rotation.FleetRotation.{FleetRotation}
 use Rattle.plan_text.specs.Text.{plan_text}
-use Rattle.table_files.specs.Files.{FilesRead}
+use Rattle.sched_read.specs.Files.{FilesRead}
 use Rattle.table_maker.specs.Laws.{bytes_of}
 use Rattle.table_maker.specs.Made.{made_tables}
 use Rattle.fleet_cli.specs.Contents.{bytes_in, five_bytes, table_bytes}

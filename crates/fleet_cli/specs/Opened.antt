@@ -11,7 +11,7 @@ use Rattle.fleet_model.specs.declared.options.TableOptions.{TableOptions}
 use Rattle.fleet_model.specs.declared.tables.Tables.{Tables}
 use Rattle.plan_desk.specs.declared.file.DeskFile.{DeskFile}
 use Rattle.plan_desk.specs.declared.file.DeskFile.TheVariants as file
-use Rattle.table_files.specs.Files.{AllBytes, FilesRead}
+use Rattle.sched_read.specs.Files.{AllBytes, FilesRead}
 use Rattle.fleet_cli.specs.Answer.{AnswersOf, TellsProof, TellsTree}
 use Rattle.fleet_cli.specs.Contents.{FileBytes, with_plan}
 use Rattle.fleet_cli.specs.Reading.{Follows}

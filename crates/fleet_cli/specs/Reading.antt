@@ -9,7 +9,7 @@ use Rattle.plan_desk.specs.Desk.{Files}
 use Rattle.plan_desk.specs.DeskFile.{path_of}
 use Rattle.plan_desk.specs.declared.file.DeskFile.{DeskFile}
 use Rattle.plan_desk.specs.declared.file.DeskFile.TheVariants as file
-use Rattle.table_files.specs.Files.{AllBytes, FilesRead}
+use Rattle.sched_read.specs.Files.{AllBytes, FilesRead}
 use Rattle.fleet_cli.specs.Contents.{FileBytes, bytes_in, table_bytes}
 use Rattle.fleet_cli.specs.Gathered.{AllStand, ComesTo, IsAmong, IsFirstMissing, IsFirstTooLong, IsHeld}
 use Rattle.fleet_cli.specs.Refusals.{fleet_named}

@@ -15,7 +15,7 @@ use Rattle.plan_judge.specs.Verdicts.{IsVerdict}
 use Rattle.plan_judge.specs.declared.verdicts.Verdict.{Verdict}
 use Rattle.plan_judge.specs.declared.verdicts.Verdict.TheVariants as verdict
 use Rattle.plan_text.specs.Reading.{PlanBad, fleet_names}
-use Rattle.table_files.specs.Files.{AllBytes, FilesBad}
+use Rattle.sched_read.specs.Files.{AllBytes, FilesBad}
 use Rattle.table_rows.specs.Names.{number_of}
 use Rattle.fleet_cli.specs.Texts.{bad_input_text, desk_file_of, plan_refused_text, proof_refused_text, unknown_fleet_text, verdict_text}
 use Rattle.tail_dates.specs.TailTable.{TailsBad}

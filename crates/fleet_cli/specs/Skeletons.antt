@@ -10,7 +10,7 @@ use Rattle.fleet_model.specs.declared.tables.Tables.{Tables}
 use Rattle.fleet_tables.specs.Fleets.{fleet_name_of}
 use Rattle.plan_text.specs.Reading.{PlanReads}
 use Rattle.retime_windows.specs.Settled.{IsSettled}
-use Rattle.table_files.specs.Files.{AllBytes, FilesRead}
+use Rattle.sched_read.specs.Files.{AllBytes, FilesRead}
 use Rattle.fleet_cli.specs.Refusals.{RefusesFleet, RefusesPlan, RefusesProof, RefusesTables, RefusesTails, RefusesVerdict, fleet_named}
 use Rattle.tail_dates.specs.TailTable.{TailsRead}
 use Rattle.tail_dates.specs.declared.tails.TailState.{TailState}

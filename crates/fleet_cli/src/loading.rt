@@ -9,8 +9,8 @@ use crate::contents::Contents;
 use crate::refusing::tables_refused;
 use entries::NoMemory;
 use fleet_model::{LoadError, TableOptions, Tables};
+use sched_read::{FileTexts, load_files};
 use std::alloc::Global;
-use table_files::{FileTexts, load_files};
 
 /// What the bytes of tables come to.
 #[derive(Drop)]

@@ -6,3 +6,8 @@ pub mod ReadLaws
 pub mod Refused
 pub mod TablesFit
 pub mod ThroughsFit
+pub mod OtherFileSettings
+pub mod FileReadLaws
+pub mod Settling
+pub mod Steps
+pub mod Unasked

@@ -2,3 +2,5 @@ pub mod Laws
 pub mod Legs
 pub mod Reading
 pub mod Throughs
+pub mod Files
+pub mod FileLaws

@@ -1,4 +1,4 @@
-use Rattle.table_files.proofs.Settling.{plans_settle}
+use Rattle.sched_read.proofs.Settling.{plans_settle}
 use Rattle.fleet_cli.proofs.loading.load_tables.Goals as goal
 
 pub returns-in-Ok-clause-settles : goal.returns-in-Ok-clause-settles

@@ -1,6 +1,6 @@
 use Rattle.std.proofs.lemmas.Result.{IfOk-weaker}
 use Rattle.command_words.specs.declared.command.TheConstants.{DEFAULT_READING}
-use Rattle.table_files.proofs.Settling.{plans_settle}
+use Rattle.sched_read.proofs.Settling.{plans_settle}
 use Rattle.table_maker.specs.Laws.{bytes_of}
 use Rattle.fleet_cli.proofs.MadeFolder.{read_alone}
 use Rattle.fleet_cli.specs.Contents.{five_alone}

@@ -1,5 +1,0 @@
-use Rattle.table_files.proofs.ReadLaws as laws
-use Rattle.table_files.proofs.laws.read_or_fault.Goals as goal
-
-pub returns : goal.returns
-returns c = laws.read_or_fault
