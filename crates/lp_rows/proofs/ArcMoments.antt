@@ -7,7 +7,7 @@ use Rattle.std.specs.List.{range_with_len}
 use Rattle.sums.specs.Places.{list_below}
 use Rattle.fleet_model.specs.declared.tables.Tables.{Tables}
 use Rattle.fleet_model.specs.Kept.{Domains}
-use Rattle.island_arcs.specs.Moments.{moment_of}
+use Rattle.node_aggregate.specs.Moments.{moment_of}
 use Rattle.lp_rows.specs.Layout.{Starts, concat_below, moment_at, node_at, nodes_at}
 
 -- those of a fleet at a station

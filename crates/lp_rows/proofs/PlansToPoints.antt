@@ -23,7 +23,7 @@ use Rattle.fleet_model.proofs.UseLaws.{need_suffices}
 use Rattle.node_aggregate.specs.Laws.{WeighKept}
 use Rattle.node_aggregate.specs.Nodes.{end_in}
 use Rattle.node_aggregate.proofs.Starts.{end_last, end_within}
-use Rattle.island_arcs.proofs.EmptyArcs.{gone_is_empty}
+use Rattle.node_aggregate.proofs.EmptyArcs.{gone_is_empty}
 use Rattle.lp_rows.specs.declared.kinds.Park.{Park}
 use Rattle.lp_rows.specs.declared.kinds.Column.{Column}
 use Rattle.lp_rows.specs.declared.kinds.Column.TheVariants.{Flight, Ground, Room, Slack}

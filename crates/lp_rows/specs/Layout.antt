@@ -6,7 +6,7 @@ use Rattle.fleet_model.specs.declared.tables.Tables.{Tables}
 use Rattle.fleet_model.specs.Kept.{Domains}
 use Rattle.fleet_model.specs.Schedule.{choices_in, days_in, fleets_in, leg_on, legs_in, parking_of, period_of, stations_in}
 use Rattle.node_aggregate.specs.Nodes.{AreNodesAt}
-use Rattle.island_arcs.specs.Moments.{moment_of}
+use Rattle.node_aggregate.specs.Moments.{moment_of}
 use Rattle.lp_rows.specs.declared.kinds.Node.{Node}
 use Rattle.lp_rows.specs.declared.kinds.Park.{Park}
 use Rattle.lp_rows.specs.declared.kinds.Column.{Column}

@@ -2,15 +2,15 @@
 ghost use Rattle.std.specs.Prelude.{◌≡◌, ◌<◌, ◌++◌, ◌∷◌, ◌^◌, [], if◌then◌else◌, length, map, IfOk, OnOk};
 ghost use Rattle.fleet_model.specs.Kept.{kept_by};
 ghost use Rattle.fleet_model.specs.Schedule.{fleets_in};
-ghost use Rattle.island_arcs.specs.KeptIdles.{AreIdleIn};
+ghost use Rattle.node_aggregate.specs.KeptIdles.{AreIdleIn};
 ghost use Rattle.lp_rows.specs.Layout.{AreByStation, IsNetwork, all_nodes, moment_at, nodes_of, starts_in};
 ghost use Rattle.lp_rows.specs.Staying.{passing_below, stays_at};
 
 use crate::network::Network;
 use entries::NoMemory;
 use fleet_model::{Kept, Tables};
-use island_arcs::{idle_minutes, moments};
 use island_cut::Idle;
+use node_aggregate::{idle_minutes, moments};
 use std::alloc::Global;
 
 /// The moment of the arc from each node, in the order of the nodes: the first minute of its wait at which its station

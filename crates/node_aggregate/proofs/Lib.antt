@@ -5,3 +5,10 @@ pub mod NodeEnds
 pub mod OneList
 pub mod Rising
 pub mod Starts
+pub mod AllowedPairs
+pub mod EmptyArcs
+pub mod Ends
+pub mod EventSteps
+pub mod MomentsFound
+pub mod QuietEvents
+pub mod QuietMinutes

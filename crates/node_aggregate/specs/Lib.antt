@@ -1,2 +1,7 @@
 pub mod Laws
 pub mod Nodes
+pub mod ArcLaws
+pub mod EventMinutes
+pub mod KeptIdles
+pub mod Moments
+pub mod Waits

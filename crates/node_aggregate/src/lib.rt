@@ -1,10 +1,14 @@
 //! Nodes of the time-line network: events of a fleet at a station, gathered where the aircraft on the ground need
-//! no count in between.
+//! no count in between; and the ground arcs behind them: which carry no aircraft in any mixed plan, and at which moment.
 #![tactic(auto)]
 
 pub mod aggregation;
+pub mod arcs;
+pub mod kept_idles;
 pub mod laws;
 pub mod places;
 
 pub use aggregation::{days_at, nodes};
+pub use arcs::moments;
+pub use kept_idles::idle_minutes;
 pub use places::{node_end, node_of};

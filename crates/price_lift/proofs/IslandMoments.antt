@@ -13,11 +13,11 @@ use Rattle.node_aggregate.proofs.Starts.{starts_rise}
 use Rattle.island_cut.specs.IslandLaws.{IsIdle}
 use Rattle.island_cut.specs.Islands.{has_islands, is_idle}
 use Rattle.island_cut.proofs.IslandProofs.{islands_tested}
-use Rattle.island_arcs.specs.Waits.{is_among, is_quiet}
-use Rattle.island_arcs.proofs.AllowedPairs.{allowed_tested}
-use Rattle.island_arcs.proofs.EmptyArcs.{IsMoment, moment_is}
-use Rattle.island_arcs.proofs.QuietMinutes.{departs_elsewhere, ready_elsewhere}
-use Rattle.island_arcs.proofs.Ends.{among_ends, among_where}
+use Rattle.node_aggregate.specs.Waits.{is_among, is_quiet}
+use Rattle.node_aggregate.proofs.AllowedPairs.{allowed_tested}
+use Rattle.node_aggregate.proofs.EmptyArcs.{IsMoment, moment_is}
+use Rattle.node_aggregate.proofs.QuietMinutes.{departs_elsewhere, ready_elsewhere}
+use Rattle.node_aggregate.proofs.Ends.{among_ends, among_where}
 use Rattle.lp_rows.specs.Layout.{IsNetwork, Starts}
 use Rattle.island_prices.specs.Arcs.{AreMoments, IsQuiet}
 use Rattle.island_prices.proofs.Arcs.{first_departs}

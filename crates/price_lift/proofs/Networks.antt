@@ -8,7 +8,7 @@ use Rattle.lp_rows.specs.declared.kinds.Line.TheVariants.{Balance, Count, Cover,
 use Rattle.sums.specs.Below.{count_below, sum_below}
 use Rattle.sums.specs.Places.{list_below}
 use Rattle.sums.proofs.Sums.{sum_below-agree}
-use Rattle.island_arcs.specs.Moments.{moment_of}
+use Rattle.node_aggregate.specs.Moments.{moment_of}
 use Rattle.lp_rows.specs.Points.{arcs_at, arcs_in, park_count}
 use Rattle.lp_rows.proofs.ColumnPlaces.{all_long}
 use Rattle.lp_rows.specs.Layout.{IsNetwork, Starts, all_nodes, all_parks, arc_stays, columns_of, concat_below, lines_of, node_at, nodes_at, nodes_of}

@@ -31,7 +31,7 @@ use Rattle.node_aggregate.specs.Nodes.{end_in}
 use Rattle.node_aggregate.proofs.Starts.{end_within}
 use Rattle.price_lift.proofs.ParkCharges.{none_after}
 use Rattle.price_lift.proofs.ChargedArcs.{DoRiseByCharges, RisesByCharge, charged_falls, charged_rises}
-use Rattle.island_arcs.specs.Moments.{moment_of}
+use Rattle.node_aggregate.specs.Moments.{moment_of}
 use Rattle.price_lift.proofs.Networks.{same_starts}
 use Rattle.price_lift.specs.PaidBack.{beyond_excess, moments_by, paid_back, payback_excess}
 use Rattle.price_lift.proofs.IslandMoments.{are_moments, at_idle, islands_there, kept_allowed}

@@ -2,9 +2,8 @@
 use crate::assertions::assert_same;
 use entries::Entries;
 use fleet_model::{Kept, LoadError, Tables};
-use island_arcs::{idle_minutes, moments};
 use island_cut::{Idle, idle};
-use node_aggregate::{days_at, nodes};
+use node_aggregate::{days_at, idle_minutes, moments, nodes};
 use std::alloc::Global;
 use std::process::Abort;
 use std::test::Fail;

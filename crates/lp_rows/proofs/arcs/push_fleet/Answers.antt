@@ -1,6 +1,6 @@
 use Rattle.std.proofs.Common.{◌≡◌, ◌++◌, ◌∙◌, length, map, ap, rules}
 use Rattle.fleet_model.specs.Kept.{kept_by}
-use Rattle.island_arcs.specs.Moments.{moment_of}
+use Rattle.node_aggregate.specs.Moments.{moment_of}
 use Rattle.sums.specs.Places.{list_below}
 use Rattle.lp_rows.specs.Layout.{concat_below, moment_at, nodes_at, starts_in}
 use Rattle.lp_rows.proofs.ArcMoments.{moments_there, one_list_more}

@@ -1,6 +1,0 @@
-use Rattle.fleet_model.specs.Schedule.{period_of}
-use Rattle.island_arcs.specs.EventMinutes.{IsFirstAmong}
-use Rattle.island_arcs.proofs.arcs.first_event.Given as goal
-
-abbrev pub invariant-loop-place : goal.invariant-loop-place
-invariant-loop-place l = IsFirstAmong (period_of l.tables) l.events l.place l.first

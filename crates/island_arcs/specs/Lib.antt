@@ -1,5 +1,0 @@
-pub mod ArcLaws
-pub mod EventMinutes
-pub mod KeptIdles
-pub mod Moments
-pub mod Waits
