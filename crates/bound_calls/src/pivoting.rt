@@ -3,9 +3,8 @@ ghost use Rattle.row_store.specs.Problem.{IsProblem};
 
 use crate::assertions::assert_same;
 use entries::{Entries, NoMemory};
-use row_store::{Dense, Line, RowStore, Rows, is_problem};
+use row_store::{Dense, Line, RowStore, Rows, Sparse, is_problem};
 use simplex_frac::{Outcome, solve};
-use sparse_store::Sparse;
 use std::alloc::Global;
 use std::test::Fail;
 

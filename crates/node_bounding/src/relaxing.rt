@@ -12,9 +12,8 @@ use entries::NoMemory;
 use fleet_model::{Kept, Tables};
 use lp_rows::rows;
 use price_lift::{LiftError, Lifted, lift_best, lift_refusal};
-use row_store::RowStore;
+use row_store::{RowStore, Sparse};
 use simplex_frac::{Outcome, finish, solve};
-use sparse_store::Sparse;
 use std::alloc::Global;
 
 /// How many steps the second run may take after its start where the prescribed run has no budget: nothing says that it ends.

@@ -11,3 +11,6 @@ pub mod LineSums
 pub mod SignTests
 pub mod RowReads
 pub mod AllPlaces
+pub mod FirstRows
+pub mod Changed
+pub mod Scans

@@ -7,3 +7,5 @@ pub mod Points
 pub mod Small
 pub mod Steps
 pub mod DualValues
+pub mod Changes
+pub mod Scan

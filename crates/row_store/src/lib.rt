@@ -1,6 +1,8 @@
-//! Tables of the simplex method behind one trait, and the plain store of them.
+//! Tables of the simplex method behind one trait, and two stores of them: the plain one, and the one that the program runs
+//! on, which holds of each row the numbers other than 0.
 #![tactic(auto)]
 
+pub mod changes;
 pub mod checks;
 pub mod choice;
 pub mod dense;
@@ -10,6 +12,10 @@ pub mod for_stores;
 pub mod laws;
 pub mod pivoting;
 pub mod problem;
+pub mod sparse;
+pub mod sparse_first;
+pub mod sparse_pivoting;
+pub mod sparse_scanning;
 pub mod store;
 pub mod turning;
 
@@ -18,4 +24,5 @@ pub use dense::Dense;
 pub use error::{PivotError, Place};
 pub use frac_row::{Layout, Line};
 pub use problem::Rows;
+pub use sparse::Sparse;
 pub use store::RowStore;

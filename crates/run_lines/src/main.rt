@@ -13,9 +13,8 @@ mod request;
 use crate::request::{Request, Store};
 use anyhow::{Result, ensure};
 use entries::NoMemory;
-use row_store::{Dense, RowStore, Rows, is_problem};
+use row_store::{Dense, RowStore, Rows, Sparse, is_problem};
 use simplex_frac::{Outcome, solve};
-use sparse_store::Sparse;
 use std::alloc::Global;
 use std::io::{BufReader, Read};
 

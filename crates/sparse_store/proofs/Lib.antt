@@ -1,3 +1,0 @@
-pub mod FirstRows
-pub mod Changed
-pub mod Scans

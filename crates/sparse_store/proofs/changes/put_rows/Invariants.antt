@@ -1,9 +1,0 @@
-use Rattle.std.proofs.Common.{length}
-use Rattle.sparse_store.proofs.Changed.{IsPut}
-use Rattle.sparse_store.proofs.changes.put_rows.Given as goal
-
-abbrev pub invariant-loop-change : goal.invariant-loop-change
-invariant-loop-change l = IsPut l.initial.rows.items l.rows.items l.initial.left.items l.left.items
-
-abbrev pub decreases-loop-change : goal.decreases-loop-change
-decreases-loop-change l = length l.left.items
