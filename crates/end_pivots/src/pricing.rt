@@ -9,13 +9,35 @@ pub const LEAST_WEIGHT: i128 = 1 << 10;
 
 pub const MOST_WEIGHT: i128 = 1 << 44;
 
+/// The two sizes of a quotient.
+#[derive(Clone, Copy)]
+pub struct Sizes {
+    pub number: i128,
+    pub divisor: i128,
+}
+
+impl Sizes {
+    /// Those of a number and of what divides it, both over the power of 2 that leaves neither more than so many bits. What divides
+    /// stays above 0.
+    #[inline(always)]
+    pub fn within<N: Number>(number: N, divisor: N, bits: u32) -> Sizes {
+        let greater = number.bits().max(divisor.bits());
+        let excess = greater.saturating_sub(bits);
+        Sizes {
+            number: number.size().wide().wrapping_shr(excess),
+            divisor: divisor.size().wide().wrapping_shr(excess).max(1),
+        }
+    }
+
+    /// The quotient in parts.
+    pub fn parts(self) -> i128 {
+        quotient(self.number.wrapping_mul(WHOLE), self.divisor)
+    }
+}
+
 /// How far a value is from 0, in parts.
 pub fn distance<N: Number>(value: N, den: N) -> i128 {
-    if value.bits() > 60 {
-        return 1 << 40;
-    }
-    let parts = value.size().wide().wrapping_mul(WHOLE);
-    quotient(parts, den.wide()).clamp(1, 1 << 40)
+    Sizes::within(value, den, 60).parts().clamp(1, 1 << 40)
 }
 
 /// A quotient of wide numbers, at once where the divisor is 1, and 0 where it is 0.

@@ -1,14 +1,14 @@
 use crate::frame::Frame;
 use crate::pivot_column::PivotColumn;
 use crate::pivot_row::PivotRow;
-use crate::pricing::{LEAST_WEIGHT, MOST_WEIGHT, PART_BITS, WHOLE, quotient};
+use crate::pricing::{LEAST_WEIGHT, MOST_WEIGHT, PART_BITS, Sizes, WHOLE, quotient};
 use end_kernel::start::take_column;
 use end_kernel::{Kernel, NONE, Number, Row, Sides, at, fill, filled, number_at, put};
 use entries::NoMemory;
 use std::alloc::Global;
 
-// Numbers of greater size count as this one.
-const MOST_NUMBER: i128 = 1 << 50;
+// Numbers of more bits are divided each, and not multiplied by an inverse.
+const MOST_BITS: u32 = 40;
 
 /// The weights of the rows of what stands in the lines since the start, in parts: about the sum of the squares of a row's
 /// multipliers of the lines, and 1 for all at the start. Rows of the kernel know their own.
@@ -51,7 +51,7 @@ impl Weights {
     /// Takes the row of a column that enters, which is the pivot row over its number there.
     pub fn take<N: Number>(&mut self, frame: &Frame, row: &PivotRow<N>, entering: u32) {
         let crosses = self.crosses.as_mut_slice();
-        self.entered = lay_row(crosses, &row.lines, row.size_in(entering).wide());
+        self.entered = lay_row(crosses, &row.lines, row.size_in(entering));
         frame.start.forward(crosses);
     }
 
@@ -111,15 +111,14 @@ impl Weights {
 }
 
 // Lays the numbers of a row over one of them, in parts, with the other sign, and answers the sum of their squares.
-fn lay_row<N: Number>(parts: &mut [i64], numbers: &[N], size: i128) -> i128 {
-    let inverse = quotient(WHOLE.wrapping_mul(WHOLE), size);
+fn lay_row<N: Number>(parts: &mut [i64], numbers: &[N], size: N) -> i128 {
+    let inverse = quotient(WHOLE.wrapping_mul(WHOLE), size.wide());
     let mut sum = 0i128;
     for place in 0..parts.len() {
         let number = number_at(numbers, place);
         put(parts, place, 0);
         if !number.is_zero() {
-            let part = number.wide().clamp(-MOST_NUMBER, MOST_NUMBER);
-            let part = part.wrapping_mul(inverse).wrapping_shr(PART_BITS);
+            let part = parts_of(number, size, inverse);
             put(parts, place, i64::narrowed(part.wrapping_neg()));
             sum = sum.wrapping_add(part.wrapping_mul(part).wrapping_shr(PART_BITS));
         }
@@ -127,14 +126,33 @@ fn lay_row<N: Number>(parts: &mut [i64], numbers: &[N], size: i128) -> i128 {
     sum.clamp(LEAST_WEIGHT, MOST_WEIGHT)
 }
 
+// A number over a size in parts, of which the inverse has parts of 2^40.
+#[inline(always)]
+fn parts_of<N: Number>(number: N, size: N, inverse: i128) -> i128 {
+    if number.bits() <= MOST_BITS && size.bits() <= MOST_BITS {
+        return number.wide().wrapping_mul(inverse).wrapping_shr(PART_BITS);
+    }
+    let part = Sizes::within(number, size, MOST_BITS).parts();
+    if number.is_below_0() {
+        part.wrapping_neg()
+    } else {
+        part
+    }
+}
+
 // A weight after the pivot: the row gives up the number's part of the row that entered.
 fn changed<N: Number>(old: i64, number: N, scale: N, cross: i128, entered: i128) -> i64 {
-    let size = number.size().wide().clamp(0, 1 << 60);
-    let scale = scale.wide();
-    let part = quotient(size.wrapping_mul(1 << 10), scale).clamp(0, 1 << 30);
-    let square = part.wrapping_mul(part).clamp(0, 1 << 60);
+    let sizes = Sizes::within(number, scale, 60);
+    let part = sizes.parts().clamp(0, 1 << 40);
+    let square = part
+        .wrapping_mul(part)
+        .wrapping_shr(PART_BITS)
+        .clamp(0, 1 << 60);
     let more = square.wrapping_mul(entered).wrapping_shr(PART_BITS);
-    let twice = quotient(size.wrapping_mul(cross).wrapping_mul(2), scale);
+    let twice = quotient(
+        sizes.number.wrapping_mul(cross).wrapping_mul(2),
+        sizes.divisor,
+    );
     let less = if number.is_below_0() {
         twice.wrapping_neg()
     } else {
