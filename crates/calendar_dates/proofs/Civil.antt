@@ -4,13 +4,22 @@ use Rattle.std.specs.Prelude.{◌&&◌, ◌*◌, ◌+◌, ◌==◌, if◌then◌
 use Rattle.std.proofs.lemmas.Bool.{and_parts, cases_Bool, eq-eqb, true≢false}
 use Rattle.std.proofs.lemmas.Bool.Decides.{nat_tests}
 use Rattle.jiff_core.specs.declared.civil.date.Date.{Date}
+use Rattle.calendar_dates.specs.declared.date.Date as ours
 use Rattle.jiff_core.specs.Calendar.{IsDate, IsEpochDay, days_from_civil, days_in_month}
 use Rattle.jiff_core.specs.Date.{epoch_day}
 use Rattle.jiff_core.proofs.DateLemmas.{days_from_civil-max, epoch_day_range}
 use Rattle.jiff_core.proofs.SignedLemmas.{signed_arith}
 use Rattle.csv_fields.specs.Time.{digits_at, number_at}
-use Rattle.calendar_dates.specs.Days.{Day, day_on}
+use Rattle.calendar_dates.specs.Days.{Day, civil_day_on, day_number, day_on}
 use Rattle.calendar_dates.specs.Reading.{civil_of, date_read, ends_in_calendar, is_civil}
+
+-- our date, as the library has it
+abbrev pub civil_date : ours.Date → Date
+civil_date date =
+    record { year = date.year; month = date.month; day = date.day; year_in = date.year_in; month_in = date.month_in; day_in = date.day_in }
+
+pub day_number_range : (date : ours.Date) → IsEpochDay (day_number (day_on date))
+day_number_range date = epoch_day_range (civil_date date)
 
 -- a date that the calendar has passes the test
 passes : (year month day : ℕ) → 1 ≤ year → 1 ≤ month → month ≤ 12 → 1 ≤ day → day ≤ days_in_month (pos year) month → is_civil year month day ≡ true
@@ -20,7 +29,7 @@ passes year month day some first last early late =
 
 -- a date of the library, by numbers that are its year, month and day
 pub is_read : (year month day : ℕ) (date : Date) → 1 ≤ year → date.year ≡ pos year → date.month ≡ month → date.day ≡ day
-    → Some (day_on date) ≡ civil_of year month day
+    → Some (civil_day_on date) ≡ civil_of year month day
 unfolding civil_of
 is_read year month day date some same_year same_month same_day =
     let lo : 1 ≤ month = subst (λ m. 1 ≤ m) same_month date.month_in.0 in
@@ -59,7 +68,7 @@ no_year_zero month day = refl
 
 -- so many dates from one on end in the calendar where the library has the last of them
 pub ends_where : (first : Date) (count : ℕ) (test : Bool) → (test ≡ true) ↔ IsEpochDay (epoch_day first +ℤ pos (count - 1))
-    → test ≡ ends_in_calendar (day_on first) count
+    → test ≡ ends_in_calendar (civil_day_on first) count
 unfolding ends_in_calendar
 ends_where first count test told = elim (cases_Bool (int_le (epoch_day first +ℤ pos (count - 1)) (days_from_civil (pos 9999) 12 31))) [
   | inl within ↦

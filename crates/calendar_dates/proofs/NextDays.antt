@@ -7,12 +7,12 @@ use Rattle.jiff_core.specs.Date.{epoch_day}
 use Rattle.jiff_core.proofs.SignedLemmas.{signed_arith}
 use Rattle.jiff_core.proofs.CalendarLemmas.{days_in_month_bounds}
 use Rattle.jiff_core.proofs.DateLemmas.{days_from_civil-day, days_from_civil-max, days_from_civil-next_month, days_from_civil-next_year, epoch_day_injective, epoch_day_range}
-use Rattle.calendar_dates.specs.Days.{Day, day_after, day_on, next_day}
+use Rattle.calendar_dates.specs.Days.{Day, civil_day_on, day_after, next_day}
 
 -- the date of the next day
 record IsNextDate (a b : Date) : Type 0 where
   number : epoch_day b ≡ epoch_day a +ℤ pos 1
-  day : day_on b ≡ next_day (day_on a)
+  day : civil_day_on b ≡ next_day (civil_day_on a)
 
 in_month : (a : Date) → a.day < days_in_month a.year a.month → (b : Date) × IsNextDate a b
 in_month a within =
@@ -63,7 +63,7 @@ from_next d zero = refl
 from_next d (suc n) = ap next_day (from_next d n)
 
 -- the date so many day numbers later is so many days later
-pub days_later : (n : ℕ) (a b : Date) → epoch_day b ≡ epoch_day a +ℤ pos n → day_on b ≡ day_after (day_on a) n
+pub days_later : (n : ℕ) (a b : Date) → epoch_day b ≡ epoch_day a +ℤ pos n → civil_day_on b ≡ day_after (civil_day_on a) n
 unfolding day_after
 days_later zero a b later =
     let same = epoch_day_injective b a (omega (arith, signed_arith)) in
@@ -71,4 +71,4 @@ days_later zero a b later =
 days_later (suc n) a b later =
     let less : epoch_day a <ℤ pos 2_932_896 = omega (arith, signed_arith, epoch_day_range b) in
     let next = next_date a less in
-    days_later n next.0 b (omega (arith, signed_arith, next.1.number)) ∙ ap (λ d. day_after d n) next.1.day ∙ from_next (day_on a) n
+    days_later n next.0 b (omega (arith, signed_arith, next.1.number)) ∙ ap (λ d. day_after d n) next.1.day ∙ from_next (civil_day_on a) n

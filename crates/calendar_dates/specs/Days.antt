@@ -1,8 +1,8 @@
 -- Days of the proleptic Gregorian calendar, one after the other.
 use Rattle.std.specs.Prelude.{ℕ, zero, suc, ◌+◌, ◌-◌, nat_lt, if◌then◌else◌, ℤ, pos, ◌+ℤ◌, List, [], ◌∷◌, ◌++◌}
-use Rattle.jiff_core.specs.declared.civil.date.Date.{Date}
-use Rattle.jiff_core.specs.Calendar.{IsEpochDay, days_in_month}
-use Rattle.jiff_core.specs.Date.{epoch_day}
+use Rattle.jiff_core.specs.declared.civil.date.Date as civil
+use Rattle.jiff_core.specs.Calendar.{IsEpochDay, days_from_civil, days_in_month}
+use Rattle.calendar_dates.specs.declared.date.Date.{Date}
 use Rattle.sums.specs.Places.{list_below}
 use Rattle.jiff_fmt.specs.Text.{pad2, year_text}
 
@@ -14,6 +14,14 @@ pub record Day : Type 0 where
 -- the day of a date
 abbrev pub day_on : Date → Day
 day_on date = record { year = date.year; month = date.month; day = date.day }
+
+-- the same, of a date of `jiff`
+abbrev pub civil_day_on : civil.Date → Day
+civil_day_on date = record { year = date.year; month = date.month; day = date.day }
+
+-- the day number of a day, as `jiff` counts days
+abbrev pub day_number : Day → ℤ
+day_number day = days_from_civil day.year day.month day.day
 
 -- the next day: in the same month, else the first of the next month, else of the next year
 abbrev pub next_day : Day → Day
@@ -40,4 +48,4 @@ day_text d = year_text d.year ++ 45 ∷ [] ++ pad2 d.month ++ 45 ∷ [] ++ pad2 
 
 -- so many days, the date's among them, end before the calendar of `jiff` does, which has the years -9999 to 9999
 pub record HasDays (date : Date) (count : ℕ) : Type 0 where
-  pub last : IsEpochDay (epoch_day date +ℤ pos (count - 1))
+  pub last : IsEpochDay (day_number (day_on date) +ℤ pos (count - 1))

@@ -1,8 +1,8 @@
 -- What the text of a date reads as, and which dates follow it.
-use Rattle.std.specs.Prelude.{◌+◌, ◌-◌, ◌*◌, ◌==◌, ◌&&◌, ℕ, Bool, nat_le, if◌then◌else◌, List, length, slice_index, Option, Some, None, ℤ, pos, ◌+ℤ◌, int_le}
+use Rattle.std.specs.Prelude.{◌+◌, ◌-◌, ◌*◌, ◌==◌, ◌&&◌, ℕ, Bool, nat_le, if◌then◌else◌, List, length, slice_index, Option, Some, None, pos, ◌+ℤ◌, int_le}
 use Rattle.csv_fields.specs.Time.{digits_at, number_at}
 use Rattle.jiff_core.specs.Calendar.{days_from_civil, days_in_month}
-use Rattle.calendar_dates.specs.Days.{Day}
+use Rattle.calendar_dates.specs.Days.{Day, day_number}
 
 -- a dash stands at a place of a text
 abbrev pub dash_at : List ℕ → ℕ → Bool
@@ -27,10 +27,6 @@ civil_of year month day =
 unfoldable pub date_read : List ℕ → Option Day
 date_read text =
     if has_date_form text then civil_of (100 * number_at text 0 + number_at text 2) (number_at text 5) (number_at text 8) else None
-
--- the day number of a date, as `jiff` counts days
-abbrev pub day_number : Day → ℤ
-day_number date = days_from_civil date.year date.month date.day
 
 -- so many dates, from the first on, end on 9999-12-31 at the latest
 unfoldable pub ends_in_calendar : Day → ℕ → Bool

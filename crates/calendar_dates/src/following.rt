@@ -1,12 +1,12 @@
 //! Dates one after the other.
 ghost use Rattle.std.specs.Prelude.{◌≡◌, ◌+ℤ◌, IfOk, map, pos};
 ghost use Rattle.jiff_core.specs.Calendar.{IsEpochDay};
-ghost use Rattle.jiff_core.specs.Date.{epoch_day};
-ghost use Rattle.calendar_dates.specs.Days.{HasDays, day_after, day_on, days_from};
+ghost use Rattle.calendar_dates.specs.Days.{HasDays, day_after, day_number, day_on, days_from};
 
+use crate::conversion::{from_civil, to_civil};
+use crate::date::Date;
 use entries::NoMemory;
 use jiff::ToSpan;
-use jiff::civil::Date;
 use std::alloc::Global;
 
 /// So many dates, from the first on.
@@ -23,11 +23,11 @@ pub fn dates_from(alloc: Global, first: Date, count: u32) -> Result<Vec<Date>, N
 
 /// The date so many days later.
 fn date_after(first: Date, days: u32) -> Date
-    requires { IsEpochDay (epoch_day first +ℤ pos days) }
+    requires { IsEpochDay (day_number (day_on first) +ℤ pos days) }
     ensures { day_on result ≡ day_after (day_on first) days }
 {
-    match first.checked_add(i64::from(days).days()) {
-        Ok(date) => date,
+    match to_civil(first).checked_add(i64::from(days).days()) {
+        Ok(date) => from_civil(date),
         Err(_) => unreachable!(),
     }
 }

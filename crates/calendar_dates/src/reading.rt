@@ -4,8 +4,9 @@ ghost use Rattle.std.specs.Char.{is_ascii_digit};
 ghost use Rattle.calendar_dates.specs.Days.{HasDays, day_on};
 ghost use Rattle.calendar_dates.specs.Reading.{civil_of, date_read, ends_in_calendar};
 
-use jiff::ToSpan;
-use jiff::civil::Date;
+use crate::conversion::{from_civil, to_civil};
+use crate::date::Date;
+use jiff::{ToSpan, civil};
 
 /// The date that a text writes as YYYY-MM-DD, of the years 1 to 9999.
 #[tactic(auto, unfolding(crate::specs::Reading::date_read))]
@@ -65,8 +66,8 @@ fn civil_day(year: u16, month: u8, day: u8) -> Option<Date>
     if year == 0 {
         return None;
     }
-    match Date::new(year as i16, month as i8, day as i8) {
-        Ok(date) => Some(date),
+    match civil::Date::new(year as i16, month as i8, day as i8) {
+        Ok(date) => Some(from_civil(date)),
         Err(_) => None,
     }
 }
@@ -91,5 +92,7 @@ pub fn ends_in_calendar(first: Date, count: u32) -> bool
     ensures told { result ≡ ends_in_calendar (day_on first) count }
     ensures last { (result ≡ true) → HasDays first count }
 {
-    first.checked_add(i64::from(count - 1).days()).is_ok()
+    to_civil(first)
+        .checked_add(i64::from(count - 1).days())
+        .is_ok()
 }

@@ -1,13 +1,13 @@
 use Rattle.std.proofs.Common.{map, ap, ◌∙◌, arith}
 use Rattle.std.proofs.lemmas.List.{map_push}
 use Rattle.jiff_core.proofs.SignedLemmas.{signed_arith}
-use Rattle.jiff_core.proofs.DateLemmas.{epoch_day_range}
 use Rattle.sums.proofs.Places.{list_below-push}
 use Rattle.calendar_dates.specs.Days.{day_after, day_on}
+use Rattle.calendar_dates.proofs.Civil.{day_number_range}
 use Rattle.calendar_dates.proofs.following.dates_from.Goals as goal
 
 pub date_after-requires : goal.date_after-requires
-date_after-requires c = (omega (arith, signed_arith, epoch_day_range c.args.first), omega (arith, signed_arith, c.requires.last))
+date_after-requires c = (omega (arith, signed_arith, day_number_range c.args.first), omega (arith, signed_arith, c.requires.last))
 
 pub loop-days-preserved : goal.loop-days-preserved
 loop-days-preserved c =

@@ -1,4 +1,4 @@
-use Rattle.std.proofs.Common.{◌≡◌, sym, ◌∙◌, arith, rules, pos, to_z}
+use Rattle.std.proofs.Common.{◌≡◌, Some, sym, ap, ◌∙◌, arith, rules, pos, to_z}
 use Rattle.std.proofs.lemmas.Int.{to_z_pos}
 use Rattle.jiff_core.proofs.SignedLemmas.{signed_arith}
 use mir.Syntax.{w8, w16}
@@ -18,7 +18,8 @@ returns-in-Ok-clause-read c =
     let value = c.in-Ok.ensures.value in
     let same_month = value.1 ∙ month in
     let same_day = value.2 ∙ day in
-    is_read c.args.year c.args.month c.args.day c.in-Ok.date (omega arith) (value.0 ∙ year) (omega (arith, signed_arith)) (omega (arith, signed_arith))
+    ap Some c.from_civil.ensures
+    ∙ is_read c.args.year c.args.month c.args.day c.in-Ok.date (omega arith) (value.0 ∙ year) (omega (arith, signed_arith)) (omega (arith, signed_arith))
 
 pub returns-in-Err-clause-read : goal.returns-in-Err-clause-read
 returns-in-Err-clause-read c =
