@@ -66,10 +66,10 @@ def stepped(fleets, stations):
     yield "end"
 
 
-def write(folder, trips, fleets, stations, proof=None):
+def write(folder, trips, fleets, stations, proof=None, cost=cost_of):
     """Writes tables, plan and proof, and answers the nodes of the tree and the plan's cost.
 
-    The proof is the one of trims, or the lines that are given."""
+    The proof is the one of trims, or the lines that are given. A pair costs what `cost` says of its leg and its fleet."""
     legs = list(legs_of(trips, stations))
     texts = {
         "stations.csv": ["code,extra,maintenance", *(f"{code(s)},0,yes" for s in range(stations))],
@@ -80,7 +80,7 @@ def write(folder, trips, fleets, stations, proof=None):
         ],
         "costs.csv": [
             "flight,fleet,cost",
-            *(f"{leg[0]},F{f + 1},{cost_of(l, f)}" for l, leg in enumerate(legs) for f in range(fleets)),
+            *(f"{leg[0]},F{f + 1},{cost(l, f)}" for l, leg in enumerate(legs) for f in range(fleets)),
         ],
         "throughs.csv": ["in,out,value"],
         "plan.csv": ["flight,fleet", *(f"{leg[0]},F1" for leg in legs)],
@@ -89,4 +89,4 @@ def write(folder, trips, fleets, stations, proof=None):
     for name, lines in texts.items():
         with open(Path(folder, name), "w", encoding="ascii") as file:
             file.writelines(line + "\n" for line in lines)
-    return 2 * len(legs) * (fleets - 1) + 1, sum(cost_of(l, 0) for l in range(len(legs)))
+    return 2 * len(legs) * (fleets - 1) + 1, sum(cost(l, 0) for l in range(len(legs)))

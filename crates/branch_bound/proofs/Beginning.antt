@@ -23,6 +23,7 @@ use Rattle.branch_bound.proofs.Ranking.{all_with, inserted_with}
 -- before any split there is no level
 no_level : (t : Tables) (keeps : Domains) (s : State) → IsFresh s → IsAtLevel t None keeps (node_of s)
 no_level t keeps (state.Leaf leaf) fresh = leaf_level t keeps None leaf fresh
+no_level t keeps (state.Stopped s) fresh = λ worth rounded. tt
 no_level t keeps (state.Waiting f) fresh = λ worth rounded. tt
 no_level t keeps (state.Split f) fresh = absurd fresh
 

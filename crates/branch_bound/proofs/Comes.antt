@@ -1,5 +1,5 @@
 -- What a search comes to, once nothing more is split.
-use Rattle.std.proofs.Common.{◌≡◌, ℕ, zero, suc, ◌+◌, ◌<◌, List, [], ◌∷◌, ◌++◌, All, length, Option, ℤ, inl, inr, ◌⊎◌, refl, sym, ◌∙◌, ap, subst, arith}
+use Rattle.std.proofs.Common.{◌≡◌, ℕ, zero, suc, ◌+◌, ◌<◌, List, [], ◌∷◌, ◌++◌, All, length, Option, inl, inr, ◌⊎◌, refl, sym, ◌∙◌, ap, subst, arith}
 use Rattle.std.specs.List.Sorted.{IsPermutation}
 use Rattle.std.proofs.lemmas.List.Elements.{All-contains}
 use Rattle.std.proofs.lemmas.List.Sorted.{IsPermutation-refl}
@@ -10,9 +10,10 @@ use Rattle.fleet_model.specs.declared.tables.Tables.{Tables}
 use Rattle.dual_bound.specs.declared.trees.Tree.{Tree}
 use Rattle.dual_bound.specs.declared.trees.Tree.TheVariants as tree
 use Rattle.node_bounding.specs.Examined.{IsDoneLeaf}
-use Rattle.branch_bound.specs.History.{AreGathered, AreLinked, Chronicle, ComesTo, IsDone, IsGrownTree, IsReachedNode, IsRightAt, IsSingle, IsTold, gathered, gathered_at, prices_above}
+use Rattle.branch_bound.specs.Growing.{AreGathered, AreLinked, AreSingle, gathered, gathered_at}
+use Rattle.branch_bound.specs.History.{Chronicle, ComesTo, IsDone, IsGrownTree, IsReachedNode, IsRightAt, IsSingle, prices_above}
 use Rattle.branch_bound.specs.Ranks.{IsOver, IsReachedBy, IsWaitingAt}
-use Rattle.node_bounding.specs.Subproblems.{IsFractional, IsNoMore, IsRight, cost_of, node_of}
+use Rattle.node_bounding.specs.Subproblems.{IsFractional, IsRight, cost_of, node_of}
 use Rattle.branch_bound.specs.Search.{at}
 use Rattle.node_bounding.specs.Worked.{Worked, own_node, worked_in}
 use Rattle.node_bounding.specs.declared.plans.Plan.{Plan}
@@ -20,7 +21,7 @@ use Rattle.branch_bound.specs.declared.search.Search.{Search}
 use Rattle.node_bounding.specs.declared.states.State.{State}
 use Rattle.node_bounding.specs.declared.states.State.TheVariants as state
 use Rattle.branch_bound.specs.declared.subproblems.Subproblem.{Subproblem}
-use Rattle.branch_bound.proofs.Fresh.{leaf_reached}
+use Rattle.branch_bound.proofs.Fresh.{leaf_reached, stopped_waits_not}
 use Rattle.node_bounding.proofs.Orders.{no_more_same, one_ceiling}
 
 -- ---- each subproblem by itself
@@ -35,6 +36,7 @@ single_leaf keeps (tree.Split' leg choice prices mixed p with_pair q without) do
 
 single_gathered : (keeps : Domains) (s : State) → IsSingle s → gathered_at keeps s ≡ record { keeps = keeps; node = node_of s } ∷ []
 single_gathered keeps (state.Leaf leaf) single = single_leaf keeps leaf single
+single_gathered keeps (state.Stopped s) single = refl
 single_gathered keeps (state.Waiting f) single = refl
 single_gathered keeps (state.Split f) single = refl
 
@@ -60,16 +62,20 @@ module _ (t : Tables) (nodes : ℕ) (pivots : Option ℕ) (root : Domains) (s : 
   pub linked : AreLinked s.made.items
   linked = record { some = omega (arith, done.search.count); parts = done.search.chronicle.parts; each = λ k less. (done.search.numbered k less).linked }
 
-  pub gathers : (final : Option ℤ) → IsNoMore (cost_of s.best) final → AreGathered t root pivots final (length s.made.items) done.search.chronicle s.made.items
-  gathers final less = record {
+  pub singles : AreSingle s.made.items
+  singles = record { each = done.search.singles }
+
+  pub gathers : AreGathered t root pivots (cost_of s.best) (length s.made.items) done.search.chronicle s.made.items
+  gathers = record {
     numbered = done.search.numbered;
-    right = λ k below. subst (λ p. IsRightAt t p final all c k) done.pivots_allowed (done.search.right final less k below);
+    right = λ k below. subst (λ p. IsRightAt t p (cost_of s.best) all c k) done.pivots_allowed (done.search.right (cost_of s.best) (no_more_same (cost_of s.best)) k below);
     same = subst (IsPermutation (list_below c.made (length all))) (all_gathered c.made all (length all) done.search.singles (λ k less. (done.search.numbered k less).node)) (IsPermutation-refl (list_below c.made (length all)));
   }
 
   -- a subproblem that waits has a rounded worth that is reached
   reached : All (IsReachedBy s) s.waiting.keys → (k : ℕ) (x : State) → k < length all → (at all k).state ≡ x → IsSingle x → IsReachedNode t (cost_of s.best) (c.made k).keeps (node_of x)
   reached ranks k (state.Leaf leaf) below own single = leaf_reached t (c.made k).keeps (cost_of s.best) leaf single
+  reached ranks k (state.Stopped x) below own single = λ worth rounded. absurd (stopped_waits_not t (c.made k).keeps x.prices x.why worth single rounded)
   reached ranks k (state.Waiting f) below own single = λ worth rounded.
       let fraction : IsFractional t (c.made k).keeps f = subst (λ x. IsRight t s.pivots (cost_of s.best) (c.made k).keeps (prices_above t c.made (at all k).origin) x) own (done.search.right (cost_of s.best) (no_more_same (cost_of s.best)) k below) in
       let same : f.worth ≡ worth = one_ceiling _ _ f.worth worth fraction.split.best.good.proper.scale.some fraction.rounded rounded in
@@ -80,7 +86,7 @@ module _ (t : Tables) (nodes : ℕ) (pivots : Option ℕ) (root : Domains) (s : 
   over (inl spent) = inl (omega (arith, spent, done.search.within, done.splits_allowed))
   over (inr ranks) = inr (λ k below. subst (IsReachedNode t (cost_of s.best) (c.made k).keeps) (sym (done.search.numbered k below).node) (reached ranks k (at all k).state below refl (done.search.singles k below)))
 
-  pub comes : (best : Option Plan) (tree : Tree) → best ≡ s.best → ((final : Option ℤ) → IsNoMore (cost_of s.best) final → IsGrownTree t root pivots final (length s.made.items) done.search.chronicle tree) → ComesTo t nodes pivots root best tree
+  pub comes : (best : Option Plan) (tree : Tree) → best ≡ s.best → IsGrownTree t root pivots (cost_of s.best) (length s.made.items) done.search.chronicle tree → ComesTo t nodes pivots root best tree
   comes best tree same grown = subst (λ b. ComesTo t nodes pivots root b tree) (sym same) (record {
     plan = done.search.plan;
     splits = s.splits;

@@ -18,7 +18,8 @@ use Rattle.dual_bound.specs.declared.trees.Tree.{Split, Tree}
 use Rattle.dual_bound.specs.declared.trees.Tree.TheVariants as tree
 use Rattle.cert_check.specs.Nodes.{nodes_in}
 use Rattle.node_bounding.specs.Causes.{zero_prices}
-use Rattle.branch_bound.specs.History.{AreGathered, AreLinked, Chronicle, HasItsParts, HasParts, IsFolded, IsFrom, IsGrownTree, IsJoined, IsJoinedFrom, IsLinked, IsPartOf, IsRightAt, IsSplitState, KeepsBy, gathered, gathered_at, prices_above, prices_in, tree_of_state}
+use Rattle.branch_bound.specs.Growing.{AreGathered, AreLinked, IsFolded, IsJoined, IsJoinedFrom, IsSplitState, gathered, gathered_at, tree_by}
+use Rattle.branch_bound.specs.History.{Chronicle, HasItsParts, HasParts, IsFrom, IsGrownTree, IsLinked, IsPartOf, IsRightAt, KeepsBy, prices_above, prices_in}
 use Rattle.node_bounding.specs.Subproblems.{IsFractional, IsPart, IsRight, node_of}
 use Rattle.branch_bound.specs.Search.{IsSplitBy, at, nothing, step_into}
 use Rattle.node_bounding.specs.Trims.{AreSearched}
@@ -32,7 +33,10 @@ use Rattle.node_bounding.proofs.Leaves.{answers_none, open_sound}
 use Rattle.node_bounding.proofs.Nodes.{all_one}
 use Rattle.node_bounding.proofs.Parts.{leaf_part, split_part}
 
--- ---- the tree of a subproblem that was not split
+-- ---- the tree of a subproblem that was not split, with no leaf closed
+abbrev pub tree_of_state : State → Tree
+tree_of_state s = tree_by None s
+
 waiting_part : (t : Tables) (pivots : Option ℕ) (final : Option ℤ) (keeps : Domains) (above : Prices) (f : Fraction) → IsFractional t keeps f → IsPart t pivots final keeps above (tree.Open f.prices (cause.Nodes f.mixed))
 waiting_part t pivots final keeps above f is =
     let best = is.split.best in
@@ -41,11 +45,13 @@ waiting_part t pivots final keeps above f is =
 
 state_part : (t : Tables) (pivots : Option ℕ) (final : Option ℤ) (keeps : Domains) (above : Prices) (s : State) → IsRight t pivots final keeps above s → IsPart t pivots final keeps above (tree_of_state s) × AreSearched t keeps (tree_of_state s)
 state_part t pivots final keeps above (state.Leaf leaf) is = (is.0, is.1)
+state_part t pivots final keeps above (state.Stopped s) is = (is.0, is.1)
 state_part t pivots final keeps above (state.Waiting f) is = (waiting_part t pivots final keeps above f is, is.split.searched)
 state_part t pivots final keeps above (state.Split f) is = (waiting_part t pivots final keeps above f is, is.split.searched)
 
 gathered_tree : (keeps : Domains) (s : State) → ¬ (IsSplitState s) → gathered_at keeps s ≡ worked_in keeps (tree_of_state s)
 gathered_tree keeps (state.Leaf leaf) unsplit = refl
+gathered_tree keeps (state.Stopped s) unsplit = refl
 gathered_tree keeps (state.Waiting f) unsplit = refl
 gathered_tree keeps (state.Split f) unsplit = absurd (unsplit tt)
 
@@ -94,6 +100,7 @@ gathered_one made all = refl
 -- a subproblem that was split, with its fraction
 split_of : (step : Step) (s : State) → IsSplitBy step s → (f : Fraction) × (s ≡ state.Split f) × (step.leg ≡ f.leg) × (step.choice ≡ f.choice)
 split_of step (state.Leaf leaf) is = absurd is
+split_of step (state.Stopped s) is = absurd is
 split_of step (state.Waiting f) is = absurd is
 split_of step (state.Split f) is = (f, refl, is.0, is.1)
 
@@ -111,10 +118,10 @@ module _ (all rest : List Subproblem) (last : Subproblem) (origin : Origin) (par
   last_from : IsPartOf all parts (length rest) origin
   last_from = subst (λ o. IsFrom all parts (length rest) o) (ap (λ s. s.origin) at_last ∙ from_is) (each (length rest) (omega (arith, count))).from
 
-  fraction : Fraction
+  pub fraction : Fraction
   fraction = (split_of origin.step (at all origin.parent).state last_from.of_split).0
 
-  parent_is : (at all origin.parent).state ≡ state.Split fraction
+  pub parent_is : (at all origin.parent).state ≡ state.Split fraction
   unfolding fraction
   parent_is = (split_of origin.step (at all origin.parent).state last_from.of_split).1
 
@@ -139,7 +146,7 @@ module _ (all rest : List Subproblem) (last : Subproblem) (origin : Origin) (par
   parent_split = subst IsSplitState (ap (λ s. s.state) (at_rest origin.parent (omega (arith, parent_before)))) (subst IsSplitState (sym parent_is) tt)
 
   -- ---- both are put into it
-  module _ (after : List Subproblem) (is : IsFolded rest after origin.parent last.state) where
+  module _ (tree_of : State → Tree) (after : List Subproblem) (is : IsFolded tree_of rest after origin.parent last.state) where
     abbrev r : ℕ
     r = length after
 
@@ -165,11 +172,11 @@ module _ (all rest : List Subproblem) (last : Subproblem) (origin : Origin) (par
       | inr other ↦ ap (λ (s : Subproblem). s.origin) (unlike k less other)
     ]
 
-    joined : IsJoined fraction (tree_of_state (at all r).state) (tree_of_state last.state) is.whole
+    pub joined : IsJoined fraction (tree_of (at all r).state) (tree_of last.state) is.whole
     joined =
         let parent : (at rest p).state ≡ state.Split fraction = ap (λ (s : Subproblem). s.state) (sym (at_rest p (omega (arith, parent_before)))) ∙ parent_is in
-        let own : IsJoinedFrom (state.Split fraction) (tree_of_state (at rest r).state) (tree_of_state last.state) is.whole = subst (λ s. IsJoinedFrom s (tree_of_state (at rest r).state) (tree_of_state last.state) is.whole) parent is.joined in
-        subst (λ (s : Subproblem). IsJoined fraction (tree_of_state s.state) (tree_of_state last.state) is.whole) (sym (at_rest r (omega (arith, is.shorter)))) own
+        let own : IsJoinedFrom (state.Split fraction) (tree_of (at rest r).state) (tree_of last.state) is.whole = subst (λ s. IsJoinedFrom s (tree_of (at rest r).state) (tree_of last.state) is.whole) parent is.joined in
+        subst (λ (s : Subproblem). IsJoined fraction (tree_of s.state) (tree_of last.state) is.whole) (sym (at_rest r (omega (arith, is.shorter)))) own
 
     whole_is : (at after p).state ≡ state.Leaf (Split fraction.leg fraction.choice fraction.prices fraction.mixed joined.yes_box joined.no_box)
     whole_is = ap (λ (s : Subproblem). s.state) there ∙ joined.is
@@ -208,6 +215,7 @@ module _ (all rest : List Subproblem) (last : Subproblem) (origin : Origin) (par
 
     own_same : (k : ℕ) (s : State) → k < r → k ≢ p → HasItsParts all parts k s → HasItsParts after parts k s
     own_same k (state.Leaf leaf) less other own = tt
+    own_same k (state.Stopped s) less other own = tt
     own_same k (state.Waiting f) less other own = tt
     own_same k (state.Split f) less other own = has_parts k f less other own
 
@@ -228,6 +236,7 @@ module _ (all rest : List Subproblem) (last : Subproblem) (origin : Origin) (par
     -- neither of the two was split
     unsplit : (k : ℕ) (s : State) → k < length all → r ≤ k → (at all k).state ≡ s → ¬ (IsSplitState s)
     unsplit k (state.Leaf leaf) within late own split = split
+    unsplit k (state.Stopped s) within late own split = split
     unsplit k (state.Waiting f) within late own split = split
     unsplit k (state.Split f) within late own split =
         let its = subst (λ s. HasItsParts all parts k s) own (each k within).own in
@@ -236,7 +245,7 @@ module _ (all rest : List Subproblem) (last : Subproblem) (origin : Origin) (par
 
 -- ---- what is gathered stays gathered
 module _ (t : Tables) (root : Domains) (pivots : Option ℕ) (final : Option ℤ) (total : ℕ) (c : Chronicle) (all rest : List Subproblem) (last : Subproblem) (origin : Origin) (all_is : all ≡ rest ++ last ∷ []) (from_is : last.origin ≡ Some origin)
-    (are : AreGathered t root pivots final total c all) (after : List Subproblem) (is : IsFolded rest after origin.parent last.state) where
+    (are : AreGathered t root pivots final total c all) (after : List Subproblem) (is : IsFolded tree_of_state rest after origin.parent last.state) where
   abbrev own_links : (k : ℕ) → k < length all → IsLinked all c.parts k
   own_links k below = (are.numbered k below).linked
 
@@ -250,45 +259,45 @@ module _ (t : Tables) (root : Domains) (pivots : Option ℕ) (final : Option ℤ
   f = fraction all rest last origin c.parts all_is from_is own_links
 
   abbrev box : IsJoined f (tree_of_state (at all l).state) (tree_of_state last.state) is.whole
-  box = joined all rest last origin c.parts all_is from_is own_links after is
+  box = joined all rest last origin c.parts all_is from_is own_links tree_of_state after is
 
   abbrev whole : Tree
   whole = Split f.leg f.choice f.prices f.mixed box.yes_box box.no_box
 
   state_whole : (at after q).state ≡ state.Leaf whole
-  state_whole = whole_is all rest last origin c.parts all_is from_is own_links after is
+  state_whole = whole_is all rest last origin c.parts all_is from_is own_links tree_of_state after is
 
   state_parent : (at all q).state ≡ state.Split f
   state_parent = parent_is all rest last origin c.parts all_is from_is own_links
 
   inside : q < l
-  inside = parent_in all rest last origin c.parts all_is from_is own_links after is
+  inside = parent_in all rest last origin c.parts all_is from_is own_links tree_of_state after is
 
   total_is : length all ≡ suc (suc l)
   total_is = omega (arith, count all rest last origin c.parts all_is from_is own_links, is.shorter)
 
   stays : (k : ℕ) → k < l → k ≢ q → at after k ≡ at all k
-  stays = unlike all rest last origin c.parts all_is from_is own_links after is
+  stays = unlike all rest last origin c.parts all_is from_is own_links tree_of_state after is
 
   origin_stays : (k : ℕ) → k < l → (at after k).origin ≡ (at all k).origin
-  origin_stays = origin_same all rest last origin c.parts all_is from_is own_links after is
+  origin_stays = origin_same all rest last origin c.parts all_is from_is own_links tree_of_state after is
 
   node_parent : (c.made q).node ≡ node_of (state.Split f)
   node_parent = (are.numbered q (omega (arith, inside, total_is))).node ∙ ap node_of state_parent
 
   -- ---- both parts
-  first_origin : (at all l).origin ≡ Some (record { parent = q; step = step_into (leg_on f.leg f.choice) true })
-  first_origin = ap (λ j. (at all j).origin) (sym (first_place all rest last origin c.parts all_is from_is own_links after is)) ∙ (has all rest last origin c.parts all_is from_is own_links).with_pair
+  pub first_origin : (at all l).origin ≡ Some (record { parent = q; step = step_into (leg_on f.leg f.choice) true })
+  first_origin = ap (λ j. (at all j).origin) (sym (first_place all rest last origin c.parts all_is from_is own_links tree_of_state after is)) ∙ (has all rest last origin c.parts all_is from_is own_links).with_pair
 
-  second_origin : (at all (suc l)).origin ≡ Some (record { parent = q; step = step_into (leg_on f.leg f.choice) false })
-  second_origin = ap (λ j. (at all (suc j)).origin) (sym (first_place all rest last origin c.parts all_is from_is own_links after is)) ∙ (has all rest last origin c.parts all_is from_is own_links).without
+  pub second_origin : (at all (suc l)).origin ≡ Some (record { parent = q; step = step_into (leg_on f.leg f.choice) false })
+  second_origin = ap (λ j. (at all (suc j)).origin) (sym (first_place all rest last origin c.parts all_is from_is own_links tree_of_state after is)) ∙ (has all rest last origin c.parts all_is from_is own_links).without
 
   second_is : at all (suc l) ≡ last
   second_is = ap (λ j. at all j) (sym is.shorter) ∙ at_last all rest last origin c.parts all_is from_is own_links
 
   -- what is known of a part with this number
   module _ (k : ℕ) (taken : Bool) (below : k < length all) (its : (at all k).origin ≡ Some (record { parent = q; step = step_into (leg_on f.leg f.choice) taken })) (late : l ≤ k) where
-    part_keeps : (c.made k).keeps ≡ part (c.made q).keeps f.leg f.choice taken
+    pub part_keeps : (c.made k).keeps ≡ part (c.made q).keeps f.leg f.choice taken
     part_keeps = (subst (λ o. KeepsBy t root c.made k o) its (are.numbered k below).keeps).1
 
     part_right : IsRight t pivots final (part (c.made q).keeps f.leg f.choice taken) f.prices (at all k).state
@@ -299,7 +308,7 @@ module _ (t : Tables) (root : Domains) (pivots : Option ℕ) (final : Option ℤ
 
     part_gathered : gathered_at (c.made k).keeps (at all k).state ≡ worked_in (part (c.made q).keeps f.leg f.choice taken) (tree_of_state (at all k).state)
     part_gathered =
-        gathered_tree (c.made k).keeps (at all k).state (unsplit all rest last origin c.parts all_is from_is own_links after is k (at all k).state below late refl)
+        gathered_tree (c.made k).keeps (at all k).state (unsplit all rest last origin c.parts all_is from_is own_links tree_of_state after is k (at all k).state below late refl)
         ∙ ap (λ d. worked_in d (tree_of_state (at all k).state)) part_keeps
 
   first_tree : IsPart t pivots final (part (c.made q).keeps f.leg f.choice true) f.prices box.yes_box.value × AreSearched t (part (c.made q).keeps f.leg f.choice true) box.yes_box.value
@@ -346,7 +355,7 @@ module _ (t : Tables) (root : Domains) (pivots : Option ℕ) (final : Option ℤ
     numbered = λ k less.
         let old = are.numbered k (omega (arith, less, total_is)) in
         record {
-          linked = links all rest last origin c.parts all_is from_is own_links after is k less;
+          linked = links all rest last origin c.parts all_is from_is own_links tree_of_state after is k less;
           node = elim (cases_eq k q) [
             | inl same ↦ subst (λ j. (c.made j).node ≡ node_of (at after j).state) (sym same) (node_parent ∙ sym (ap node_of state_whole))
             | inr other ↦ old.node ∙ sym (ap (λ (s : Subproblem). node_of s.state) (stays k less other))
@@ -388,5 +397,6 @@ first_of_all t root pivots final total c all rest last whole all_is from_is whol
   where
     not_split : (s : State) → HasItsParts all c.parts 0 s → length all ≡ 1 → ¬ (IsSplitState s)
     not_split (state.Leaf leaf) own one split = split
+    not_split (state.Stopped s) own one split = split
     not_split (state.Waiting f) own one split = split
     not_split (state.Split f) own one split = absurd (omega (arith, own.within, one))

@@ -1,7 +1,8 @@
--- Subproblems that were just made: none of them is a split, and a leaf among them doesn't wait.
+-- Subproblems that were just made: none of them is a split, and one that is a leaf or stays open doesn't wait.
 use Rattle.std.proofs.Common.{ℕ, List, Option, ℤ}
 use Rattle.fleet_model.specs.Kept.{Domains}
 use Rattle.fleet_model.specs.declared.tables.Tables.{Tables}
+use Rattle.dual_bound.specs.declared.nodes.Node.TheVariants as node
 use Rattle.dual_bound.specs.declared.prices.Prices.{Prices}
 use Rattle.dual_bound.specs.declared.trees.Cause.{Cause}
 use Rattle.dual_bound.specs.declared.trees.Cause.TheVariants as cause
@@ -16,20 +17,24 @@ use Rattle.node_bounding.specs.declared.states.State.{State}
 use Rattle.node_bounding.specs.declared.states.State.TheVariants as state
 use Rattle.branch_bound.specs.declared.subproblems.Subproblem.{Subproblem}
 
--- ---- leaves
-stopped_waits_not : (t : Tables) (keeps : Domains) (prices : Prices) (why : Cause) (worth : ℤ) → IsStoppedBy why → ¬ (IsOpenWorth t keeps prices why worth)
+-- ---- subproblems that stay open
+pub stopped_waits_not : (t : Tables) (keeps : Domains) (prices : Prices) (why : Cause) (worth : ℤ) → IsStoppedBy why → ¬ (IsOpenWorth t keeps prices why worth)
 stopped_waits_not t keeps prices (cause.Nodes mixed) worth stopped open_worth = stopped
 stopped_waits_not t keeps prices (cause.Pivots made) worth stopped open_worth = open_worth
 stopped_waits_not t keeps prices (cause.Grew made row column) worth stopped open_worth = open_worth
 stopped_waits_not t keeps prices (cause.Lift step at) worth stopped open_worth = open_worth
 
+pub stopped_level : (t : Tables) (keeps : Domains) (level : Option ℤ) (prices : Prices) (why : Cause) → IsStoppedBy why → IsAtLevel t level keeps (node.Open prices why)
+stopped_level t keeps level prices why stopped = λ worth open_worth. absurd (stopped_waits_not t keeps prices why worth stopped open_worth)
+
+-- ---- leaves
 module _ (t : Tables) (keeps : Domains) where
   pub leaf_waits_not : (leaf : Tree) (parts number : ℕ) (worth : ℤ) → IsDoneLeaf leaf → ¬ (WaitsAs t keeps (own_node leaf) parts number worth)
   leaf_waits_not (tree.Bare leg) parts number worth done waits = waits
   leaf_waits_not tree.Sole parts number worth done waits = waits
   leaf_waits_not (tree.Refuted prices) parts number worth done waits = waits
   leaf_waits_not (tree.Priced prices) parts number worth done waits = waits
-  leaf_waits_not (tree.Open prices why) parts number worth done waits = stopped_waits_not t keeps prices why worth done waits
+  leaf_waits_not (tree.Open prices why) parts number worth done waits = done
   leaf_waits_not (tree.Trim' leg choice p with_pair q without) parts number worth done waits = done
   leaf_waits_not (tree.Split' leg choice prices mixed p with_pair q without) parts number worth done waits = done
 
@@ -38,7 +43,7 @@ module _ (t : Tables) (keeps : Domains) where
   leaf_level level tree.Sole done = tt
   leaf_level level (tree.Refuted prices) done = tt
   leaf_level level (tree.Priced prices) done = tt
-  leaf_level level (tree.Open prices why) done = λ worth open_worth. absurd (stopped_waits_not t keeps prices why worth done open_worth)
+  leaf_level level (tree.Open prices why) done = absurd done
   leaf_level level (tree.Trim' leg choice p with_pair q without) done = absurd done
   leaf_level level (tree.Split' leg choice prices mixed p with_pair q without) done = absurd done
 
@@ -47,7 +52,7 @@ module _ (t : Tables) (keeps : Domains) where
   leaf_reached cost tree.Sole done = tt
   leaf_reached cost (tree.Refuted prices) done = tt
   leaf_reached cost (tree.Priced prices) done = tt
-  leaf_reached cost (tree.Open prices why) done = λ worth open_worth. absurd (stopped_waits_not t keeps prices why worth done open_worth)
+  leaf_reached cost (tree.Open prices why) done = absurd done
   leaf_reached cost (tree.Trim' leg choice p with_pair q without) done = absurd done
   leaf_reached cost (tree.Split' leg choice prices mixed p with_pair q without) done = absurd done
 
@@ -64,15 +69,18 @@ module _ (t : Tables) (count : ℕ) (made : ℕ → Worked) (found : ℕ → Opt
   -- ---- all that were just made
   pub fresh_turn : (s : State) → IsFresh s → IsInTurn t count made found parts k (node_of s)
   fresh_turn (state.Leaf leaf) fresh = leaf_turn leaf fresh
+  fresh_turn (state.Stopped s) fresh = tt
   fresh_turn (state.Waiting f) fresh = tt
   fresh_turn (state.Split f) fresh = absurd fresh
 
 pub fresh_parts : (all : List Subproblem) (parts : ℕ → ℕ) (k : ℕ) (s : State) → IsFresh s → HasItsParts all parts k s
 fresh_parts all parts k (state.Leaf leaf) fresh = tt
+fresh_parts all parts k (state.Stopped s) fresh = tt
 fresh_parts all parts k (state.Waiting f) fresh = tt
 fresh_parts all parts k (state.Split f) fresh = absurd fresh
 
 pub fresh_single : (s : State) → IsFresh s → IsSingle s
 fresh_single (state.Leaf leaf) fresh = fresh
+fresh_single (state.Stopped s) fresh = fresh
 fresh_single (state.Waiting f) fresh = tt
 fresh_single (state.Split f) fresh = absurd fresh

@@ -1,6 +1,8 @@
 pub mod AllNodes
 pub mod Beginning
 pub mod Bounds
+pub mod ClosedTrees
+pub mod Closing
 pub mod Comes
 pub mod Folding
 pub mod Fresh

@@ -39,6 +39,7 @@ pub record IsReady (all : List Subproblem) (rank : Rank) (f : Fraction) : Type 0
 
 fraction_of : (s : State) (worth : ℤ) → IsWaitingAt s worth → (f : Fraction) × (s ≡ state.Waiting f) × (f.worth ≡ worth)
 fraction_of (state.Leaf leaf) worth waits = absurd waits
+fraction_of (state.Stopped s) worth waits = absurd waits
 fraction_of (state.Waiting f) worth waits = (f, refl, waits)
 fraction_of (state.Split f) worth waits = absurd waits
 

@@ -78,6 +78,7 @@ module _ (t : Tables) (root : Domains) (all grown : List Subproblem) (c d : Chro
 
   own_old : (k : ℕ) (s : State) → k < n → k ≢ b → HasItsParts all c.parts k s → HasItsParts grown parts k s
   own_old k (state.Leaf leaf) less other has = tt
+  own_old k (state.Stopped s) less other has = tt
   own_old k (state.Waiting g) less other has = tt
   own_old k (state.Split g) less other has = parts_stand k (leg_on g.leg g.choice) less other has
 

@@ -36,7 +36,6 @@ use Rattle.dual_bound.specs.declared.solved.Solved.{Solved}
 use Rattle.dual_bound.specs.declared.solved.Solved.TheVariants as solved
 use Rattle.branch_bound.proofs.AllNodes.{all_below, all_closed, any_below, at_node, at_nodes, nodes_twice, none_open, searched_below, split_level, splits_below, waiting_level}
 use Rattle.node_bounding.proofs.Closings.{closed_caused, closed_depth, closed_gaps, closed_known, closed_order, closed_soles, closed_sound, closed_splits, closed_trimmed, found_closed}
-use Rattle.node_bounding.proofs.Orders.{no_more_same}
 use Rattle.node_bounding.proofs.RemovedPairs.{below_part, on_top}
 
 -- without a plan nothing is below a cost
@@ -67,7 +66,7 @@ module _ (t : Tables) (nodes : ℕ) (pivots : Option ℕ) (best : Option Plan) (
   root = kept_after (all_pairs t) is.removals
 
   grown : IsGrownTree t root pivots (cost_of best) is.comes.count is.comes.chronicle is.rest
-  grown = is.comes.grown (cost_of best) (no_more_same (cost_of best))
+  grown = is.comes.grown
 
   -- ---- the tree before it is closed
   all_part : IsPart t pivots (cost_of best) (all_pairs t) (zero_prices t) whole

@@ -30,7 +30,7 @@ use Rattle.branch_bound.specs.declared.subproblems.Origin.{Origin}
 use Rattle.node_bounding.specs.declared.states.State.{State}
 use Rattle.node_bounding.specs.declared.states.State.TheVariants as state
 use Rattle.branch_bound.specs.declared.subproblems.Subproblem.{Subproblem}
-use Rattle.branch_bound.proofs.Fresh.{fresh_single, fresh_turn, leaf_level, leaf_waits_not}
+use Rattle.branch_bound.proofs.Fresh.{fresh_single, fresh_turn, leaf_level, leaf_waits_not, stopped_level, stopped_waits_not}
 use Rattle.node_bounding.proofs.Orders.{lesser_no_more, no_more_on, no_more_same, one_ceiling}
 use Rattle.branch_bound.proofs.Parting.{cost_no_less, part_no_less}
 use Rattle.branch_bound.proofs.Updates.{As, by_new, each_three, moved, put_at, put_else, put_here, put_three, same_best, three_first, three_here, three_old, three_second}
@@ -220,6 +220,7 @@ module _ (t : Tables) (root : Domains) (pivots : Option ℕ) (best mid after : O
   -- one that waits when the next is split is behind it
   waits_behind : (j : ℕ) (s : State) (worth : ℤ) → j < n → j ≢ b → (at all j).state ≡ s → IsSingle s → WaitsAs t (c.made j).keeps (node_of s) (c.parts j) n worth → IsNextBefore f.worth b worth j
   waits_behind j (state.Leaf leaf) worth less other own single waits = absurd (leaf_waits_not t (c.made j).keeps leaf (c.parts j) n worth single waits)
+  waits_behind j (state.Stopped s) worth less other own single waits = absurd (stopped_waits_not t (c.made j).keeps s.prices s.why worth single waits)
   waits_behind j (state.Waiting g) worth less other own single waits = behind j g worth less other own waits
   waits_behind j (state.Split g) worth less other own single waits =
       let turn : IsSplitInTurn t n c.made c.found c.parts j g.leg g.choice g.prices = subst (λ m. IsInTurn t n c.made c.found c.parts j m) ((numbered j less).node ∙ ap node_of own) (told.turns j less) in
@@ -274,6 +275,7 @@ module _ (t : Tables) (root : Domains) (pivots : Option ℕ) (best mid after : O
 
   level_old : (k : ℕ) (s : State) → k < n → k ≢ b → (at all k).state ≡ s → IsSingle s → IsAtLevel t (Some f.worth) (c.made k).keeps (node_of s)
   level_old k (state.Leaf leaf) less other own single = leaf_level t (c.made k).keeps (Some f.worth) leaf single
+  level_old k (state.Stopped s) less other own single = stopped_level t (c.made k).keeps (Some f.worth) s.prices s.why single
   level_old k (state.Waiting g) less other own single = λ worth rounded. no_less worth (behind k g worth less other own rounded)
     where
       no_less : (worth : ℤ) → IsNextBefore f.worth b worth k → f.worth ≤ℤ worth
@@ -285,6 +287,7 @@ module _ (t : Tables) (root : Domains) (pivots : Option ℕ) (best mid after : O
   -- a part that waits has a rounded worth that is no less
   level_part : (taken : Bool) (s : State) (before end : Option Plan) → IsExamined t pivots before end (narrowed keeps (step_into pair taken)) f.prices s → IsAtLevel t (Some f.worth) (narrowed keeps (step_into pair taken)) (node_of s)
   level_part taken (state.Leaf leaf) before end made_as = leaf_level t _ (Some f.worth) leaf made_as.fresh
+  level_part taken (state.Stopped s) before end made_as = stopped_level t _ (Some f.worth) s.prices s.why made_as.fresh
   level_part taken (state.Waiting g) before end made_as = λ worth rounded.
       let own : IsFractional t (narrowed keeps (step_into pair taken)) g = made_as.right (cost_of end) (no_more_same (cost_of end)) in
       part_no_less t keeps (step_into pair taken) f.prices g.prices g.mixed f.worth worth fraction.split.best.good.proper own.split.best fraction.rounded rounded

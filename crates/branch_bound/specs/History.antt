@@ -1,7 +1,6 @@
 -- The history of a search: what its lists of subproblems come from, and what it says of them.
-use Rattle.std.specs.Prelude.{Box, ◌≡◌, ◌≢◌, ℕ, suc, ◌+◌, ◌<◌, ◌≤◌, ◌⊎◌, true, false, if◌then◌else◌, List, [], ◌∷◌, ◌++◌, All, length, ⊤, Option, Some, None, IfSome, IsSomeAnd, ℤ, ◌≤ℤ◌, zero}
+use Rattle.std.specs.Prelude.{◌≡◌, ◌≢◌, ℕ, suc, ◌+◌, ◌<◌, ◌≤◌, ◌⊎◌, true, false, if◌then◌else◌, List, [], ◌∷◌, ◌++◌, All, length, ⊤, Option, Some, None, IfSome, IsSomeAnd, ℤ, ◌≤ℤ◌}
 use Rattle.std.specs.List.Sorted.{IsPermutation}
-use Rattle.std.specs.declared.alloc.Global.{Global}
 use Rattle.sums.specs.Places.{list_below}
 use Rattle.frac_row.specs.Ratio.{IsCeiling}
 use Rattle.fleet_model.specs.Kept.{Domains, narrowed}
@@ -13,11 +12,9 @@ use Rattle.dual_bound.specs.Worth.{worth_of}
 use Rattle.dual_bound.specs.declared.nodes.Node.{Node}
 use Rattle.dual_bound.specs.declared.nodes.Node.TheVariants as node
 use Rattle.dual_bound.specs.declared.prices.Prices.{Prices}
-use Rattle.dual_bound.specs.declared.trees.Cause.TheVariants as cause
-use Rattle.dual_bound.specs.declared.trees.Tree.{Split, Tree}
-use Rattle.dual_bound.specs.declared.trees.Tree.TheVariants as tree
+use Rattle.dual_bound.specs.declared.trees.Tree.{Tree}
 use Rattle.node_bounding.specs.Causes.{zero_prices}
-use Rattle.node_bounding.specs.Examined.{IsDoneLeaf}
+use Rattle.node_bounding.specs.Examined.{IsDoneLeaf, IsStoppedBy}
 use Rattle.node_bounding.specs.Found.{IsEndOf}
 use Rattle.node_bounding.specs.Made.{IsInTurn, IsMadeAs, best_before}
 use Rattle.branch_bound.specs.Ranks.{AreRanks, ComesBefore, IsOver, ranks_with}
@@ -86,6 +83,7 @@ pub record HasParts (all : List Subproblem) (parts : ℕ → ℕ) (k : ℕ) (pai
 
 abbrev pub HasItsParts : List Subproblem → (ℕ → ℕ) → ℕ → State → Type 0
 HasItsParts all parts k (state.Leaf leaf) = ⊤
+HasItsParts all parts k (state.Stopped s) = ⊤
 HasItsParts all parts k (state.Waiting f) = ⊤
 HasItsParts all parts k (state.Split f) = HasParts all parts k (leg_on f.leg f.choice)
 
@@ -123,6 +121,7 @@ IsRightAt t pivots final all c k = IsRight t pivots final (c.made k).keeps (pric
 -- while a search goes on, its leaves are of one node each
 abbrev pub IsSingle : State → Type 0
 IsSingle (state.Leaf leaf) = IsDoneLeaf leaf
+IsSingle (state.Stopped s) = IsStoppedBy s.why
 IsSingle (state.Waiting f) = ⊤
 IsSingle (state.Split f) = ⊤
 
@@ -149,6 +148,7 @@ pub record IsDone (t : Tables) (nodes : ℕ) (pivots : Option ℕ) (root : Domai
 -- a subproblem waits to be split, and this holds of its fraction
 abbrev pub WaitsWith : (Fraction → Type 0) → State → Type 0
 WaitsWith P (state.Leaf leaf) = ⊥
+WaitsWith P (state.Stopped s) = ⊥
 WaitsWith P (state.Waiting f) = P f
 WaitsWith P (state.Split f) = ⊥
 
@@ -164,6 +164,7 @@ pub record IsPut (before after : Search) (origin : Option Origin) (one : State) 
 -- a subproblem that waited is split
 abbrev pub split_state : State → State
 split_state (state.Leaf leaf) = state.Leaf leaf
+split_state (state.Stopped s) = state.Stopped s
 split_state (state.Waiting f) = state.Split f
 split_state (state.Split f) = state.Split f
 
@@ -187,62 +188,6 @@ pub record IsSplitSearch (before after : Search) (number : ℕ) (pair : Pair) (y
       → after.waiting.keys ≡ ranks_with (ranks_with rest (length before.made.items) yes) (suc (length before.made.items)) no
 
 -- ---- the tree
--- the tree of a subproblem that was not split
-abbrev pub tree_of_state : State → Tree
-tree_of_state (state.Leaf leaf) = leaf
-tree_of_state (state.Waiting f) = tree.Open f.prices (cause.Nodes f.mixed)
-tree_of_state (state.Split f) = tree.Open f.prices (cause.Nodes f.mixed)
-
--- a subproblem was split, and this is its tree with those of its parts
-pub record IsJoined (f : Fraction) (with_pair without : Tree) (joined : State) : Type 0 where
-  pub yes_box : Box Tree Global
-  pub no_box : Box Tree Global
-  pub is : joined ≡ state.Leaf (Split f.leg f.choice f.prices f.mixed yes_box no_box)
-  pub yes_is : yes_box.value ≡ with_pair
-  pub no_is : no_box.value ≡ without
-
-abbrev pub IsJoinedFrom : State → Tree → Tree → State → Type 0
-IsJoinedFrom (state.Leaf leaf) with_pair without joined = ⊥
-IsJoinedFrom (state.Waiting f) with_pair without joined = ⊥
-IsJoinedFrom (state.Split f) with_pair without joined = IsJoined f with_pair without joined
-
--- a subproblem was split, or was not
-abbrev pub IsSplitState : State → Type 0
-IsSplitState (state.Leaf leaf) = ⊥
-IsSplitState (state.Waiting f) = ⊥
-IsSplitState (state.Split f) = ⊤
-
--- A list whose last subproblem was taken, and then the one before it: the trees of both are put together in the one that
--- they are parts of.
-pub record IsFolded (before after : List Subproblem) (parent : ℕ) (last : State) : Type 0 where
-  pub shorter : length before ≡ suc (length after)
-  pub whole : State
-  pub joined : IsJoinedFrom (at before parent).state (tree_of_state (at before (length after)).state) (tree_of_state last) whole
-  pub there : at after parent ≡ record { origin = (at before parent).origin; state = whole }
-  pub same : (k : ℕ) → k < length after → k ≢ parent → at after k ≡ at before k
-
--- the subproblems of the trees that stand in the list, each of those that have none yet by itself
-abbrev pub gathered_at : Domains → State → List Worked
-gathered_at keeps (state.Leaf leaf) = worked_in keeps leaf
-gathered_at keeps (state.Waiting f) = record { keeps = keeps; node = node_of (state.Waiting f) } ∷ []
-gathered_at keeps (state.Split f) = record { keeps = keeps; node = node_of (state.Split f) } ∷ []
-
-unfoldable pub gathered : (ℕ → Worked) → List Subproblem → ℕ → List Worked
-gathered made all zero = []
-gathered made all (suc k) = gathered made all k ++ gathered_at (made k).keeps (at all k).state
-
--- a list in which the parts of some splits are put together to trees, and taken from its end
-pub record AreGathered (t : Tables) (root : Domains) (pivots : Option ℕ) (final : Option ℤ) (count : ℕ) (c : Chronicle) (all : List Subproblem) : Type 0 where
-  pub numbered : (k : ℕ) → k < length all → IsNumbered t root all c k
-  pub right : (k : ℕ) → k < length all → IsRightAt t pivots final all c k
-  pub same : IsPermutation (list_below c.made count) (gathered c.made all (length all))
-
--- some parts link it
-pub record AreLinked (all : List Subproblem) : Type 0 where
-  pub some : 0 < length all
-  pub parts : ℕ → ℕ
-  pub each : (k : ℕ) → k < length all → IsLinked all parts k
-
 -- the tree of the first subproblem
 pub record IsGrownTree (t : Tables) (root : Domains) (pivots : Option ℕ) (final : Option ℤ) (count : ℕ) (c : Chronicle) (tree : Tree) : Type 0 where
   pub part : IsPart t pivots final root (zero_prices t) tree
@@ -263,5 +208,5 @@ pub record ComesTo (t : Tables) (nodes : ℕ) (pivots : Option ℕ) (root : Doma
   pub twice : count ≡ suc (splits + splits)
   pub chronicle : Chronicle
   pub told : IsTold t best count chronicle
-  pub grown : (final : Option ℤ) → IsNoMore (cost_of best) final → IsGrownTree t root pivots final count chronicle tree
+  pub grown : IsGrownTree t root pivots (cost_of best) count chronicle tree
   pub over : (splits ≡ nodes) ⊎ ((k : ℕ) → k < count → IsReachedNode t (cost_of best) (chronicle.made k).keeps (chronicle.made k).node)

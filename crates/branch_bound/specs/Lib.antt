@@ -1,3 +1,4 @@
+pub mod Growing
 pub mod History
 pub mod Ranks
 pub mod Search

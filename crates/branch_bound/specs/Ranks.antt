@@ -28,6 +28,7 @@ pub record IsNoLater (rank other : Rank) : Type 0 where
 -- a subproblem waits, of this rounded worth
 abbrev pub IsWaitingAt : State → ℤ → Type 0
 IsWaitingAt (state.Leaf leaf) worth = ⊥
+IsWaitingAt (state.Stopped s) worth = ⊥
 IsWaitingAt (state.Waiting f) worth = f.worth ≡ worth
 IsWaitingAt (state.Split f) worth = ⊥
 
@@ -44,6 +45,7 @@ pub record AreRanks (all : List Subproblem) (ranks : List Rank) : Type 0 where
 -- the ranks once one more subproblem is made, with this number
 abbrev pub ranks_with : List Rank → ℕ → State → List Rank
 ranks_with ranks number (state.Leaf leaf) = ranks
+ranks_with ranks number (state.Stopped s) = ranks
 ranks_with ranks number (state.Waiting f) = insert_key rank_cmp ranks (record { worth = f.worth; number = number })
 ranks_with ranks number (state.Split f) = ranks
 

@@ -24,6 +24,7 @@ step_into pair taken = record { leg = pair.leg; choice = pair.choice; yes = take
 -- a subproblem is split by the pair of a step
 abbrev pub IsSplitBy : Step → State → Type 0
 IsSplitBy step (state.Leaf leaf) = ⊥
+IsSplitBy step (state.Stopped s) = ⊥
 IsSplitBy step (state.Waiting f) = ⊥
 IsSplitBy step (state.Split f) = (step.leg ≡ f.leg) × (step.choice ≡ f.choice)
 

@@ -1,5 +1,5 @@
 -- What is known of a closed tree and of the cheapest plan, when the search is over.
-use Rattle.std.specs.Prelude.{ℕ, List, All, Option, Some, None, IfSome}
+use Rattle.std.specs.Prelude.{◌≡◌, ℕ, List, All, Option, Some, None, IfSome}
 use Rattle.fleet_model.specs.Kept.{all_pairs}
 use Rattle.fleet_model.specs.declared.tables.Tables.{Tables}
 use Rattle.dual_bound.specs.OfTables.{IsOfTables}
@@ -8,6 +8,7 @@ use Rattle.cert_check.specs.Nodes.{nodes_of}
 use Rattle.cert_check.specs.Verdicts.{AreSound}
 use Rattle.presolve.specs.Removals.{AreRefuted, AreRemovals, first_place, kept_after}
 use Rattle.presolve.specs.declared.trims.Trim.{Trim as Removal}
+use Rattle.node_bounding.specs.Closing.{closed_by}
 use Rattle.node_bounding.specs.Found.{AnswersSole, LeavesGap}
 use Rattle.branch_bound.specs.History.{ComesTo}
 use Rattle.node_bounding.specs.Trims.{AreBelow}
@@ -30,7 +31,7 @@ pub record IsProvedBy (t : Tables) (best : Option Plan) (tree : Tree) : Type 0 w
   pub soles : All (AnswersSole t (cost_of best)) (nodes_of t tree)
   pub gaps : All (LeavesGap t (cost_of best)) (nodes_of t tree)
 
--- The tree of all pairs before its open leaves are closed, and the cheapest plan: below the removals it is that of a
+-- The tree of all pairs as it would be with no open leaf closed, and the cheapest plan: below the removals it is that of a
 -- search with at most so many splits, and so many pivots for each subproblem.
 pub record IsAllFound (t : Tables) (nodes : ℕ) (pivots : Option ℕ) (best : Option Plan) (whole : Tree) : Type 0 where
   pub removals : List Removal
@@ -39,3 +40,9 @@ pub record IsAllFound (t : Tables) (nodes : ℕ) (pivots : Option ℕ) (best : O
   pub below : AreBelow removals rest whole
   pub refuted : AreRefuted t (all_pairs t) removals
   pub comes : ComesTo t nodes pivots (kept_after (all_pairs t) removals) best rest
+
+-- the tree of all pairs, with each open leaf closed whose rounded worth reaches the cost of the cheapest plan
+pub record IsAllClosed (t : Tables) (nodes : ℕ) (pivots : Option ℕ) (best : Option Plan) (tree : Tree) : Type 0 where
+  pub left : Tree
+  pub found : IsAllFound t nodes pivots best left
+  pub closed : tree ≡ closed_by t (cost_of best) left

@@ -133,7 +133,7 @@ fn split_pair(subproblem: &Subproblem) -> Pair
             leg: fraction.leg,
             choice: fraction.choice,
         },
-        State::Leaf(_) | State::Split(_) => unreachable!(),
+        State::Leaf(_) | State::Stopped(_) | State::Split(_) => unreachable!(),
     }
 }
 
@@ -165,7 +165,7 @@ fn part(
             kept,
             &fraction.prices,
         )?,
-        State::Leaf(_) | State::Split(_) => unreachable!(),
+        State::Leaf(_) | State::Stopped(_) | State::Split(_) => unreachable!(),
     };
     kept.undo(undo);
     Ok(made)
@@ -215,6 +215,6 @@ fn rank(waiting: &mut BTreeSet<Rank>, number: usize, state: &State) -> Result<()
             waiting.insert(Rank { worth, number })?;
             Ok(())
         }
-        State::Leaf(_) | State::Split(_) => Ok(()),
+        State::Leaf(_) | State::Stopped(_) | State::Split(_) => Ok(()),
     }
 }

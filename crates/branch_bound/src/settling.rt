@@ -8,7 +8,7 @@ ghost use Rattle.branch_bound.specs.Settled.{IsProvedBy, plan_of};
 ghost use Rattle.branch_bound.specs.Solved.{IsRight};
 ghost use Rattle.dual_bound.specs.Solved.{tree_of};
 
-use cert_check::{Checked, check};
+use cert_check::{Checked, check_with_cost};
 use dual_bound::{Solved, Tree};
 use fleet_model::Tables;
 use node_bounding::Plan;
@@ -26,14 +26,14 @@ pub(crate) fn settle(tables: &Tables, best: Option<Plan>, tree: Tree) -> Solved
     }
 }
 
-// A plan with its bound.
+// A plan with its bound. The search judged the plan and knows its cost.
 fn planned(tables: &Tables, plan: Plan, tree: Tree) -> Solved
     requires { IsProvedBy tables.now (Some plan) tree }
     ensures right { IsRight tables.now result }
     ensures plan { plan_of result ≡ Some plan }
     ensures tree { tree_of result ≡ tree }
 {
-    match check(tables, Some(&plan.assignment), &tree) {
+    match check_with_cost(tables, Some(plan.cost), &tree) {
         Checked::Holds { bound: Some(bound) } => Solved::Planned {
             assignment: plan.assignment,
             cost: plan.cost,
@@ -52,7 +52,7 @@ fn unplanned(tables: &Tables, tree: Tree) -> Solved
     ensures plan { plan_of result ≡ None }
     ensures tree { tree_of result ≡ tree }
 {
-    match check(tables, None, &tree) {
+    match check_with_cost(tables, None, &tree) {
         Checked::Holds { bound: Some(bound) } => Solved::Unsettled { bound, tree },
         Checked::Holds { bound: None } => Solved::Infeasible { tree },
         Checked::Broken { .. } => unreachable!(),

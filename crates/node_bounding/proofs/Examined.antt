@@ -20,7 +20,7 @@ use Rattle.dual_bound.specs.WrittenOrder.{IsNodeInOrder}
 use Rattle.dual_bound.specs.declared.nodes.Node.{Node}
 use Rattle.dual_bound.specs.declared.nodes.Node.TheVariants as ordered
 use Rattle.cert_check.specs.Rules.{Reaches}
-use Rattle.node_bounding.specs.Examined.{IsDoneLeaf, IsExamined, IsFoundHere, IsWholeOffered}
+use Rattle.node_bounding.specs.Examined.{IsDoneLeaf, IsExamined, IsFoundHere, IsStoppedBy, IsStoppedWith, IsWholeOffered}
 use Rattle.node_bounding.specs.Found.{EndsAt}
 use Rattle.node_bounding.specs.Made.{CouldBeSplit, IsMadeAs}
 use Rattle.node_bounding.specs.Offers.{IsNoSole, IsOffered, IsPlanOf, IsSoleOffered, IsTaken}
@@ -68,24 +68,48 @@ module _ (t : Tables) (pivots : Option ℕ) (best : Option Plan) (plan : IfSome 
       (λ final less. leaf_part t pivots final keeps above (tree.Priced prices) refl refl is.good.known (all_one (IsNodeInOrder t) (ordered.Priced prices) is.good.in_order)
       (priced_sound t final keeps prices is.good.proper searched.some_pair (reaches_on t keeps prices (cost_of best) final reached less)) (answers_none t final keeps (tree.Priced prices) (λ e. cc)) tt)
 
-  -- a leaf whose run gave no prices
-  pub stopped_leaf : (prices : Prices) (why : Cause) → IsSearched t keeps → AreGood t above → prices ≡ above → IsWhyStopped t keeps pivots why → IsExamined t pivots best best keeps above (state.Leaf (tree.Open prices why))
-  stopped_leaf prices (cause.Nodes mixed) searched good same is = absurd is.stopped
-  stopped_leaf prices (cause.Pivots made) searched good same is =
-      let own : AreGood t prices = subst (AreGood t) (sym same) good in
-      at_leaf (tree.Open prices (cause.Pivots made)) tt (tt, refl) searched
-      (λ final less. leaf_part t pivots final keeps above (tree.Open prices (cause.Pivots made)) refl refl (own.known, tt) (all_one (IsNodeInOrder t) (ordered.Open prices (cause.Pivots made)) (own.in_order, is.in_order))
-      (open_sound t final keeps prices (cause.Pivots made) own.proper searched.some_pair tt tt) (answers_none t final keeps (tree.Open prices (cause.Pivots made)) (λ e. cc)) (record { searched = searched; stopped = is.stopped; nearest = same }))
-  stopped_leaf prices (cause.Grew made row column) searched good same is =
-      let own : AreGood t prices = subst (AreGood t) (sym same) good in
-      at_leaf (tree.Open prices (cause.Grew made row column)) tt (tt, refl) searched
-      (λ final less. leaf_part t pivots final keeps above (tree.Open prices (cause.Grew made row column)) refl refl (own.known, tt) (all_one (IsNodeInOrder t) (ordered.Open prices (cause.Grew made row column)) (own.in_order, is.in_order))
-      (open_sound t final keeps prices (cause.Grew made row column) own.proper searched.some_pair tt tt) (answers_none t final keeps (tree.Open prices (cause.Grew made row column)) (λ e. cc)) (record { searched = searched; stopped = is.stopped; nearest = same }))
-  stopped_leaf prices (cause.Lift step at) searched good same is =
-      let own : AreGood t prices = subst (AreGood t) (sym same) good in
-      at_leaf (tree.Open prices (cause.Lift step at)) tt (tt, refl) searched
-      (λ final less. leaf_part t pivots final keeps above (tree.Open prices (cause.Lift step at)) refl refl (own.known, tt) (all_one (IsNodeInOrder t) (ordered.Open prices (cause.Lift step at)) (own.in_order, is.in_order))
-      (open_sound t final keeps prices (cause.Lift step at) own.proper searched.some_pair tt tt) (answers_none t final keeps (tree.Open prices (cause.Lift step at)) (λ e. cc)) (record { searched = searched; stopped = is.stopped; nearest = same }))
+  -- its run gave no prices, and it takes those above
+  stopped_parts : (prices : Prices) (why : Cause) → IsSearched t keeps → AreGood t above → prices ≡ above → IsWhyStopped t keeps pivots why
+      → IsStoppedBy why × IsMadeAs t (cost_of best) keeps (ordered.Open prices why) None × ((final : Option ℤ) → IsPart t pivots final keeps above (tree.Open prices why))
+  stopped_parts prices (cause.Nodes mixed) searched good same is = absurd is.stopped
+  stopped_parts prices (cause.Pivots made) searched good same is =
+      let own : AreGood t prices = subst (AreGood t) (sym same) good in (
+        tt,
+        (tt, refl),
+        λ final. leaf_part t pivots final keeps above (tree.Open prices (cause.Pivots made)) refl refl (own.known, tt) (all_one (IsNodeInOrder t) (ordered.Open prices (cause.Pivots made)) (own.in_order, is.in_order))
+            (open_sound t final keeps prices (cause.Pivots made) own.proper searched.some_pair tt tt) (answers_none t final keeps (tree.Open prices (cause.Pivots made)) (λ e. cc)) (record { searched = searched; stopped = is.stopped; nearest = same }),
+      )
+  stopped_parts prices (cause.Grew made row column) searched good same is =
+      let own : AreGood t prices = subst (AreGood t) (sym same) good in (
+        tt,
+        (tt, refl),
+        λ final. leaf_part t pivots final keeps above (tree.Open prices (cause.Grew made row column)) refl refl (own.known, tt) (all_one (IsNodeInOrder t) (ordered.Open prices (cause.Grew made row column)) (own.in_order, is.in_order))
+            (open_sound t final keeps prices (cause.Grew made row column) own.proper searched.some_pair tt tt) (answers_none t final keeps (tree.Open prices (cause.Grew made row column)) (λ e. cc)) (record { searched = searched; stopped = is.stopped; nearest = same }),
+      )
+  stopped_parts prices (cause.Lift step at) searched good same is =
+      let own : AreGood t prices = subst (AreGood t) (sym same) good in (
+        tt,
+        (tt, refl),
+        λ final. leaf_part t pivots final keeps above (tree.Open prices (cause.Lift step at)) refl refl (own.known, tt) (all_one (IsNodeInOrder t) (ordered.Open prices (cause.Lift step at)) (own.in_order, is.in_order))
+            (open_sound t final keeps prices (cause.Lift step at) own.proper searched.some_pair tt tt) (answers_none t final keeps (tree.Open prices (cause.Lift step at)) (λ e. cc)) (record { searched = searched; stopped = is.stopped; nearest = same }),
+      )
+
+  pub stopped_here : (prices : Prices) (why : Cause) (made : State) → IsSearched t keeps → AreGood t above → prices ≡ above → IsWhyStopped t keeps pivots why → IsStoppedWith t keeps prices why made → IsExamined t pivots best best keeps above made
+  stopped_here prices why (state.Leaf leaf) searched good same is stays = absurd stays
+  stopped_here prices why (state.Stopped s) searched good same is stays =
+      let parts = stopped_parts s.prices s.why searched good (stays.0 ∙ same) (subst (IsWhyStopped t keeps pivots) (sym stays.1) is) in
+      record {
+        found = None;
+        fresh = parts.0;
+        plan = plan;
+        cheapest = refl;
+        is = parts.1;
+        right = λ final less. (parts.2 final, searched, stays.2);
+        place = inl refl;
+        replaced = inl refl;
+      }
+  stopped_here prices why (state.Waiting f) searched good same is stays = absurd stays
+  stopped_here prices why (state.Split f) searched good same is stays = absurd stays
 
   -- it waits to be split
   pub waiting : (f : Fraction) → IsSplit t keeps f.leg f.choice f.prices f.mixed → IsCeiling (worth_of t keeps f.prices 1) f.prices.scale f.worth → IfSome (cost_of best) (λ c. f.worth <ℤ c)

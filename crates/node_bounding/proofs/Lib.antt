@@ -1,5 +1,4 @@
 pub mod Allowed
-pub mod ClosedParts
 pub mod Closings
 pub mod EndsSettled
 pub mod Examined

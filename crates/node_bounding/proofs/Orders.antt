@@ -1,5 +1,5 @@
 -- Costs that may not be there, and rounded worths.
-use Rattle.std.proofs.Common.{◌≡◌, Bool, true, false, if◌then◌else◌, Option, Some, None, IsSomeAnd, ℤ, pos, ◌+ℤ◌, ◌-ℤ◌, ◌*ℤ◌, ◌≤ℤ◌, ◌<ℤ◌, refl, ◌∙◌, arith}
+use Rattle.std.proofs.Common.{◌≡◌, Bool, true, false, if◌then◌else◌, Option, Some, None, IsSomeAnd, ℤ, pos, ◌+ℤ◌, ◌-ℤ◌, ◌*ℤ◌, ◌≤ℤ◌, ◌<ℤ◌, refl, arith}
 use Rattle.std.specs.Prelude.{int_div, int_le, int_lt, int_rem}
 use Rattle.std.proofs.lemmas.Int.{by_lt_z, ints, quot-rem, rem_below}
 use lib.IntN.{*ℤ_comm}
@@ -92,20 +92,19 @@ module _ (t : Tables) (keeps : Domains) (prices : Prices) (cost : ℤ) (some : p
       record { least = least; rounded = rounded; short = omega (arith, ints, below) }
 
 -- the test of a rounded worth
-pub reach_test : (t : Tables) (keeps : Domains) (prices : Prices) (cost worth ceiling : ℤ) (b : Bool) → pos 1 ≤ℤ prices.scale → worth ≡ worth_of t keeps prices 1 → IsCeiling worth prices.scale ceiling
-    → b ≡ int_le cost ceiling → b ≡ does_reach t keeps prices cost
-reach_test t keeps prices cost worth ceiling b some is rounded test = rw (← is) (test ∙ by_order)
-  where
-    by_order : int_le cost ceiling ≡ int_lt ((cost -ℤ pos 1) *ℤ prices.scale) worth
-    by_order = by_lt_z ceiling cost
-        (λ above.
-        let no_more = factor_le prices.scale ceiling (cost -ℤ pos 1) (omega (arith, ints, some)) (omega (arith, ints, above)) in
-        let less : worth ≤ℤ ((cost -ℤ pos 1) *ℤ prices.scale) = omega (arith, ints, rounded.enough, no_more, *ℤ_comm ceiling prices.scale, *ℤ_comm (cost -ℤ pos 1) prices.scale) in
-        grind (arith, ints, above, less))
-        (λ reached.
-        let no_more = factor_le prices.scale (cost -ℤ pos 1) (ceiling -ℤ pos 1) (omega (arith, ints, some)) (omega (arith, ints, reached)) in
-        let more : ((cost -ℤ pos 1) *ℤ prices.scale) <ℤ worth = omega (arith, ints, rounded.least, no_more, *ℤ_comm (ceiling -ℤ pos 1) prices.scale, *ℤ_comm (cost -ℤ pos 1) prices.scale) in
-        grind (arith, ints, reached, more))
+reach_order : (cost worth scale ceiling : ℤ) → pos 1 ≤ℤ scale → IsCeiling worth scale ceiling → int_le cost ceiling ≡ int_lt ((cost -ℤ pos 1) *ℤ scale) worth
+reach_order cost worth scale ceiling some rounded = by_lt_z ceiling cost
+    (λ above.
+    let no_more = factor_le scale ceiling (cost -ℤ pos 1) (omega (arith, ints, some)) (omega (arith, ints, above)) in
+    let less : worth ≤ℤ ((cost -ℤ pos 1) *ℤ scale) = omega (arith, ints, rounded.enough, no_more, *ℤ_comm ceiling scale, *ℤ_comm (cost -ℤ pos 1) scale) in
+    grind (arith, ints, above, less))
+    (λ reached.
+    let no_more = factor_le scale (cost -ℤ pos 1) (ceiling -ℤ pos 1) (omega (arith, ints, some)) (omega (arith, ints, reached)) in
+    let more : ((cost -ℤ pos 1) *ℤ scale) <ℤ worth = omega (arith, ints, rounded.least, no_more, *ℤ_comm (ceiling -ℤ pos 1) scale, *ℤ_comm (cost -ℤ pos 1) scale) in
+    grind (arith, ints, reached, more))
+
+pub reach_test : (t : Tables) (keeps : Domains) (prices : Prices) (cost ceiling : ℤ) → pos 1 ≤ℤ prices.scale → IsCeiling (worth_of t keeps prices 1) prices.scale ceiling → int_le cost ceiling ≡ does_reach t keeps prices cost
+reach_test t keeps prices cost ceiling some rounded = reach_order cost (worth_of t keeps prices 1) prices.scale ceiling some rounded
 
 -- a ratio has one rounded worth
 pub one_ceiling : (n d x y : ℤ) → pos 1 ≤ℤ d → IsCeiling n d x → IsCeiling n d y → x ≡ y

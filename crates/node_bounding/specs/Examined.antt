@@ -15,30 +15,32 @@ use Rattle.dual_bound.specs.declared.trees.Tree.TheVariants as tree
 use Rattle.node_bounding.specs.Found.{IsEndOf}
 use Rattle.node_bounding.specs.Made.{IsMadeAs}
 use Rattle.node_bounding.specs.Offers.{IsOffered}
-use Rattle.node_bounding.specs.Subproblems.{IsLess, IsNoMore, IsPlan, IsRight, cost_of, node_of}
+use Rattle.node_bounding.specs.Subproblems.{IsLess, IsNoMore, IsPlan, IsRight, IsStoppedAt, cost_of, node_of}
 use Rattle.node_bounding.specs.declared.plans.Plan.{Plan}
 use Rattle.node_bounding.specs.declared.states.State.{State}
 use Rattle.node_bounding.specs.declared.states.State.TheVariants as state
 
--- a leaf that is no longer worked: its run gave no prices, or more than them isn't asked for
+-- why a run gave no prices
 abbrev pub IsStoppedBy : Cause → Type 0
 IsStoppedBy (cause.Nodes mixed) = ⊥
 IsStoppedBy (cause.Pivots made) = ⊤
 IsStoppedBy (cause.Grew made row column) = ⊤
 IsStoppedBy (cause.Lift step at) = ⊤
 
+-- a leaf that isn't open
 abbrev pub IsDoneLeaf : Tree → Type 0
 IsDoneLeaf (tree.Bare leg) = ⊤
 IsDoneLeaf tree.Sole = ⊤
 IsDoneLeaf (tree.Refuted prices) = ⊤
 IsDoneLeaf (tree.Priced prices) = ⊤
-IsDoneLeaf (tree.Open prices why) = IsStoppedBy why
+IsDoneLeaf (tree.Open prices why) = ⊥
 IsDoneLeaf (tree.Trim' leg choice p with_pair q without) = ⊥
 IsDoneLeaf (tree.Split' leg choice prices mixed p with_pair q without) = ⊥
 
--- a subproblem that was just made is a leaf, or waits to be split
+-- a subproblem that was just made is a leaf, stays open, or waits to be split
 abbrev pub IsFresh : State → Type 0
 IsFresh (state.Leaf leaf) = IsDoneLeaf leaf
+IsFresh (state.Stopped s) = IsStoppedBy s.why
 IsFresh (state.Waiting f) = ⊤
 IsFresh (state.Split f) = ⊥
 
@@ -62,6 +64,13 @@ pub record IsExamined (t : Tables) (pivots : Option ℕ) (before after : Option 
 -- whatever the prices above.
 abbrev pub IsBounded : Tables → Option Plan → Option Plan → Domains → State → Type 0
 IsBounded t before after keeps made = (pivots : Option ℕ) (above : Prices) → IsExamined t pivots before after keeps above made
+
+-- a subproblem stays open with these prices, and this is why
+abbrev pub IsStoppedWith : Tables → Domains → Prices → Cause → State → Type 0
+IsStoppedWith t keeps prices why (state.Leaf leaf) = ⊥
+IsStoppedWith t keeps prices why (state.Stopped s) = (s.prices ≡ prices) × (s.why ≡ why) × IsStoppedAt t keeps s
+IsStoppedWith t keeps prices why (state.Waiting f) = ⊥
+IsStoppedWith t keeps prices why (state.Split f) = ⊥
 
 -- a legal assignment of kept pairs that costs what prices are worth was offered
 pub record IsWholeOffered (t : Tables) (keeps : Domains) (prices : Prices) (before after : Option Plan) : Type 0 where

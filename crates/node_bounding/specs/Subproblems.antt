@@ -14,10 +14,12 @@ use Rattle.dual_bound.specs.declared.nodes.Node.TheVariants as node
 use Rattle.dual_bound.specs.declared.prices.Prices.{Prices}
 use Rattle.dual_bound.specs.declared.trees.Cause.TheVariants as cause
 use Rattle.dual_bound.specs.declared.trees.Tree.{Tree}
+use Rattle.dual_bound.specs.declared.trees.Tree.TheVariants as tree
 use Rattle.cert_check.specs.Nodes.{nodes_in}
 use Rattle.cert_check.specs.Verdicts.{AreSound}
 use Rattle.node_bounding.specs.Causes.{AreCaused}
 use Rattle.node_bounding.specs.Found.{AnswersSole}
+use Rattle.node_bounding.specs.Runs.{IsSearched}
 use Rattle.node_bounding.specs.Splits.{IsSplit}
 use Rattle.node_bounding.specs.Trims.{AreSearched}
 use Rattle.node_bounding.specs.Worked.{own_node}
@@ -25,6 +27,7 @@ use Rattle.node_bounding.specs.declared.plans.Plan.{Plan}
 use Rattle.node_bounding.specs.declared.states.Fraction.{Fraction}
 use Rattle.node_bounding.specs.declared.states.State.{State}
 use Rattle.node_bounding.specs.declared.states.State.TheVariants as state
+use Rattle.node_bounding.specs.declared.states.Stopped.{Stopped}
 
 -- a plan is legal, and its cost exact
 pub record IsPlan (t : Tables) (plan : Plan) : Type 0 where
@@ -48,6 +51,7 @@ IsLess earlier later = IsSomeAnd later (λ c. IfSome earlier (λ e. c <ℤ e))
 -- the node that a subproblem is in the tree, as it stands
 abbrev pub node_of : State → Node
 node_of (state.Leaf leaf) = own_node leaf
+node_of (state.Stopped s) = node.Open s.prices s.why
 node_of (state.Waiting f) = node.Open f.prices (cause.Nodes f.mixed)
 node_of (state.Split f) = node.Split f.leg f.choice f.prices f.mixed
 
@@ -55,6 +59,10 @@ node_of (state.Split f) = node.Split f.leg f.choice f.prices f.mixed
 pub record IsFractional (t : Tables) (keeps : Domains) (f : Fraction) : Type 0 where
   pub split : IsSplit t keeps f.leg f.choice f.prices f.mixed
   pub rounded : IsCeiling (worth_of t keeps f.prices 1) f.prices.scale f.worth
+
+-- the rounded worth of the prices of a subproblem that stays open
+pub record IsStoppedAt (t : Tables) (keeps : Domains) (s : Stopped) : Type 0 where
+  pub rounded : IsCeiling (worth_of t keeps s.prices 1) s.prices.scale s.worth
 
 -- the tree of a part of a search, over the pairs that its subproblem keeps, where the plan in the end has this cost;
 -- `above` are the prices of the nearest split
@@ -69,5 +77,6 @@ pub record IsPart (t : Tables) (pivots : Option ℕ) (final : Option ℤ) (keeps
 -- what is known of a subproblem
 abbrev pub IsRight : Tables → Option ℕ → Option ℤ → Domains → Prices → State → Type 0
 IsRight t pivots final keeps above (state.Leaf leaf) = IsPart t pivots final keeps above leaf × AreSearched t keeps leaf
+IsRight t pivots final keeps above (state.Stopped s) = IsPart t pivots final keeps above (tree.Open s.prices s.why) × IsSearched t keeps × IsStoppedAt t keeps s
 IsRight t pivots final keeps above (state.Waiting f) = IsFractional t keeps f
 IsRight t pivots final keeps above (state.Split f) = IsFractional t keeps f

@@ -1,4 +1,4 @@
-//! What becomes of a subproblem when it is made: a leaf of the tree, or one that waits to be split.
+//! What becomes of a subproblem when it is made: a leaf of the tree, one that stays open, or one that waits to be split.
 ghost use Rattle.std.specs.Prelude.{◌≡◌, ◌≤ℤ◌, ◌<ℤ◌, ℕ, IfOk, IfSome, IsSomeAnd, MatchBool, OnErr};
 ghost use Rattle.frac_row.specs.Ratio.{IsCeiling};
 ghost use Rattle.fleet_model.specs.Kept.{kept_by};
@@ -6,7 +6,7 @@ ghost use Rattle.fleet_model.specs.Whole.{KeepAllowed};
 ghost use Rattle.dual_bound.specs.Fractions.{IsWhole};
 ghost use Rattle.dual_bound.specs.Prices.{ArePrices};
 ghost use Rattle.dual_bound.specs.Worth.{worth_of};
-ghost use Rattle.node_bounding.specs.Examined.{IsBounded, IsExamined, IsWholeOffered};
+ghost use Rattle.node_bounding.specs.Examined.{IsBounded, IsExamined, IsStoppedWith, IsWholeOffered};
 ghost use Rattle.node_bounding.specs.Relaxed.{AreBest, AreGood};
 ghost use Rattle.node_bounding.specs.Runs.{IsSearched};
 ghost use Rattle.node_bounding.specs.Subproblems.{IsPlan, cost_of};
@@ -16,10 +16,10 @@ use crate::made_prices::copied;
 use crate::offers::{offer, offer_sole};
 use crate::plans::Plan;
 use crate::relaxing::{Relaxed, relax};
-use crate::states::{Fraction, State};
+use crate::states::{Fraction, State, Stopped};
 use crate::wholes::{first_partial, flown_parts};
 use dual_bound::worth::worth;
-use dual_bound::{Mixed, Prices, Tree};
+use dual_bound::{Cause, Mixed, Prices, Tree};
 use entries::NoMemory;
 use fleet_model::{Kept, Pair, Tables};
 use frac_row::ceil_div;
@@ -52,9 +52,18 @@ pub fn examine(
     }
     match relax(alloc, tables, kept, pivots)? {
         Relaxed::Refuted(prices) => Ok(State::Leaf(Tree::Refuted(prices))),
-        Relaxed::Stopped(why) => Ok(State::Leaf(Tree::Open(copied(alloc, above)?, why))),
+        Relaxed::Stopped(why) => Ok(stopped(tables, kept, copied(alloc, above)?, why)),
         Relaxed::Bounded { prices, mixed } => Ok(bounded(tables, best, kept, prices, mixed)),
     }
+}
+
+// What becomes of a subproblem whose run gave no prices: it takes those of the nearest split above.
+fn stopped(tables: &Tables, kept: &Kept, prices: Prices, why: Cause) -> State
+    requires { ArePrices tables.now prices }
+    ensures { IsStoppedWith tables.now (kept_by kept.now) prices why result }
+{
+    let worth = rounded_worth(tables, kept, &prices);
+    State::Stopped(Stopped { prices, why, worth })
 }
 
 // What becomes of a subproblem whose best fractional assignment is known.

@@ -1,5 +1,5 @@
 //! What becomes of a subproblem.
-use dual_bound::{Mixed, Prices, Tree};
+use dual_bound::{Cause, Mixed, Prices, Tree};
 
 /// A subproblem whose best fractional assignment flies a pair in part, so that it may be split by it.
 #[derive(Debug, Drop)]
@@ -14,11 +14,23 @@ pub struct Fraction {
     pub worth: i128,
 }
 
+/// A subproblem that stays open, since its run gave no prices of its own.
+#[derive(Debug, Drop)]
+pub struct Stopped {
+    /// The prices of the nearest split above.
+    pub prices: Prices,
+    pub why: Cause,
+    /// The worth of the prices here, rounded up, in cost units.
+    pub worth: i128,
+}
+
 /// What became of a subproblem.
 #[derive(Debug, Drop)]
 pub enum State {
     /// Its tree stands.
     Leaf(Tree),
+    /// It stays open, and waits for nothing.
+    Stopped(Stopped),
     /// It waits to be split.
     Waiting(Fraction),
     /// It was split, and its parts stand in the list.

@@ -1,7 +1,8 @@
-use Rattle.std.proofs.Common.{subst}
+use Rattle.std.proofs.Common.{subst, sym}
 use Rattle.fleet_model.specs.Kept.{kept_by}
+use Rattle.dual_bound.specs.Prices.{ArePrices}
 use Rattle.node_bounding.specs.Relaxed.{IsRelaxed}
-use Rattle.node_bounding.proofs.Examined.{after_no_sole, before_no_sole, refuted_leaf, sole_leaf, stopped_leaf}
+use Rattle.node_bounding.proofs.Examined.{after_no_sole, before_no_sole, refuted_leaf, sole_leaf, stopped_here}
 use Rattle.node_bounding.proofs.examining.examine.Goals as goal
 
 pub returns-then-offer_sole-clause-examined : goal.returns-then-offer_sole-clause-examined
@@ -16,11 +17,14 @@ returns-in-Refuted-clause-examined c =
     after_no_sole _ _ _ _ _ _ _ c.if-offer_sole.ensures
     (refuted_leaf _ c.args.pivots _ c.requires.best _ _ _ (record { some_pair = c.in_default.ensures; some_choice = c.if-offer_sole.ensures.not_sole }) refuted)
 
+pub stopped-requires : goal.stopped-requires
+stopped-requires c = subst (ArePrices c.args.tables.now) (sym c.in_ok-copied-in-Stopped.ensures) c.requires.above.proper
+
 pub returns-in_ok-copied-in-Stopped-clause-examined : goal.returns-in_ok-copied-in-Stopped-clause-examined
 returns-in_ok-copied-in-Stopped-clause-examined c =
     after_no_sole _ _ _ _ _ _ _ c.if-offer_sole.ensures
-    (stopped_leaf _ c.args.pivots _ c.requires.best _ _ _ _ (record { some_pair = c.in_default.ensures; some_choice = c.if-offer_sole.ensures.not_sole }) c.requires.above c.in_ok-copied-in-Stopped.ensures
-    (subst (IsRelaxed c.args.tables.now (kept_by c.args.kept.now) c.args.pivots) c.in-Stopped.is c.in_ok-prices.ensures))
+    (stopped_here _ c.args.pivots _ c.requires.best _ _ _ _ _ (record { some_pair = c.in_default.ensures; some_choice = c.if-offer_sole.ensures.not_sole }) c.requires.above c.in_ok-copied-in-Stopped.ensures
+    (subst (IsRelaxed c.args.tables.now (kept_by c.args.kept.now) c.args.pivots) c.in-Stopped.is c.in_ok-prices.ensures) c.stopped.ensures)
 
 pub returns-in-Bounded-clause-examined : goal.returns-in-Bounded-clause-examined
 returns-in-Bounded-clause-examined c =
