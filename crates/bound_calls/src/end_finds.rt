@@ -2,8 +2,8 @@
 ghost use Rattle.row_store.specs.Problem.{IsProblem};
 
 use crate::assertions::assert_same;
-use end_check::{Hint, is_end, refuses};
-use end_search::find;
+use end_check::{EndFinder, Hint, is_end, refuses};
+use end_search::DualSimplex;
 use entries::NoMemory;
 use fleet_model::{Kept, LoadError, Tables};
 use lp_rows::Program;
@@ -74,7 +74,7 @@ fn found_with(alloc: Global, tables: &Tables, steps: u64) -> Result<&'static str
 fn checked(alloc: Global, program: &Program, steps: u64) -> Result<&'static str, NoMemory>
     requires { IsProblem program.now.rows }
 {
-    match find(alloc, program, steps)? {
+    match DualSimplex::find(alloc, program, steps)? {
         None => Ok("none"),
         Some(hint) => kind_of(alloc, program, &hint),
     }

@@ -7,8 +7,8 @@ ghost use Rattle.lp_rows.specs.Outline.{IsOutline};
 ghost use Rattle.lp_rows.specs.Points.{AreLinesOf};
 ghost use Rattle.node_bounding.specs.Runs.{HasEnded};
 
-use end_check::{Hint, PointHint, RefusalHint, is_end, refuses};
-use end_search::find;
+use end_check::{EndFinder, Hint, PointHint, RefusalHint, is_end, refuses};
+use end_search::DualSimplex;
 use fleet_model::{Kept, Tables};
 use lp_rows::{Outline, Program};
 use price_lift::{
@@ -27,7 +27,7 @@ pub fn lifted_by_hint(
     ensures { IfOk result (λ found. IfSome found (λ lifted. ArePrices tables.now lifted.prices)) }
 {
     let program = Program::new(alloc, tables, kept)?;
-    match find(alloc, &program, 1_000)? {
+    match DualSimplex::find(alloc, &program, 1_000)? {
         Some(Hint::Point(point)) => lifted_point(alloc, &program, &point, tables, kept),
         Some(Hint::Refusal(refusal)) => lifted_refusal(alloc, &program, &refusal, tables, kept),
         None => Ok(None),

@@ -8,6 +8,7 @@ use crate::network::shape_of;
 use branch_bound::solve;
 use cert_check::{Checked, check};
 use dual_bound::{Prices, Tree};
+use end_search::DualSimplex;
 use entries::NoMemory;
 use fleet_model::{Kept, Tables};
 use plan_judge::{Verdict, judge};
@@ -96,7 +97,7 @@ fn checked_with_cheapest(tables: &Tables, tree: &Tree) -> Option<Checked>
 
 /// What the checker says of the tree of a solution without splits; nothing where it isn't a leaf that is paid back.
 fn checked_solution(alloc: Global, tables: &Tables) -> Result<Option<Checked>, NoMemory> {
-    let solved = solve(alloc, tables, 0, Some(1_000))?;
+    let solved = solve::<DualSimplex>(alloc, tables, 0, Some(1_000))?;
     let tree = solved.tree();
     if is_paid_back_leaf(tree) {
         Ok(checked_with_cheapest(tables, tree))

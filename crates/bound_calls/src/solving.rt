@@ -4,6 +4,7 @@ use crate::lifts::assert_halves;
 use branch_bound::{Solved, solve};
 use cert_check::split_above;
 use dual_bound::{Cause, Mixed, Tree};
+use end_search::DualSimplex;
 use entries::NoMemory;
 use fleet_model::{LoadError, Tables};
 use std::alloc::Global;
@@ -83,7 +84,7 @@ fn solution_within(
     pivots: Option<u64>,
 ) -> Result<Solved, LoadError> {
     let tables = read(alloc, files)?;
-    Ok(solve(alloc, &tables, nodes, pivots)?)
+    Ok(solve::<DualSimplex>(alloc, &tables, nodes, pivots)?)
 }
 
 fn answer_of(alloc: Global, files: &Files, nodes: u64) -> Result<Answer, LoadError> {
@@ -280,7 +281,7 @@ fn first_split_above(alloc: Global, files: &Files, cost: i128) -> Result<Option<
 
 /// The same in tables.
 fn first_split_in(alloc: Global, tables: &Tables, cost: i128) -> Result<Option<u64>, NoMemory> {
-    let solved = solve(alloc, tables, ENOUGH, Some(ENOUGH))?;
+    let solved = solve::<DualSimplex>(alloc, tables, ENOUGH, Some(ENOUGH))?;
     Ok(split_above(tables, solved.tree(), cost))
 }
 

@@ -13,8 +13,10 @@ ghost use Rattle.node_bounding.specs.Relaxed.{AreGood};
 use crate::ranks::Rank;
 use crate::search::Search;
 use crate::subproblems::{Origin, Subproblem, kept_in, split};
+use end_check::EndFinder;
 use entries::NoMemory;
 use fleet_model::{Kept, Pair, Step, Tables};
+use lp_rows::Program;
 use node_bounding::steps::{with, without};
 use node_bounding::{State, examine, is_reached, zeros};
 use std::alloc::Global;
@@ -22,7 +24,7 @@ use std::collections::BTreeSet;
 
 /// Searches the pairs that are kept, with at most so many splits, and so many pivots for each subproblem or no
 /// budget of them.
-pub(crate) fn branch(
+pub(crate) fn branch<S: EndFinder<Program>>(
     alloc: Global,
     tables: &Tables,
     nodes: u64,
@@ -32,15 +34,15 @@ pub(crate) fn branch(
     requires { KeepAllowed tables.now (kept_by first.now) }
     ensures { IfOk result (IsDone tables.now nodes pivots (kept_by first.now)) }
 {
-    let mut search = begun(alloc, tables, nodes, pivots, first)?;
+    let mut search = begun::<S>(alloc, tables, nodes, pivots, first)?;
     while let Some(rank) = next(&search) {
-        split_next(alloc, tables, first, &mut search, rank)?;
+        split_next::<S>(alloc, tables, first, &mut search, rank)?;
     }
     Ok(search)
 }
 
 // A search of the first subproblem alone.
-fn begun(
+fn begun<S: EndFinder<Program>>(
     alloc: Global,
     tables: &Tables,
     nodes: u64,
@@ -54,7 +56,7 @@ fn begun(
 {
     let above = zeros(alloc, tables)?;
     let mut best = None;
-    let state = examine(alloc, tables, pivots, &mut best, first, &above)?;
+    let state = examine::<S>(alloc, tables, pivots, &mut best, first, &above)?;
     let mut search = Search {
         nodes,
         pivots,
@@ -87,7 +89,7 @@ fn next(search: &Search) -> Option<Rank>
 }
 
 // Splits the subproblem that is next: both its parts are made, the one with the pair first.
-fn split_next(
+fn split_next<S: EndFinder<Program>>(
     alloc: Global,
     tables: &Tables,
     first: &Kept,
@@ -104,7 +106,7 @@ fn split_next(
     let number = rank.number;
     let pair = split_pair(&search.made[number]);
     let mut kept = kept_in(tables, first, search.made.as_slice(), number);
-    let yes = part(
+    let yes = part::<S>(
         alloc,
         tables,
         search,
@@ -112,7 +114,7 @@ fn split_next(
         number,
         with(pair.leg, pair.choice),
     )?;
-    let no = part(
+    let no = part::<S>(
         alloc,
         tables,
         search,
@@ -138,7 +140,7 @@ fn split_pair(subproblem: &Subproblem) -> Pair
 }
 
 // Examines a part of a subproblem that waits, of which these pairs are kept; they are again as they were.
-fn part(
+fn part<S: EndFinder<Program>>(
     alloc: Global,
     tables: &Tables,
     search: &mut Search,
@@ -157,7 +159,7 @@ fn part(
 {
     let undo = kept.narrow(step);
     let made = match &search.made[number].state {
-        State::Waiting(fraction) => examine(
+        State::Waiting(fraction) => examine::<S>(
             alloc,
             tables,
             search.pivots,

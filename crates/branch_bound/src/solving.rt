@@ -8,8 +8,10 @@ use crate::growing::grown;
 use crate::search::Search;
 use crate::settling::settle;
 use dual_bound::{Solved, Tree};
+use end_check::EndFinder;
 use entries::NoMemory;
 use fleet_model::{Kept, Tables};
+use lp_rows::Program;
 use node_bounding::Plan;
 use node_bounding::removals::{below, remove};
 use presolve::trim;
@@ -20,7 +22,9 @@ use std::alloc::Global;
 ///
 /// A subproblem is solved when it is made. The next to be split is the one of the least rounded worth, and at a tie the
 /// one that was made first, so the bound never falls from split to split (best-first search: Lawler and Wood 1966).
-pub fn solve(
+///
+/// `S` looks for an end of each subproblem's lines first, and is trusted in nothing: all that is promised holds of any `S`.
+pub fn solve<S: EndFinder<Program>>(
     alloc: Global,
     tables: &Tables,
     nodes: u64,
@@ -28,7 +32,7 @@ pub fn solve(
 ) -> Result<Solved, NoMemory>
     ensures { IfOk result (IsSolved tables.now nodes pivots) }
 {
-    let Found { best, tree } = searched(alloc, tables, nodes, pivots)?;
+    let Found { best, tree } = searched::<S>(alloc, tables, nodes, pivots)?;
     Ok(settle(tables, best, tree))
 }
 
@@ -40,7 +44,7 @@ pub(crate) struct Found {
 }
 
 // Searches all pairs.
-fn searched(
+fn searched<S: EndFinder<Program>>(
     alloc: Global,
     tables: &Tables,
     nodes: u64,
@@ -51,7 +55,7 @@ fn searched(
     let removals = trim(alloc, tables)?;
     let mut kept = Kept::all(tables);
     remove(&mut kept, removals.as_slice());
-    let search = branch(alloc, tables, nodes, pivots, &kept)?;
+    let search = branch::<S>(alloc, tables, nodes, pivots, &kept)?;
     let Search { best, made, .. } = search;
     let rest = grown(alloc, made, &best)?;
     let tree = below(alloc, removals, rest)?;

@@ -13,4 +13,4 @@ mod run;
 pub mod search;
 mod turn;
 
-pub use search::find;
+pub use search::DualSimplex;

@@ -24,6 +24,7 @@ use crate::status::Status;
 use branch_bound::solve;
 use command_words::SolveOptions;
 use dual_bound::Solved;
+use end_search::DualSimplex;
 use entries::{Entries, NoMemory};
 use euler_rotation::FleetRotation;
 use fleet_model::{Assignment, TableOptions, Tables};
@@ -57,7 +58,7 @@ pub fn solve_tables(
     requires options { AreOptions options }
     ensures { IfOk result (GivesSolution options tables.now) }
 {
-    let solved = solve(alloc, tables, options.search.nodes, options.search.pivots)?;
+    let solved = solve::<DualSimplex>(alloc, tables, options.search.nodes, options.search.pivots)?;
     show_solved(alloc, tables, options, &solved)
 }
 

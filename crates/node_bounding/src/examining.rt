@@ -20,16 +20,18 @@ use crate::states::{Fraction, State, Stopped};
 use crate::wholes::{first_partial, flown_parts};
 use dual_bound::worth::worth;
 use dual_bound::{Cause, Mixed, Prices, Tree};
+use end_check::EndFinder;
 use entries::NoMemory;
 use fleet_model::{Kept, Pair, Tables};
 use frac_row::ceil_div;
+use lp_rows::Program;
 use std::alloc::Global;
 
 /// Examines a subproblem, whose nearest split above has these prices, with at most so many pivots or no budget of
 /// them. A plan that is found
 /// at it takes the place of the best one where it is cheaper, and where memory is wanting the best one is as it was. A
 /// subproblem with a bare leg, or with one assignment, takes no memory.
-pub fn examine(
+pub fn examine<S: EndFinder<Program>>(
     alloc: Global,
     tables: &Tables,
     pivots: Option<u64>,
@@ -50,7 +52,7 @@ pub fn examine(
     if offer_sole(tables, kept, best) {
         return Ok(State::Leaf(Tree::Sole));
     }
-    match relax(alloc, tables, kept, pivots)? {
+    match relax::<S>(alloc, tables, kept, pivots)? {
         Relaxed::Refuted(prices) => Ok(State::Leaf(Tree::Refuted(prices))),
         Relaxed::Stopped(why) => Ok(stopped(tables, kept, copied(alloc, above)?, why)),
         Relaxed::Bounded { prices, mixed } => Ok(bounded(tables, best, kept, prices, mixed)),

@@ -8,9 +8,10 @@ ghost use Rattle.simplex_frac.specs.Finished.{IsStarted};
 
 use crate::second_run::second_run;
 use dual_bound::{Cause, Mixed, Prices};
+use end_check::EndFinder;
 use entries::NoMemory;
 use fleet_model::{Kept, Tables};
-use lp_rows::rows;
+use lp_rows::{Program, rows};
 use price_lift::{LiftError, Lifted, lift_best, lift_refusal};
 use row_store::{RowStore, Sparse};
 use simplex_frac::{Outcome, finish, solve};
@@ -34,7 +35,7 @@ pub(crate) enum Relaxed {
 /// for the prescribed one. The second one is a hint that is checked, and is tried first, since it is mostly the sooner one;
 /// where it settles nothing, the prescribed run decides, from the first table on. So why a subproblem is left open is told by
 /// the prescribed run alone.
-pub(crate) fn relax(
+pub(crate) fn relax<S: EndFinder<Program>>(
     alloc: Global,
     tables: &Tables,
     kept: &Kept,
@@ -43,7 +44,7 @@ pub(crate) fn relax(
     requires { (leg : ℕ) → ¬ (IsBare tables.now (kept_by kept.now) leg) }
     ensures { IfOk result (IsRelaxed tables.now (kept_by kept.now) pivots) }
 {
-    match second_run(alloc, tables, kept, pivots.unwrap_or(SECOND_STEPS))? {
+    match second_run::<S>(alloc, tables, kept, pivots.unwrap_or(SECOND_STEPS))? {
         Some(settled) => Ok(settled),
         None => prescribed_run::<Sparse>(alloc, tables, kept, pivots),
     }

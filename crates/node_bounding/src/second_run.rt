@@ -8,8 +8,7 @@ ghost use Rattle.node_bounding.specs.SecondRun.{EndsLines, IsEndIn, IsGivenUp, I
 
 use crate::relaxing::Relaxed;
 use dual_lift::LiftError;
-use end_check::{Hint, is_end, refuses};
-use end_search::find;
+use end_check::{EndFinder, Hint, is_end, refuses};
 use entries::NoMemory;
 use fleet_model::{Kept, Tables};
 use lp_rows::{Outline, Program};
@@ -17,12 +16,12 @@ use price_lift::{Lifted, lift_end, lift_refusing_end};
 use row_store::Rows;
 use std::alloc::Global;
 
-/// Tries to solve the linear relaxation of a subproblem by a hint, which takes at most so many steps after its start. None
+/// Tries to solve the linear relaxation of a subproblem by a hint of `S`, which takes at most so many steps after its start. None
 /// where no steps are allowed, where there is no hint, where it is no end of the lines, or where prices or weights are too
 /// large to be lifted from it.
 ///
 /// The lines are dropped before the lift, and all else before it answers, so that the prescribed run has the memory.
-pub(crate) fn second_run(
+pub(crate) fn second_run<S: EndFinder<Program>>(
     alloc: Global,
     tables: &Tables,
     kept: &Kept,
@@ -35,17 +34,21 @@ pub(crate) fn second_run(
         return Ok(None);
     }
     let program = Program::new(alloc, tables, kept)?;
-    let end = found(alloc, &program, steps);
+    let end = found::<S>(alloc, &program, steps);
     let outline = outline_of(program);
     settled(alloc, end?, tables, kept, &outline)
 }
 
 // The hint that is found in a program's lines, where there is one and it is an end of them.
-fn found(alloc: Global, program: &Program, steps: u64) -> Result<Option<Hint>, NoMemory>
+fn found<S: EndFinder<Program>>(
+    alloc: Global,
+    program: &Program,
+    steps: u64,
+) -> Result<Option<Hint>, NoMemory>
     requires { IsProblem program.now.rows }
     ensures { IfOk result (λ end. IfSome end (IsEndIn program.now.rows)) }
 {
-    let hint = find(alloc, program, steps)?;
+    let hint = S::find(alloc, program, steps)?;
     checked(alloc, &program.rows, hint)
 }
 

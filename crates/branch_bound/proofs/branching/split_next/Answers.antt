@@ -9,27 +9,27 @@ use Rattle.branch_bound.proofs.NextSplits.{allowed_there, at_waits, good, keeps_
 use Rattle.branch_bound.proofs.branching.split_next.Goals as goal
 
 pub part-requires-clause-waits : goal.part-requires-clause-waits
-part-requires-clause-waits c = good _ _ _ _ c.requires.search c.requires.next
+part-requires-clause-waits g c = good _ _ _ _ c.requires.search c.requires.next
 
 pub part-requires-clause-allowed : goal.part-requires-clause-allowed
-part-requires-clause-allowed c = allowed_there _ _ _ _ c.requires.search c.requires.next _ _ c.as_slice.ensures.value c.kept_in-kept.ensures
+part-requires-clause-allowed g c = allowed_there _ _ _ _ c.requires.search c.requires.next _ _ c.as_slice.ensures.value c.kept_in-kept.ensures
 
 pub part-requires-clause-pair : goal.part-requires-clause-pair
-part-requires-clause-pair c = step_known _ _ _ _ c.requires.search c.requires.next _ _ _ c.with.ensures (at_waits _ _ _ _ c.requires.search c.requires.next _ _ c.index.ensures c.split_pair-pair.ensures)
+part-requires-clause-pair g c = step_known _ _ _ _ c.requires.search c.requires.next _ _ _ c.with.ensures (at_waits _ _ _ _ c.requires.search c.requires.next _ _ c.index.ensures c.split_pair-pair.ensures)
 
 pub part-requires-2-clause-waits : goal.part-requires-2-clause-waits
-part-requires-2-clause-waits c =
+part-requires-2-clause-waits g c =
     subst (λ m. WaitsWith (λ f. AreGood c.args.tables.now f.prices) (at m.items c.args.rank.number).state) (sym (ap (λ s. s.made) c.in_ok-yes.ensures.search)) (good _ _ _ _ c.requires.search c.requires.next)
 
 pub part-requires-2-clause-allowed : goal.part-requires-2-clause-allowed
-part-requires-2-clause-allowed c =
+part-requires-2-clause-allowed g c =
     subst (λ rows. KeepAllowed c.args.tables.now (kept_by rows)) (sym c.in_ok-yes.ensures.same) (allowed_there _ _ _ _ c.requires.search c.requires.next _ _ c.as_slice.ensures.value c.kept_in-kept.ensures)
 
 pub part-requires-2-clause-pair : goal.part-requires-2-clause-pair
-part-requires-2-clause-pair c = step_known _ _ _ _ c.requires.search c.requires.next _ _ _ c.without.ensures (at_waits _ _ _ _ c.requires.search c.requires.next _ _ c.index.ensures c.split_pair-pair.ensures)
+part-requires-2-clause-pair g c = step_known _ _ _ _ c.requires.search c.requires.next _ _ _ c.without.ensures (at_waits _ _ _ _ c.requires.search c.requires.next _ _ c.index.ensures c.split_pair-pair.ensures)
 
 pub returns-clause-search : goal.returns-clause-search
-returns-clause-search c =
+returns-clause-search g c =
     where_ok _ _ _
     (λ is. split_search _ _ _ _ c.requires.search c.requires.next c.part.new.search c.part-2.new.search _ _ _ _ _ _ _ _ (at_waits _ _ _ _ c.requires.search c.requires.next _ _ c.index.ensures c.split_pair-pair.ensures)
     c.with.ensures c.without.ensures (keeps_there _ _ _ _ c.requires.search c.requires.next _ _ c.as_slice.ensures.value c.kept_in-kept.ensures) (ap kept_by c.in_ok-yes.ensures.same)

@@ -5,16 +5,16 @@ use Rattle.node_bounding.proofs.RemovedPairs.{allowed_after, allowed_all, kept_n
 use Rattle.branch_bound.proofs.solving.searched.Goals as goal
 
 pub remove-requires : goal.remove-requires
-remove-requires c = rw c.as_slice.ensures (removals_within _ _ _ c.in_ok-removals.ensures.refuted)
+remove-requires g c = rw c.as_slice.ensures (removals_within _ _ _ c.in_ok-removals.ensures.refuted)
 
 pub branch-alloc-requires : goal.branch-alloc-requires
-branch-alloc-requires c = allowed_rows _ _ _ c.remove.ensures (allowed_after _ _ c.as_slice.result.now (allowed_rows _ _ _ c.all-kept.ensures (allowed_all _)))
+branch-alloc-requires g c = allowed_rows _ _ _ c.remove.ensures (allowed_after _ _ c.as_slice.result.now (allowed_rows _ _ _ c.all-kept.ensures (allowed_all _)))
 
 pub grown-requires : goal.grown-requires
-grown-requires c = linked _ _ _ _ _ c.in_ok-search.ensures
+grown-requires g c = linked _ _ _ _ _ c.in_ok-search.ensures
 
 pub returns : goal.returns
-returns c =
+returns g c =
     let t = c.args.tables.now in
     let search = c.in_ok-search.search in
     all_are_closed t c.args.nodes c.args.pivots _ search c.in_ok-search.ensures c.in_ok-removals.removals c.in_ok-removals.ensures.removals c.in_ok-removals.ensures.refuted
