@@ -23,12 +23,13 @@ impl EndFinder<Program> for DualSimplex {
             return Ok(None);
         }
         let places = start_places(alloc, program)?;
-        let Some(columns) = Columns::new(alloc, &program.rows)? else {
+        let rows = &program.rows;
+        let Some(columns) = Columns::new(alloc, rows.columns, rows.lines.as_slice())? else {
             return Ok(None);
         };
         let start = Start::new(alloc, &columns, &places)?;
         let mut frame = Frame { columns, start };
-        search(alloc, &mut frame, program.rows.costs.as_slice(), steps)
+        search(alloc, &mut frame, rows.costs.as_slice(), steps)
     }
 }
 
