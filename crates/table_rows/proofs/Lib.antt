@@ -1,9 +1,9 @@
+pub mod ByNumber
 pub mod FormReading
 pub mod FrontReading
 pub mod Kept
 pub mod Numbered
 pub mod OneReading
-pub mod Places
 pub mod ReadParts
 pub mod SoFar
 pub mod Texts

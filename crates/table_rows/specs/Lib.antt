@@ -1,3 +1,4 @@
+pub mod ByNumber
 pub mod Fields
 pub mod Forms
 pub mod Names

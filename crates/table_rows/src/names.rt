@@ -2,22 +2,26 @@ ghost use Rattle.std.specs.Prelude.{◌≡◌, ◌++◌, ◌↔◌, [], ◌∷�
 ghost use Rattle.table_rows.specs.Names.{is_among, number_of};
 
 use entries::NoMemory;
-use indexmap::IndexSet;
 use std::alloc::Global;
+use std::collections::BTreeMap;
 use std::marker::Model;
 
 /// Names, each once, numbered from 0 in the order in which they were added. Contracts see the list of names.
 #[derive(Drop)]
 pub struct Names {
-    names: IndexSet<Vec<u8>>,
+    numbers: BTreeMap<Vec<u8>, usize>,
 }
 
 impl Model for Names {
-    ghost use Rattle.std.specs.Prelude.{List, ℕ, map};
+    ghost use Rattle.std.specs.Prelude.{List, ℕ};
+    ghost use Rattle.table_rows.specs.ByNumber.{AreNumbered, by_number};
+    ghost use Rattle.table_rows.specs.Names.{bytes_of};
 
     ghost Value = { List (List ℕ) };
 
-    ghost view = { λ names. map (λ name. name.items) names.names.keys };
+    ghost view = { λ names. by_number bytes_of names.numbers.entries };
+
+    ghost invariant = { λ names. AreNumbered bytes_of names.numbers.entries };
 }
 
 impl Names {
@@ -26,7 +30,7 @@ impl Names {
         ensures { result ≡ [] }
     {
         Names {
-            names: IndexSet::new(alloc),
+            numbers: BTreeMap::new(alloc),
         }
     }
 
@@ -36,28 +40,32 @@ impl Names {
         ensures appended { IfOk result (λ added. self.new ≡ (if added then self.old ++ name.now ∷ [] else self.old)) }
         ensures unchanged { OnErr result (self.new ≡ self.old) }
     {
-        let (_, added) = self.names.insert_full(Vec::from_slice(alloc, name)?)?;
-        Ok(added)
+        if self.numbers.contains_key(name) {
+            return Ok(false);
+        }
+        let number = self.numbers.len();
+        self.numbers.insert(Vec::from_slice(alloc, name)?, number)?;
+        Ok(true)
     }
 
     /// How many names there are.
     pub fn len(&self) -> usize
         ensures { result ≡ length self.now }
     {
-        self.names.len()
+        self.numbers.len()
     }
 
     /// Whether there is no name.
     pub fn is_empty(&self) -> bool
         ensures { IsTrue result ↔ (self.now ≡ []) }
     {
-        self.names.is_empty()
+        self.numbers.is_empty()
     }
 
     /// The number of a name, where it is there.
     pub fn number(&self, name: &[u8]) -> Option<usize>
         ensures { result ≡ number_of name.now self.now }
     {
-        self.names.get_index_of(name)
+        self.numbers.get(name).copied()
     }
 }

@@ -2,31 +2,30 @@ ghost use Rattle.std.specs.Prelude.{◌≡◌, ◌++◌, ◌↔◌, [], ◌∷�
 ghost use Rattle.table_rows.specs.Names.{is_among};
 
 use entries::NoMemory;
-use indexmap::IndexSet;
 use std::alloc::Global;
+use std::collections::BTreeMap;
 use std::marker::Model;
 
-/// Two numbers.
-#[derive(Clone, Copy, PartialEq, Eq, Hash)]
-pub struct NumberPair {
-    pub first: u32,
-    pub second: u32,
-}
+// Two numbers.
+type NumberPair = (u32, u32);
 
 /// Pairs of numbers, each once, in the order in which they were added. Contracts see the list of pairs, each as
 /// the list of its two numbers.
 #[derive(Drop)]
 pub struct NumberPairs {
-    pairs: IndexSet<NumberPair>,
+    numbers: BTreeMap<NumberPair, usize>,
 }
 
 impl Model for NumberPairs {
-    ghost use Rattle.std.specs.Prelude.{List, ℕ, map};
+    ghost use Rattle.std.specs.Prelude.{List, ℕ};
+    ghost use Rattle.table_rows.specs.ByNumber.{AreNumbered, by_number};
     ghost use Rattle.table_rows.specs.Pairs.{numbers_of_pair};
 
     ghost Value = { List (List ℕ) };
 
-    ghost view = { λ pairs. map numbers_of_pair pairs.pairs.keys };
+    ghost view = { λ pairs. by_number numbers_of_pair pairs.numbers.entries };
+
+    ghost invariant = { λ pairs. AreNumbered numbers_of_pair pairs.numbers.entries };
 }
 
 impl NumberPairs {
@@ -35,7 +34,7 @@ impl NumberPairs {
         ensures { result ≡ [] }
     {
         NumberPairs {
-            pairs: IndexSet::new(alloc),
+            numbers: BTreeMap::new(alloc),
         }
     }
 
@@ -45,21 +44,26 @@ impl NumberPairs {
         ensures appended { IfOk result (λ added. self.new ≡ (if added then self.old ++ (first ∷ second ∷ []) ∷ [] else self.old)) }
         ensures unchanged { OnErr result (self.new ≡ self.old) }
     {
-        let added = self.pairs.insert(NumberPair { first, second })?;
-        Ok(added)
+        let pair = (first, second);
+        if self.numbers.contains_key(&pair) {
+            return Ok(false);
+        }
+        let number = self.numbers.len();
+        self.numbers.insert(pair, number)?;
+        Ok(true)
     }
 
     /// How many pairs there are.
     pub fn len(&self) -> usize
         ensures { result ≡ length self.now }
     {
-        self.pairs.len()
+        self.numbers.len()
     }
 
     /// Whether there is no pair.
     pub fn is_empty(&self) -> bool
         ensures { IsTrue result ↔ (self.now ≡ []) }
     {
-        self.pairs.is_empty()
+        self.numbers.is_empty()
     }
 }

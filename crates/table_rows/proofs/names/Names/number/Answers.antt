@@ -1,6 +1,12 @@
-use Rattle.std.proofs.Common.{◌∙◌}
-use Rattle.table_rows.proofs.Places.{number_in_vectors}
+use Rattle.std.proofs.Common.{◌∙◌, ap}
+use Rattle.std.proofs.lemmas.Map.Text.{is_eq-slice_cmp}
+use Rattle.table_rows.specs.Names.{bytes_of, number_of}
+use Rattle.table_rows.proofs.ByNumber.{lookup_by_list, number_is_place}
 use Rattle.table_rows.proofs.names.Names.number.Goals as goal
 
 pub returns : goal.returns
-returns c = rw (← c.self.view_is) (c.get_index_of.ensures.index ∙ number_in_vectors c.self.inside.names.keys c.args.name.now)
+returns c =
+    let name = c.args.name.now in
+    let entries = c.self.inside.numbers.entries in
+    c.copied.ensures ∙ c.get.ensures.value ∙ lookup_by_list bytes_of _ name (λ key. is_eq-slice_cmp name key.items) entries
+    ∙ number_is_place bytes_of entries c.self.invariant name ∙ ap (number_of name) c.self.view_is
