@@ -107,7 +107,7 @@ def try_killed(tally):
             before = standing(folder / "day")
             was_killed = killed(name, number, lambda folder=folder: tables(folder))
             after = standing(folder / "day")
-            stand = after and {it: data for it, data in after.items() if not it.startswith(".ssim-")}
+            stand = after and {it: data for it, data in after.items() if not it.startswith(".")}
             put = {it for it, data in stand.items() if data != before[it]} if stand else set()
             wanted = before and {it: whole[it] if it in put else before[it] for it in before}
             most = number - 1 if name == "replace" and not is_new else 0

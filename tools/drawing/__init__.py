@@ -1,1 +1,1 @@
-"""How tools/draw reads what `solve` wrote, and draws it."""
+"""How tools/draw draws what `solve` wrote."""

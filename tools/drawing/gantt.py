@@ -1,6 +1,7 @@
 """A fleet's flights as a chart: one row for each day of its tour, or where it has none, rows in which no two overlap."""
 
-from drawing.svg import DAY_WIDTH, INK, LEFT, MINUTES, box, grid, group, line, picture, width_of, words, x_of
+from drawing.svg import DAY_WIDTH, INK, LEFT, box, grid, group, line, picture, width_of, words, x_of
+from fleetplan.times import DAY
 
 TOP, ROW, ABOVE, BAR = 24, 57, 24, 19
 TIE, NIGHT, GROUND = "#b3005e", "#1f3a5f", "#9aa3af"
@@ -14,7 +15,7 @@ class Bar:
 
     def __init__(self, leg, busy, row, nights=()):
         self.leg, self.row, self.nights = leg, row, nights
-        self.day, self.departs = divmod(leg.departure, MINUTES)
+        self.day, self.departs = divmod(leg.departure, DAY)
         self.lands, self.ready = self.departs + leg.block, self.departs + busy
 
 
@@ -64,14 +65,14 @@ class Chart:
     def row_at(self, bar, minute):
         """Returns the row of a minute that is counted from the start of the flight's own day."""
         if self.has_tour:
-            return (bar.row + minute // MINUTES) % self.rows
-        return self.lanes[(bar.day + minute // MINUTES) % self.schedule.period, bar.row]
+            return (bar.row + minute // DAY) % self.rows
+        return self.lanes[(bar.day + minute // DAY) % self.schedule.period, bar.row]
 
     def pieces(self, bar, start, end):
         """Yields a span of minutes, counted from the start of the flight's own day, as rows with their first and last minute."""
         while start < end:
-            stop = min(end, start - start % MINUTES + MINUTES)
-            yield self.row_at(bar, start), start % MINUTES, start % MINUTES + stop - start
+            stop = min(end, start - start % DAY + DAY)
+            yield self.row_at(bar, start), start % DAY, start % DAY + stop - start
             start = stop
 
     def flight(self, bar):
@@ -89,7 +90,7 @@ class Chart:
         for it in spans:
             if it == longest or width_of(leg.flight, 9) + 3 <= x_of(it[2]) - x_of(it[1]):
                 parts += self.number(leg.flight, x_of(it[1]), x_of(it[2]), it[0])
-        start = bar.day * MINUTES
+        start = bar.day * DAY
         departs, lands, ready = (self.schedule.moment(start + it) for it in (bar.departs, bar.lands, bar.ready))
         title = f"{leg.flight}: {leg.start} {departs} to {leg.end} {lands}, ready {ready}"
         title += f", {abs(leg.shift)} minutes {'later' if leg.shift > 0 else 'earlier'} than in legs.csv" if leg.shift else ""
@@ -114,7 +115,7 @@ class Chart:
 
     def ground(self, bar, following):
         """Yields the time on the ground from a flight to the next as a thin line."""
-        end = len(bar.nights) * MINUTES + following.departs
+        end = len(bar.nights) * DAY + following.departs
         for row, first, last in self.pieces(bar, bar.lands, end):
             y = y_of(row) + BAR / 2
             yield line(x_of(first), y, x_of(last), y, GROUND, 1.4)
@@ -124,7 +125,7 @@ class Chart:
         at = {it.leg.flight: it for it in self.bars}
         for into, out in self.rotation.pairs:
             first, second = at[into], at[out]
-            spans = list(self.pieces(first, first.lands, len(first.nights) * MINUTES + second.departs))
+            spans = list(self.pieces(first, first.lands, len(first.nights) * DAY + second.departs))
             parts = []
             for row, start, end in spans:
                 parts.append(line(x_of(start), y_of(row) + BAR / 2, x_of(end), y_of(row) + BAR / 2, TIE, 3.6))
@@ -137,7 +138,7 @@ class Chart:
     def nights(self, bar):
         """Yields the nights after a flight, each at the end of its day: filled where the aircraft can be maintained."""
         for at, (station, maintains) in enumerate(bar.nights):
-            y, width = y_of(self.row_at(bar, at * MINUTES)) - 1, 100 if maintains else 58
+            y, width = y_of(self.row_at(bar, at * DAY)) - 1, 100 if maintains else 58
             if station is None:
                 title, fill, more, text = "a night aloft or in its turn", "#ffffff", f'stroke="{INK}" stroke-dasharray="3 3"', "aloft"
             elif maintains:
@@ -165,7 +166,7 @@ def codes(leg, x, y, width, is_first, is_last):
 def packed(flown, period):
     """Returns flights in lanes in which no two are in the air at once, each in the first lane where it fits; and of each day (from 0) and
     lane that is wanted its row."""
-    minutes, lanes, bars, wanted = period * MINUTES, [], [], set()
+    minutes, lanes, bars, wanted = period * DAY, [], [], set()
     for leg, busy in sorted(flown, key=lambda it: it[0].departure):
         lands = leg.departure + leg.block
         spans = [(leg.departure, min(lands, minutes))] + ([(0, lands - minutes)] if lands > minutes else [])
@@ -174,7 +175,7 @@ def packed(flown, period):
             lanes.append([])
         lanes[lane] += spans
         bars.append(Bar(leg, busy, lane))
-        wanted.update((day % period, lane) for day in range(leg.departure // MINUTES, (leg.departure + busy - 1) // MINUTES + 1))
+        wanted.update((day % period, lane) for day in range(leg.departure // DAY, (leg.departure + busy - 1) // DAY + 1))
     return bars, {it: row for row, it in enumerate(sorted(wanted))}
 
 

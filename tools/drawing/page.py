@@ -5,7 +5,7 @@ from html import escape
 from drawing.gantt import Chart
 from drawing.grounds import Grounds
 from drawing.svg import Palette
-from hints.records import NO_FLEET
+from fleetplan.tables import NO_FLEET
 
 STYLE = """
 :root{color-scheme:light}

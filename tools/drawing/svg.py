@@ -2,20 +2,21 @@
 
 from html import escape
 
+from fleetplan.times import DAY
+
 # Colours that are told apart in print and by most eyes. Further fleets have the same ones, hatched.
 COLOURS = ("#0072b2", "#e69f00", "#009e73", "#cc79a7", "#56b4e9", "#d55e00", "#7b3fa0", "#b8a900", "#8c564b", "#5f6b7a")
 INK, FAINT, RULE = "#1c2330", "#6a7280", "#dfe3e8"
 # Pixels: what stands left of a day, a day, and what stands right of it.
 LEFT, DAY_WIDTH, RIGHT = 96, 1152, 132
 WIDTH = LEFT + DAY_WIDTH + RIGHT
-MINUTES = 1440
 STYLE = (
     "text{font-family:'DejaVu Sans',Verdana,Arial,sans-serif;fill:#1c2330}"
     ".faint{fill:#6a7280}.strong{font-weight:bold}.light{fill:#ffffff}"
 )
 
 
-def x_of(minute, minutes=MINUTES):
+def x_of(minute, minutes=DAY):
     """Returns where a minute from the day start stands, or from the start of a period of so many minutes."""
     return LEFT + minute * DAY_WIDTH / minutes
 
@@ -56,7 +57,7 @@ def picture(height, title, parts, width=WIDTH):
 def grid(schedule, top, bottom, every=120):
     """Returns the hours of the day as lines, with the clock above them."""
     parts = []
-    for minute in range(0, MINUTES + 1, 60):
+    for minute in range(0, DAY + 1, 60):
         strong = minute % every == 0
         parts.append(line(x_of(minute), top, x_of(minute), bottom, "#c3c9d2" if strong else RULE))
         if strong:

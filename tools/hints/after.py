@@ -1,14 +1,13 @@
 """Which hint belongs to an answer."""
 
 import os
-import subprocess
 import sys
 
-from hints.saying import Hint, quietly, typed
-from hints.words import Call
+from fleetplan.program import answer
+from fleetplan.texts import quietly, typed
+from fleetplan.words import Call
+from hints.saying import Hint
 
-TOP = os.path.dirname(os.path.dirname(os.path.dirname(os.path.realpath(__file__))))
-PROGRAM = os.path.join(TOP, "crates", "fleetplan", "out", "fleetplan")
 # What one more run of the program may take.
 SECONDS = 5
 # What an answer of `tails` or `due` may hold that is looked through.
@@ -67,9 +66,7 @@ def tell(hint, status, said, command, call):
 def once_more(call):
     """Returns what the program prints for the same words: where it refused something, or writes nothing, a further run changes
     nothing."""
-    how = {"stdin": subprocess.DEVNULL, "stdout": subprocess.PIPE, "stderr": subprocess.DEVNULL, "timeout": SECONDS}
-    ran = subprocess.run([PROGRAM, *call.all], check=False, **how)
-    return ran.stdout[:MOST_LETTERS].decode("utf-8", "replace")
+    return answer(call.all, SECONDS)[1][:MOST_LETTERS].decode("utf-8", "replace")
 
 
 def tell_refusal(hint, command, call, said):
@@ -87,14 +84,13 @@ def tell_answer(hint, status, said, command, call):
     if status != "0":
         from hints import open_ends
 
-        quietly(open_ends.explain, hint, command, call, PROGRAM)
+        quietly(open_ends.explain, hint, command, call)
     if call.command in ("solve", "make", "tails", "due"):
+        from fleetplan.rotations import ends_of
         from hints import rotations
 
-        if call.command in ("tails", "due"):
-            answers = rotations.of_summary(said or once_more(call))
-        else:
-            answers = rotations.of_file(call.folder)
+        is_summary = call.command in ("tails", "due")
+        answers = rotations.of_summary(said or once_more(call)) if is_summary else ends_of(call.folder)
         rotations.explain(hint, command, call, answers)
 
 

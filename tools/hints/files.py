@@ -5,29 +5,19 @@ import os
 import shutil
 import stat
 
-from hints.records import ASKED, TABLES
-from hints.saying import listed, typed
+from fleetplan.tables import ASKED, HEADERS, TABLES, WRITTEN
+from fleetplan.texts import listed, typed
 
 SECTION = "the-files-of-a-folder"
-# What a command reads behind the tables.
-READS = {
-    "judge": ("plan.csv",),
-    "tails": ("plan.csv",),
-    "due": ("tails.csv", "plan.csv"),
-    "solve": (),
-    "check": ("proof.txt", "plan.csv"),
-    "whatif": ("proof.txt", "plan.csv"),
-}
-# Of a table that only some calls read what it is for, and lines of one.
+# Of a table that only some calls read what it is for, and a record of one.
 MORE_TABLES = {
-    "windows.csv": ("each flight that may depart some minutes later, or earlier (below 0), and what that costs", ("flight,shift,extra", "X2,10,5")),
-    "optional.csv": ("each flight that may be left out, and what that costs", ("flight,skip", "X2,30")),
+    "windows.csv": ("each flight that may depart some minutes later, or earlier (below 0), and what that costs", "X2,10,5"),
+    "optional.csv": ("each flight that may be left out, and what that costs", "X2,30"),
     "tails.csv": (
         "the aircraft of each fleet, with the nights left to each until it has to come to maintenance",
-        ("tail,fleet,left", "DAFPA,A320,3"),
+        "DAFPA,A320,3",
     ),
 }
-WRITES = {"solve": ("plan.csv", "proof.txt", "rotation.csv"), "make": (*TABLES, "plan.csv", "proof.txt", "rotation.csv")}
 # How many names of a folder are looked through.
 MOST_NAMES = 2000
 
@@ -88,9 +78,9 @@ def tell_folder(hint, folder, call):
 
 def files_of(call):
     """Returns the files that a call reads, in its order."""
-    if call.command not in READS:
+    if not call.own.needs_tables:
         return ()
-    return (*TABLES, *(name for option, name in ASKED.items() if call.has(option)), *READS[call.command])
+    return (*TABLES, *(name for option, name in ASKED.items() if call.has(option)), *call.own.reads)
 
 
 def tell_reads(hint, command, call):
@@ -146,7 +136,7 @@ def tell_missing(hint, command, call, name):
     """Says what may stand for a missing file, and how to come by it."""
     has = names_in(call.folder)
     like = [it for it in has if it.lower() == name]
-    known = (*TABLES, *MORE_TABLES, "plan.csv", "proof.txt", "rotation.csv")
+    known = (*TABLES, *MORE_TABLES, *WRITTEN)
     near = like or [it for it in difflib.get_close_matches(name, has, 3, 0.75) if it not in known]
     if near:
         why = "in other letters" if like else "with a name like it"
@@ -156,10 +146,10 @@ def tell_missing(hint, command, call, name):
         hint.say("where there are no through pairs an empty file will do:")
         hint.show(typed(["touch", os.path.join(call.folder, name)]))
     elif name in MORE_TABLES:
-        holds, lines = MORE_TABLES[name]
+        holds, line = MORE_TABLES[name]
         hint.say(f"it names {holds}, such as:")
-        for line in lines:
-            hint.show(line)
+        hint.show(",".join(HEADERS[name]))
+        hint.show(line)
     elif name in ("plan.csv", "proof.txt"):
         hint.say("solve writes it, where it has a plan:" if name == "plan.csv" else "solve writes it:")
         hint.show(typed([command, "solve", call.folder, *call.reading]))
@@ -167,13 +157,13 @@ def tell_missing(hint, command, call, name):
 
 def tell_writes(hint, call):
     """Says which file can't be written, and returns whether one can't."""
-    for name in WRITES.get(call.command, ()):
+    for name in call.own.writes:
         path = os.path.join(call.folder, name)
         why = wrong_to_write(path)
         if why:
             hint.say(f"{path} {why}")
             return True
-    if call.command in WRITES and shutil.disk_usage(call.folder or "/").free == 0:
+    if call.own.writes and shutil.disk_usage(call.folder or "/").free == 0:
         hint.say(f"the disk of {call.folder} is full")
         return True
     return False

@@ -2,9 +2,9 @@
 
 import re
 
-from hints.forms import fields_of
-from hints.records import HEADERS, MARK, bytes_of, headers_of, records_in
-from hints.saying import plain
+from fleetplan.records import MARK, bytes_of, records_in
+from fleetplan.tables import HEADERS, forms_of, headers_of
+from fleetplan.texts import plain
 
 # How a file begins that is no table.
 KINDS = (
@@ -70,7 +70,7 @@ def difference(has, wanted, name):
     others = [it for it, header in HEADERS.items() if header == has and it != name]
     if others:
         return f"that is the header of {others[0]}"
-    if len(has) == len(wanted) and not any(wrong(text) for wrong, text in zip(fields_of(name, wanted), has)):
+    if len(has) == len(wanted) and not any(wrong(text) for wrong, text in zip(forms_of(name, wanted), has)):
         return "that is a good record: write the header above it"
     return None
 

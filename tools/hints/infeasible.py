@@ -1,11 +1,12 @@
 """What is said where no plan is legal (status 4): the first causes that simple counts show, and what to try."""
 
+import itertools
 import os
 
-from hints.records import Unread
-from hints.saying import counted, listed
-from hints.schedule import DAY, schedule_of, under_way
-from hints.unread import tell_unread
+from fleetplan.errors import Unread
+from fleetplan.texts import counted, listed
+from fleetplan.times import DAY
+from hints.reading import schedule_of, tell_unread
 
 SECTION = "what-solve-prints-and-writes"
 # The most groups of fleets that are counted one by one.
@@ -129,6 +130,21 @@ def aircraft_wanted(schedule):
             yield f"at {schedule.moment(minutes.index(most))} {most} flights{which} are in the air or in their turn, {have}"
         elif len(flown) == len(schedule.legs) and schedule.used(flown) > has:
             yield f"the flights need {schedule.used(flown)} aircraft, however they are shared out, {have}"
+
+
+def under_way(flown, period):
+    """Returns of each minute of a period of so many how many of these flights are in the air or in their turn, each flown once in it."""
+    changes = [0] * (period + 1)
+    always = 0
+    for leg, busy in flown:
+        always += busy // period
+        start, end = leg.departure, leg.departure + busy % period
+        changes[start] += 1
+        changes[min(end, period)] -= 1
+        if end > period:
+            changes[0] += 1
+            changes[end - period] -= 1
+    return [always + it for it in itertools.accumulate(changes[:period])]
 
 
 def surely(schedule, leg):

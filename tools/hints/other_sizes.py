@@ -5,8 +5,9 @@ import difflib
 import os
 import re
 
-from hints.refused_tables import names_in, unknown
-from hints.saying import quietly, typed
+from fleetplan.records import names_in
+from fleetplan.texts import quietly, typed
+from hints.refused_tables import unknown
 
 SECTION = "what-whatif-prints"
 UNKNOWN = re.compile(r"unknown fleet: (.*)", re.DOTALL)

@@ -3,10 +3,11 @@
 import os
 import re
 
-from hints.records import HEADERS, NO_FLEET, SHIFTED, record_of, rows_of
-from hints.refused_tables import names_in, show, unknown
-from hints.saying import counted, listed, quietly, typed
-from hints.schedule import schedule_of
+from fleetplan.records import names_in, record_of, rows_of
+from fleetplan.tables import HEADERS, NO_FLEET, SHIFTED
+from fleetplan.texts import counted, listed, quietly, typed
+from hints.reading import schedule_of
+from hints.refused_tables import show, unknown
 
 PLAN = "the-plan-and-its-kinds-1-to-5"
 JUDGE = "what-judge-prints"

@@ -4,9 +4,9 @@ import os
 import re
 import stat
 
-from hints.records import NO_FLEET
-from hints.saying import plain, quietly, typed
-from hints.unread import tell_unread
+from fleetplan.tables import NO_FLEET
+from fleetplan.texts import plain, quietly, typed
+from hints.reading import tell_unread
 
 TEXT = "what-is-wrong-with-the-text-of-a-proof-kinds-1-to-9"
 RULES = "what-check-prints"

@@ -5,10 +5,11 @@ import os
 import re
 from collections import Counter
 
-from hints.forms import fields_of, whole
+from fleetplan.forms import whole
+from fleetplan.records import names_in, record_of, records_of
+from fleetplan.tables import DAY, HEADERS, LIMITED, MOST_BYTES, MOST_DAYS, MOST_TRIPLES, MOST_WINDOWS, TABLE, forms_of, headers_of
+from fleetplan.texts import listed, plain, quietly
 from hints.headers import explain_header
-from hints.records import DATED, HEADERS, LIMITED, MOST_BYTES, bytes_of, headers_of, record_of, records_in
-from hints.saying import listed, plain, quietly
 
 SECTION = "what-is-wrong-with-a-table-kinds-1-to-14"
 REFUSAL = re.compile(r"bad input: (\S+) record (\d+) kind (\d+)")
@@ -28,19 +29,8 @@ MEANS = {
     13: "this flight may depart at more times than a flight may have, and this record is the first of them",
     14: "with this record there are more flights with a fleet at a time than there may be",
 }
-# Of each table the most records, where there is a limit, and how many of its first fields may stand there once.
-LIMITS = {"stations.csv": 200, "fleets.csv": 20, "legs.csv": 1000, "throughs.csv": 2000, "windows.csv": 8000, "optional.csv": 1000, "tails.csv": 10000}
-# The most records of a flight in windows.csv, and the most pairs of a flight and a fleet that may fly it, each at each of the flight's times.
-MOST_WINDOWS, MOST_TRIPLES = 8, 20_000
-# The column that a period says more of, and the most days of one.
-DAY, MOST_DAYS = DATED[1], 7
-KEYS = {"costs.csv": 2, "throughs.csv": 2, "windows.csv": 2}
-# Of each kind that looks a name up, where, and the fields of each table that hold such names.
-LOOKUPS = {
-    6: ("stations.csv", {"legs.csv": ("from", "to")}),
-    7: ("legs.csv", {"costs.csv": ("flight",), "throughs.csv": ("in", "out"), "windows.csv": ("flight",), "optional.csv": ("flight",)}),
-    8: ("fleets.csv", {"costs.csv": ("fleet",), "tails.csv": ("fleet",)}),
-}
+# Of each kind that looks a name up, where.
+LOOKUPS = {6: "stations.csv", 7: "legs.csv", 8: "fleets.csv"}
 
 
 def explain(hint, folder, said, period):
@@ -84,7 +74,7 @@ class Form:
         first = record_of(path, 1)
         self.name = name
         self.header = next((it for it in headers_of(name, period) if first and it == tuple(first.texts)), HEADERS[name])
-        self.fields = fields_of(name, self.header, period)
+        self.fields = forms_of(name, self.header, period)
 
     def of(self, record, column):
         """Returns a field of a record by its column."""
@@ -139,14 +129,14 @@ def tell_form(path, form, record):
 
 def key_of(name, record):
     """Returns what may stand once in a table. Minutes of a shift are one number, however they are written."""
-    flight, *others = record.texts[: KEYS.get(name, 1)]
+    flight, *others = record.texts[: TABLE[name].keys]
     return (flight, *map(int, others)) if name == "windows.csv" else (flight, *others)
 
 
 def tell_twice(path, form, record):
-    name, count = form.name, KEYS.get(form.name, 1)
+    name, count = form.name, TABLE[form.name].keys
     key = key_of(name, record)
-    for it in records_in(bytes_of(path)):
+    for it in records_of(path):
         if it.number >= record.number:
             return None
         if it.number > 1 and key_of(name, it) == key:
@@ -157,19 +147,14 @@ def tell_twice(path, form, record):
 
 def teller_of_names(kind):
     """Returns what tells which name of a record another table doesn't have."""
-    table, columns = LOOKUPS[kind]
+    table = LOOKUPS[kind]
 
     def tell(path, form, record):
         has = names_in(os.path.join(os.path.dirname(path), table))
-        wrong = [it for it in (form.of(record, column) for column in columns[form.name]) if it not in has]
+        wrong = [it for it in (form.of(record, column) for column in TABLE[form.name].named(table)) if it not in has]
         return [unknown(it, table, has) for it in dict.fromkeys(wrong)]
 
     return tell
-
-
-def names_in(path):
-    """Returns the names in the first column of a table, in their order."""
-    return [it.texts[0] for it in records_in(bytes_of(path)) if it.number > 1]
 
 
 def unknown(text, table, has):
@@ -191,19 +176,18 @@ def tell_station(path, form, record):
 
 
 def tell_many(path, form, record):
-    number, limit = sum(1 for _ in records_in(bytes_of(path))) - 1, LIMITS[form.name]
-    return [f"the file has {number:,} records below its header, and may have {limit:,}"] if number > limit else []
+    number, most = sum(1 for _ in records_of(path)) - 1, TABLE[form.name].most
+    return [f"the file has {number:,} records below its header, and may have {most:,}"] if most and number > most else []
 
 
 def tell_windows(path, form, record):
     flight = form.of(record, "flight")
-    number = sum(1 for it in records_in(bytes_of(path)) if it.number > 1 and it.texts[0] == flight)
+    number = names_in(path).count(flight)
     return [f"{flight} has {number} records here, and may have {MOST_WINDOWS}"] if number > MOST_WINDOWS else []
 
 
 def tell_triples(path, form, record):
-    fleets = Counter(it.texts[0] for it in records_in(bytes_of(os.path.join(os.path.dirname(path), "costs.csv"))) if it.number > 1)
-    windows = Counter(it.texts[0] for it in records_in(bytes_of(path)) if it.number > 1)
+    fleets, windows = (Counter(names_in(it)) for it in (os.path.join(os.path.dirname(path), "costs.csv"), path))
     number = sum(count * (1 + windows[flight]) for flight, count in fleets.items())
     if number <= MOST_TRIPLES:
         return []

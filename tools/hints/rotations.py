@@ -3,12 +3,10 @@
 import math
 import re
 
-from hints.records import Unread, rows_of
-from hints.saying import listed, typed
+from fleetplan.texts import listed, typed
+from fleetplan.words import MOST_MAINTENANCE, MOST_SEARCH
 
 SECTION = "what-became-of-a-rotation-and-what-to-do"
-MOST_DAYS = 30
-MOST_VISITS = 1_000_000
 # The words of a refused rotation, as they are printed.
 REFUSED = re.compile(
     r"(?:rotation )?([A-Z0-9]{1,8}): "
@@ -42,7 +40,7 @@ def more_days(answers, call):
         elif found and found[2] == "none":
             wanted.append(days + 1)
     best = max(wanted, default=0)
-    return best if days < best <= MOST_DAYS else None
+    return best if days < best <= MOST_MAINTENANCE else None
 
 
 def advice(answer, call):
@@ -65,16 +63,16 @@ def plain_advice(found, days, visits):
             nights = "no night is at a station with maintenance, so no --days helps"
             return f"{nights}: let a station maintain where it stands at the day start, or take another --day-start"
         least = math.ceil(of / has)
-        more = f"--days {least} is the least that can do" if least <= MOST_DAYS else "no --days is enough"
+        more = f"--days {least} is the least that can do" if least <= MOST_MAINTENANCE else "no --days is enough"
         are = "is" if has == 1 else "are"
         return f"{has} of its {of} nights {are} at a station with maintenance: {more}, or let a further station maintain"
     if words.startswith("apart"):
         return f"{found[5]} of its flights never meet the others: let two aircraft meet at a station, or make two fleets of it"
     if words == "none":
-        more = f"--days {days + 1}" if days < MOST_DAYS else "maintenance at a further station"
+        more = f"--days {days + 1}" if days < MOST_MAINTENANCE else "maintenance at a further station"
         return f"every tour goes {days} nights without maintenance somewhere: allow {more}, or let a further station maintain"
     if words == "visits spent":
-        more = "more --visits" if visits < MOST_VISITS else "one more of --days"
+        more = "more --visits" if visits < MOST_SEARCH else "one more of --days"
         return f"the search was cut off, so there may be a tour: allow {more}"
     return None
 
@@ -82,26 +80,3 @@ def plain_advice(found, days, visits):
 def of_summary(text):
     """Returns the fleets and what became of their rotations, as a summary, tails or due tell it, in lines."""
     return [(it[1], it[0].partition(": ")[2]) for it in map(REFUSED.fullmatch, text.splitlines()) if it]
-
-
-def of_file(folder):
-    """Returns the same by rotation.csv, or nothing where that doesn't read."""
-    try:
-        rows = rows_of(folder, "rotation.csv")
-    except Unread:
-        return []
-    last = {}
-    for fleet, turn, kind, a, b in rows:
-        if kind in ("tour", "unused", "nights", "apart", "none", "visits"):
-            last[fleet] = told(kind, a, b) + (" without throughs" if turn == "2" else "")
-    return list(last.items())
-
-
-def told(kind, a, b):
-    """Returns the words of an answer, by its record."""
-    return {
-        "tour": f"tour of {b} legs in {a} days",
-        "nights": f"too few nights {a} of {b}",
-        "apart": f"apart {a} legs",
-        "visits": "visits spent",
-    }.get(kind, kind)

@@ -3,12 +3,12 @@
 import os
 import re
 
-from hints.saying import typed
-from hints.words import COMMANDS, OPTIONS, OPTIONS_OF, Call, word_of
+from fleetplan.program import PROGRAM, TOP
+from fleetplan.texts import typed
+from fleetplan.words import COMMANDS, OPTIONS, Call
 
-TOP = os.path.dirname(os.path.dirname(os.path.dirname(os.path.realpath(__file__))))
 # What tools/build notes of the kit beside the program that it builds.
-KIT = os.path.join(TOP, "crates", "fleetplan", "out", "kit")
+KIT = os.path.join(os.path.dirname(PROGRAM), "kit")
 SECTION = "the-words-of-a-call"
 FILES = (
     ("stations.csv", "stations: code, extra minutes of a turn there, maintenance yes or no, room at night if limited"),
@@ -57,12 +57,11 @@ def is_good(words):
 
 def show_command(hint, command, name):
     """Shows a command with its words and options."""
-    form, does = COMMANDS[name]
-    hint.say(f"{typed([command])} {form} {does}.")
-    for word in form.split()[2:]:
-        form_of, means = word_of(name, word)
-        hint.show(f"{word:<18} {means}: {form_of.form}")
-    for option in OPTIONS_OF[name]:
+    own = COMMANDS[name]
+    hint.say(f"{typed([command])} {' '.join([name, *own.names])} {own.does}.")
+    for word, (form, means, _) in own.words.items():
+        hint.show(f"{word:<18} {means}: {form.form}")
+    for option in own.options:
         placeholder, _, default, means = OPTIONS[option]
         without = f" (without it {default})" if default else ""
         hint.show(f"{f'--{option} {placeholder}':<18} {means}{without}")
@@ -70,8 +69,8 @@ def show_command(hint, command, name):
 
 def show_commands(hint, command):
     hint.say("The commands:")
-    for form, does in COMMANDS.values():
-        hint.show(f"{typed([command])} {form:<22} {does}")
+    for name, own in COMMANDS.items():
+        hint.show(f"{typed([command])} {' '.join([name, *own.names]):<22} {own.does}")
 
 
 def show_page(hint, command):
@@ -80,7 +79,7 @@ def show_page(hint, command):
     show_commands(hint, command)
     hint.say("The options, with what they are where they aren't given:")
     for option, (placeholder, _, default, means) in OPTIONS.items():
-        of = ", ".join(it for it in COMMANDS if option in OPTIONS_OF[it])
+        of = ", ".join(it for it in COMMANDS if option in COMMANDS[it].options)
         without = f" ({default})" if default else ""
         hint.show(f"{f'--{option} {placeholder}':<18} {means}{without}; of {of}")
     hint.say("The files in the folder DIR:")

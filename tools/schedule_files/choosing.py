@@ -1,8 +1,8 @@
 """Other times of legs, and legs that may be left out, as files of the caller's say."""
 
-from hints.forms import FIELDS, name
-from hints.records import ASKED, HEADERS, Unread
-from hints.refused_tables import MOST_TRIPLES, MOST_WINDOWS
+from fleetplan.errors import Unread
+from fleetplan.forms import name
+from fleetplan.tables import ASKED, HEADERS, MOST_TRIPLES, MOST_WINDOWS, TABLE
 from schedule_files.files import judged
 
 # What stands for each leg that has no record of its own.
@@ -15,7 +15,7 @@ class Asked:
 
     def __init__(self, option, path, flown, costs):
         self.option, self.table, self.path = option, ASKED[option], path
-        _, *forms = FIELDS[self.table]
+        _, *forms = TABLE[self.table].forms
         found = {}
         for flight, *rest in judged(path, HEADERS[self.table], (flight_or_each, *forms), pair if option == "windows" else None):
             found.setdefault(flight, []).append(rest)
@@ -29,7 +29,7 @@ class Asked:
         """Refuses more records of a flight than a leg may have."""
         most = max(found, key=lambda it: len(found[it]), default=None)
         if most and len(found[most]) > MOST_WINDOWS:
-            raise Unread(f"{self.path} has {len(found[most])} records of {most}, it should have {MOST_WINDOWS} at most")
+            raise Unread.of(self.path, f"has {len(found[most])} records of {most}, it should have {MOST_WINDOWS} at most")
 
     def check_times(self, costs):
         """Refuses more pairs of a leg and a fleet, each as often as the leg has times, than tables may have."""

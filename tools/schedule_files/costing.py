@@ -1,14 +1,14 @@
 """Stations, fleets and costs of the tables, as files of the caller's say or as the schedule file has them."""
 
-from hints.forms import FIELDS, TRILLION, code, fields_of, name, whole
-from hints.records import HEADERS, Unread, headers_of, record_of
+from fleetplan.errors import Unread
+from fleetplan.forms import TRILLION, code, name, whole
+from fleetplan.records import record_of
+from fleetplan.tables import HEADERS, TABLE, forms_of, headers_of
 from schedule_files.files import judged
 from schedule_files.layout import LEG, BadLine
 
 PRICES = ("fleet", "departure", "minute", "longest", "closed")
 TURN = 30
-MOST_AIRCRAFT = 500
-MOST_FLEETS = 20
 
 
 def stations_of(path, schedule, flown):
@@ -20,7 +20,7 @@ def stations_of(path, schedule, flown):
     if path is None:
         return [(it, 0, "no") for it in sorted(occurs)]
     header = station_header(path)
-    found = judged(path, header, fields_of("stations.csv", header))
+    found = judged(path, header, forms_of("stations.csv", header))
     check_all(path, schedule, occurs, {it[0] for it in found})
     return [it for it in found if it[0] in occurs]
 
@@ -39,9 +39,10 @@ def fleets_of(path, schedule, flown):
         occurs.setdefault(it.leg.type, (it.leg, "aircraft type"))
     if path is None:
         return [(it, None, TURN) for it in sorted(occurs)]
-    found = judged(path, HEADERS["fleets.csv"], FIELDS["fleets.csv"])
-    if len(found) > MOST_FLEETS:
-        raise Unread(f"{path} record {MOST_FLEETS + 2}: {len(found)} fleets, it should be {MOST_FLEETS} at most")
+    table = TABLE["fleets.csv"]
+    found = judged(path, table.header, table.forms)
+    if len(found) > table.most:
+        raise Unread.at(path, table.most + 2, f"{len(found)} fleets, it should be {table.most} at most")
     check_all(path, schedule, occurs, {it[0] for it in found})
     return found
 
@@ -84,7 +85,7 @@ def prices_of(path, fleets):
     found = {it[0]: Prices(it) for it in judged(path, PRICES, (name, price, price, longest, codes))}
     for it, *_ in fleets:
         if it not in found:
-            raise Unread(f"{path} has no record of {it}, it should have one of each fleet")
+            raise Unread.of(path, f"has no record of {it}, it should have one of each fleet")
     return found
 
 

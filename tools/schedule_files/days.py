@@ -2,9 +2,9 @@
 
 import datetime
 
+from fleetplan.times import DAY
 from schedule_files.layout import MONTHS, OPEN_END
 
-DAY = 1440
 # The day of an open end, later than any other.
 OPEN = datetime.date.max.toordinal()
 # The last day that a line can write.
@@ -57,8 +57,3 @@ class Dates:
 
     def __str__(self):
         return f"on {iso(self.first)}" if self.count == 1 else f"in the {self.count} days from {iso(self.first)}"
-
-
-def clock(minute):
-    """Returns a minute of the day as HH:MM."""
-    return f"{minute // 60:02}:{minute % 60:02}"

@@ -6,10 +6,9 @@ import subprocess
 import sys
 import tempfile
 
-from hints.records import Unread
-from schedule_files.files import write_all
-
-TOP = os.path.dirname(os.path.dirname(os.path.dirname(os.path.realpath(__file__))))
+from fleetplan.errors import FAULT, Unread
+from fleetplan.program import TOP
+from schedule_files.files import write_tables
 
 
 def program():
@@ -22,7 +21,7 @@ def used_by(texts, fleets, days):
     reason why not."""
     with tempfile.TemporaryDirectory(prefix="ssim-") as scratch:
         folder = os.path.join(scratch, "filed")
-        write_all(folder, texts)
+        write_tables(folder, texts)
         status, said = run([program(), "judge", folder, *(["--period", str(days)] if days > 1 else [])])
     lines = said.splitlines()
     if status == 0 and lines and lines[0].startswith("legal: "):
@@ -31,7 +30,7 @@ def used_by(texts, fleets, days):
             return {it[1]: int(it[2]) for it in found}, None
     if status == 9 and len(lines) == 1 and re.match("unbalanced|too many", lines[0]):
         return None, lines[0]
-    raise Unread(f"{program()} judge ended with status {status}{': ' + lines[0] if lines else ''}, it should judge the plan as filed", 7)
+    raise Unread(f"{program()} judge ended with status {status}{': ' + lines[0] if lines else ''}, it should judge the plan as filed", FAULT)
 
 
 def run(words):
@@ -44,4 +43,4 @@ def run(words):
             said = ran.stdout.read().decode("utf-8", "replace")
         return ran.returncode, said
     except OSError as error:
-        raise Unread(f"{words[0]} can't be run: {error.strerror}", 7) from error
+        raise Unread.of(words[0], f"can't be run: {error.strerror}", FAULT) from error

@@ -2,7 +2,8 @@
 
 import re
 
-from hints.records import Unread
+from fleetplan.errors import Unread
+from fleetplan.texts import printed
 
 LENGTH = 200
 TITLE = "AIRLINE STANDARD SCHEDULE DATA SET"
@@ -22,7 +23,7 @@ class BadLine(Unread):
     """A line that isn't as it should be."""
 
     def __init__(self, path, line, what, where, should):
-        super().__init__(f"{path} line {line}: {what} ({where}), it should be {should}")
+        super().__init__(f"{path} line {line}: {what} ({where}), it should be {should}", file=path, record=line)
 
 
 def bytes_from(first, last):
@@ -47,11 +48,6 @@ class Field:
     def fault(self, path, number, line, should=None):
         """Returns the fault of a line whose field isn't as it should be."""
         return BadLine(path, number, f'{self.name} is "{printed(self.of(line))}"', self.where, should or self.should)
-
-
-def printed(text):
-    """Returns a text whose odd letters can be seen."""
-    return "".join(it if 32 <= ord(it) < 127 else f"\\x{ord(it):02x}" for it in text)
 
 
 class Layout:

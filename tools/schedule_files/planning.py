@@ -6,14 +6,16 @@ import os
 import re
 from collections import Counter
 
-from hints.forms import MOST_SHIFT
-from hints.records import DATED, HEADERS, NO_FLEET, SHIFTED, Unread, headers_of
-from schedule_files.days import DAY, clock, iso, text_of
+from fleetplan.errors import Unread
+from fleetplan.forms import MOST_SHIFT
+from fleetplan.tables import DATED, HEADERS, NO_FLEET, SHIFTED, headers_of
+from fleetplan.texts import printed, some
+from fleetplan.times import DAY, clock
+from schedule_files.days import iso, text_of
 from schedule_files.files import rows
-from schedule_files.layout import BadLine, ZEROS, printed
+from schedule_files.layout import BadLine, ZEROS
 from schedule_files.reading import MOST_RECORDS, read_schedule
 from schedule_files.retiming import common_dates, move_of, moved, retimed
-from schedule_files.selecting import some
 from schedule_files.splitting import LEFT_OUT, Planned, parts_by_date, parts_by_weekday
 from schedule_files.tables import NAMES
 
@@ -57,7 +59,7 @@ def first_day(flown, way):
 def way_of(leg, operates, first):
     """Returns where and when a leg departs and arrives as legs.csv has it, where the first day of the tables is known with its day."""
     day = [] if first is None else [str(operates + leg.departure // DAY + 1 - first)]
-    return [*day, leg.origin, clock(leg.departure % DAY), leg.destination, clock(leg.arrival % DAY)]
+    return [*day, leg.origin, clock(leg.departure), leg.destination, clock(leg.arrival)]
 
 
 def check_way(where, schedule, leg, filed, way):

@@ -1,8 +1,10 @@
 """A whole schedule file, each of its lines judged."""
 
-from hints.records import Unread
+from fleetplan.errors import Unread
+from fleetplan.texts import printed
+from fleetplan.times import DAY
 from schedule_files import layout
-from schedule_files.days import DATE_VARIATIONS, DAY, OPEN, TIMES, VARIATIONS, day_of, iso, weekday_of
+from schedule_files.days import DATE_VARIATIONS, OPEN, TIMES, VARIATIONS, day_of, iso, weekday_of
 from schedule_files.layout import LENGTH, ZEROS, BadLine
 
 MOST_RECORDS = 999_999
@@ -96,7 +98,7 @@ class Reader:
                 continue
             kind = line[0]
             if kind not in FOLLOWS[self.state]:
-                what = f'record type is "{layout.printed(kind)}"'
+                what = f'record type is "{printed(kind)}"'
                 raise BadLine(self.path, number, what, "byte 1", WORDS[FOLLOWS[self.state]])
             self.state = kind
             self.takes[kind](number, line)
@@ -192,7 +194,7 @@ class Reader:
             layout.SEGMENT.judge(self.path, number, line)
         of = self.lines[self.leg.number - 1]
         if line[1:14] != of[1:14] and line[1:14].replace(" ", "0") != of[1:14].replace(" ", "0"):
-            what = f'the flight and its leg are "{layout.printed(line[1:14])}"'
+            what = f'the flight and its leg are "{printed(line[1:14])}"'
             raise BadLine(self.path, number, what, "bytes 2 to 14", f'"{of[1:14]}" as in line {self.leg.number}')
         if line[27] != of[127]:
             field = layout.SEGMENT["itinerary variation overflow"]

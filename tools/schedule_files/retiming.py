@@ -2,7 +2,8 @@
 
 import itertools
 
-from schedule_files.days import ALL_DAYS, DATE_VARIATIONS, DAY, LAST_DAY, OPEN, TIMES, WEEK, text_of, weekday_of
+from fleetplan.times import DAY
+from schedule_files.days import ALL_DAYS, DATE_VARIATIONS, LAST_DAY, OPEN, TIMES, WEEK, text_of, weekday_of
 from schedule_files.layout import LEG, BadLine
 from schedule_files.splitting import FORTNIGHT
 

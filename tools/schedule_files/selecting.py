@@ -2,8 +2,10 @@
 
 from collections import Counter
 
-from hints.records import Unread
-from schedule_files.days import DAY
+from fleetplan.errors import Unread
+from fleetplan.tables import TABLE
+from fleetplan.texts import some
+from fleetplan.times import DAY
 
 # Service types of surface vehicles, and the codes of such vehicles where aircraft types stand.
 SURFACE_SERVICES = frozenset("UV")
@@ -13,11 +15,6 @@ DISCLOSED = "operated by another airline (byte 149)"
 SURFACE = "by surface (--surface keeps them)"
 SEASON = "of another season, by their carrier record"
 UNASKED = {"services": "of another service type", "types": "of another aircraft type", "stations": "to or from another station"}
-MOST_LEGS = 1000
-MOST_STATIONS = 200
-MOST_FLEETS = 20
-# How many counts of a smaller set are told.
-TOLD = 6
 
 
 class Flown:
@@ -87,8 +84,9 @@ def check_size(path, dates, chosen):
             stations[code] += len(days)
         types[leg.type] += len(days)
         services[leg.service] += len(days)
-    counts = (("legs", sum(types.values()), MOST_LEGS), ("stations", len(stations), MOST_STATIONS))
-    for what, count, most in (*counts, ("aircraft types", len(types), MOST_FLEETS)):
+    counts = (("legs", sum(types.values()), "legs"), ("stations", len(stations), "stations"), ("aircraft types", len(types), "fleets"))
+    for what, count, table in counts:
+        most = TABLE[f"{table}.csv"].most
         if count > most:
             ways = (("types", types), ("stations-only", stations), ("service", services))
             told = "; ".join(f"--{option}: {listed(counter)}" for option, counter in ways)
@@ -98,9 +96,3 @@ def check_size(path, dates, chosen):
 def listed(counter):
     """Returns the greatest counts, as `320 in 800 legs`."""
     return some([f"{name} {count}" for name, count in sorted(counter.items(), key=lambda it: (-it[1], it[0]))])
-
-
-def some(texts):
-    """Returns the first of some texts, and how many more there are."""
-    rest = f" and {len(texts) - TOLD} more" if len(texts) > TOLD else ""
-    return ", ".join(texts[:TOLD]) + rest

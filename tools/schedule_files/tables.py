@@ -3,10 +3,14 @@
 import os
 from collections import Counter
 
-from hints.records import ASKED, DATED, HEADERS, LIMITED, SHIFTED
+from fleetplan.forms import MOST_AIRCRAFT
+from fleetplan.records import text_of
+from fleetplan.tables import ASKED, DATED, HEADERS, LIMITED, SHIFTED
+from fleetplan.texts import some
+from fleetplan.times import clock
 from schedule_files import choosing, costing, judging, naming, selecting
-from schedule_files.days import clock, iso
-from schedule_files.files import table, write_all
+from schedule_files.days import iso
+from schedule_files.files import write_tables
 
 NAMES = ("flight", "airline", "number", "suffix", "variation", "leg", "line", "operates")
 
@@ -37,7 +41,7 @@ class Made:
 
     def count_aircraft(self):
         """Gives each fleet as many aircraft as the plan as filed uses, by the program; or as many as a fleet may have."""
-        most = [(fleet, costing.MOST_AIRCRAFT, turn) for fleet, _, turn in self.fleets]
+        most = [(fleet, MOST_AIRCRAFT, turn) for fleet, _, turn in self.fleets]
         anywhere = [it[: len(HEADERS["stations.csv"])] for it in self.stations]
         asked = {**self.tables(), "stations.csv": encoded("stations.csv", anywhere), "fleets.csv": encoded("fleets.csv", most)}
         asked["costs.csv"] = encoded("costs.csv", costing.costs_of(None, self.schedule, self.flown, most))
@@ -45,7 +49,7 @@ class Made:
         self.fleets = most if used is None else [(fleet, used[fleet], turn) for fleet, _, turn in most]
 
     def tables(self):
-        """Returns the bytes of the five tables and of the plan, by their names."""
+        """Returns the texts of the five tables and of the plan, by their names."""
         records = {
             "stations.csv": self.stations,
             "fleets.csv": self.fleets,
@@ -56,22 +60,22 @@ class Made:
         }
         texts = {name: encoded(name, records[name]) for name in records}
         if any(len(it) == len(LIMITED) for it in self.stations):
-            texts["stations.csv"] = table(LIMITED, self.stations).encode("ascii")
+            texts["stations.csv"] = text_of(LIMITED, self.stations)
         if self.dates.count > 1:
-            texts["legs.csv"] = table(DATED, records["legs.csv"]).encode("ascii")
+            texts["legs.csv"] = text_of(DATED, records["legs.csv"])
         return texts
 
     def texts(self):
-        """Returns the bytes of each file by its name. Where legs have other times the plan has shifts."""
+        """Returns the text of each file by its name. Where legs have other times the plan has shifts."""
         texts = {it.table: encoded(it.table, it.records) for it in self.asked}
         if "windows" in self.sources.asked:
-            texts["plan.csv"] = table(SHIFTED, [(it.name, it.leg.type, 0) for it in self.flown]).encode("ascii")
-        return {**self.tables(), **texts, "names.csv": table(NAMES, [named(it) for it in self.flown]).encode("ascii")}
+            texts["plan.csv"] = text_of(SHIFTED, [(it.name, it.leg.type, 0) for it in self.flown])
+        return {**self.tables(), **texts, "names.csv": text_of(NAMES, [named(it) for it in self.flown])}
 
     def leg(self, it):
         """Returns the record of a leg, with its day where there are several."""
         day = [it.day] if self.dates.count > 1 else []
-        return it.name, *day, it.leg.origin, clock(it.minute), it.leg.destination, clock((it.minute + it.block) % 1440)
+        return it.name, *day, it.leg.origin, clock(it.minute), it.leg.destination, clock(it.minute + it.block)
 
     def told(self):
         """Returns what standard error is told, in lines."""
@@ -83,7 +87,7 @@ class Made:
             yield "left out: " + ", ".join(f"{count} {why}" for why, count in self.left_out.items())
         if self.unjudged:
             yield f"the plan as filed doesn't say how many aircraft it uses: {self.unjudged}"
-            yield f"so fleets.csv has {costing.MOST_AIRCRAFT} of each: write how many there are, or give --fleets"
+            yield f"so fleets.csv has {MOST_AIRCRAFT} of each: write how many there are, or give --fleets"
             if self.unjudged.startswith("too many"):
                 yield "no fleet may have more: ask for fewer legs, with --types, --stations-only or --service"
             yield from self.unbalanced()
@@ -101,7 +105,7 @@ class Made:
         for it in self.asked:
             yield f"{it.table} has {len(it.records)} records, for calls with --{it.option}"
             if it.unknown:
-                yield f"{len(it.unknown)} flights of {it.path} aren't among these legs: {selecting.some(it.unknown)}"
+                yield f"{len(it.unknown)} flights of {it.path} aren't among these legs: {some(it.unknown)}"
 
     def unbalanced(self):
         """Tells the aircraft types that don't leave a station as often as they come to it."""
@@ -109,11 +113,12 @@ class Made:
         more.subtract((it.leg.type, it.leg.origin) for it in self.flown)
         lacks = sorted((*it, count) for it, count in more.items() if count)
         if lacks:
-            yield f"arrivals less departures: {selecting.some([f'{fleet} at {station} {count:+}' for fleet, station, count in lacks])}"
+            yield f"arrivals less departures: {some([f'{fleet} at {station} {count:+}' for fleet, station, count in lacks])}"
 
 
 def encoded(name, records):
-    return table(HEADERS[name], records).encode("ascii")
+    """Returns the text of a table with its first header."""
+    return text_of(HEADERS[name], records)
 
 
 def named(it):
@@ -126,5 +131,5 @@ def make_tables(schedule, folder, dates, choice, sources):
     """Writes the tables of some dates into a folder, and returns what is told of them."""
     made = Made(schedule, dates, choice, sources)
     older = [it for option, it in ASKED.items() if option not in sources.asked and os.path.lexists(os.path.join(folder, it))]
-    write_all(folder, made.texts())
+    write_tables(folder, made.texts())
     return [*made.told(), *made.told_of_asked(), *(f"{it} stays in {folder} as it was" for it in older)]

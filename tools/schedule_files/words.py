@@ -3,8 +3,8 @@
 import datetime
 import re
 
-from hints.forms import TRILLION
-from hints.records import ASKED
+from fleetplan.forms import TRILLION
+from fleetplan.tables import ASKED
 from schedule_files.days import Dates
 from schedule_files.selecting import Choice
 from schedule_files.tables import Sources

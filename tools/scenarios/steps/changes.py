@@ -3,11 +3,11 @@
 import re
 from fractions import Fraction
 
-from hints.forms import MOST_PARKED, TRILLION
-from hints.records import DATED, HEADERS, Unread
+from fleetplan.errors import Unread
+from fleetplan.forms import MOST_AIRCRAFT, MOST_PARKED, TRILLION
+from fleetplan.tables import DATED, HEADERS
 from steps.flagged import FLAGGED
 
-MOST_AIRCRAFT = 500
 # Where a record of a station has its limit, if it has one.
 PARKING = len(HEADERS["stations.csv"])
 

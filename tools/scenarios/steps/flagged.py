@@ -2,7 +2,8 @@
 
 import os
 
-from hints.records import ASKED, HEADERS, NO_FLEET, SHIFTED, TABLES, table_of
+from fleetplan.records import table_of
+from fleetplan.tables import ASKED, HEADERS, NO_FLEET, SHIFTED, TABLES
 
 # Of each flag its table.
 FLAGGED = {f"--{option}": name for option, name in ASKED.items()}

@@ -3,12 +3,14 @@
 import os
 import shutil
 
-from hints.records import HEADERS, LIMITED, Unread, headers_of, table_of
-from schedule_files.files import table
-from steps import whole
+from fleetplan.errors import Unread
+from fleetplan.files import write
+from fleetplan.records import table_of, text_of
+from fleetplan.tables import HEADERS, LIMITED, headers_of
 from steps.changes import read_change
 from steps.flagged import flags_of, tables_in
 from steps.running import Fault, run
+from steps.whole import folder
 
 # Either stands beside tables that can't be solved, and says why: since they are refused, or by a fault at the last try.
 REFUSED, FAULT = "refused.txt", "fault.txt"
@@ -19,7 +21,7 @@ REFUSALS = (2, 6)
 def lay(program, files, texts, period, place, limits, is_last):
     """Makes the folder of the tables, from these files and with these changes. Before they are changed they repeat after `period` days,
     a word of the call."""
-    with whole.folder(place) as beside:
+    with folder(place) as beside:
         for it in files:
             shutil.copyfile(it, os.path.join(beside, os.path.basename(it)))
         try:
@@ -27,17 +29,17 @@ def lay(program, files, texts, period, place, limits, is_last):
         except Fault as error:
             if not is_last:
                 raise
-            whole.write(os.path.join(beside, FAULT), str(error))
+            write(os.path.join(beside, FAULT), str(error))
             return
         if refusal:
-            whole.write(os.path.join(beside, REFUSED), refusal)
+            write(os.path.join(beside, REFUSED), refusal)
 
 
 def refused(program, folder, period, limits):
     """Returns why the program refuses the tables of a folder or the period, or None where they read. It judges an empty plan, of which
     it tells a fault only where all tables read."""
     plan = os.path.join(folder, "plan.csv")
-    whole.write(plan, "")
+    write(plan, "")
     ran = run(program, ["judge", folder, f"--period={period}", *flags_of(folder)], limits)
     os.remove(plan)
     return ran.told if ran.status in REFUSALS else None
@@ -61,5 +63,5 @@ def changed(folder, texts):
         header = read[name][0] if name in read else HEADERS[name]
         if name == "stations.csv" and len(rows[0] if rows else ()) == len(LIMITED):
             header = LIMITED
-        whole.write(os.path.join(folder, name), table(header, rows))
+        write(os.path.join(folder, name), text_of(header, rows))
     return None

@@ -4,14 +4,15 @@ import os
 import re
 import shlex
 
-from hints.records import TABLES, Unread, bytes_of, records_in
-from hints.words import Call
+from fleetplan.errors import Unread
+from fleetplan.records import records_of
+from fleetplan.tables import MOST_DAYS, TABLES
+from fleetplan.words import Call
 from steps.changes import FLAG_OF, read_change
 from steps.flagged import FLAGGED
 
 HEADER = ("scenario", "words", "folder", "changes")
 NAME = re.compile(r"[A-Za-z0-9][A-Za-z0-9_.+-]{0,63}")
-MOST_DAYS = "7"
 
 
 class Scenario:
@@ -34,7 +35,7 @@ class Scenario:
     def period(self):
         """After how many days the schedule repeats before it is changed: as the words say, whatever stands there, or 7 at most where
         a day alone is wanted."""
-        return MOST_DAYS if is_one_day(self.changes) else period_in(self.words) or "1"
+        return str(MOST_DAYS) if is_one_day(self.changes) else period_in(self.words) or "1"
 
     def own(self, table):
         """Returns the path of a table in its own folder, or None where none stands there."""
@@ -45,20 +46,20 @@ class Scenario:
 def scenarios_of(path):
     """Returns the scenarios of a file by their names, in its order, or raises Unread with the record that is wrong."""
     found = {}
-    for record in records_in(bytes_of(path)):
+    for record in records_of(path):
         if record.number == 1:
             if tuple(record.texts) != HEADER:
-                raise Unread(f"{path} record 1: {record}, it should be {','.join(HEADER)}")
+                raise Unread.at(path, 1, f"{record}, it should be {','.join(HEADER)}")
             continue
         try:
             scenario = scenario_of(record.texts, os.path.dirname(path))
             if scenario.name in found:
                 raise Unread(f"{scenario.name} stands twice")
         except Unread as error:
-            raise Unread(f"{path} record {record.number}: {error}") from None
+            raise Unread.at(path, record.number, str(error)) from None
         found[scenario.name] = scenario
     if not found:
-        raise Unread(f"{path} has no scenario below a header {','.join(HEADER)}")
+        raise Unread.of(path, f"has no scenario below a header {','.join(HEADER)}")
     return found
 
 

@@ -3,12 +3,12 @@
 import os
 import re
 
-from hints.records import bytes_of, records_in
+from fleetplan.forms import MOST_AIRCRAFT
+from fleetplan.records import records_of
 from steps.running import run
 from steps.solving import ANSWER, answer_or_fault, read_json, write_json
 
 CHANGES = {"less": -1, "more": 1}
-MOST_AIRCRAFT = 500
 BOUND = re.compile(r"whatif \S+ \d+: (?:bound (-?\d+)|(infeasible))")
 
 
@@ -35,7 +35,7 @@ def asked_of(program, solved, reading, limits):
 
 def fleets_of(folder):
     """Returns each fleet of a folder with its number of aircraft."""
-    rows = [it.texts for it in records_in(bytes_of(os.path.join(folder, "fleets.csv"))) if it.number > 1]
+    rows = [it.texts for it in records_of(os.path.join(folder, "fleets.csv")) if it.number > 1]
     return [(fleet, int(aircraft)) for fleet, aircraft, _ in rows]
 
 

@@ -7,14 +7,15 @@ import shutil
 import subprocess
 import sys
 
-from hints.records import TABLES
-from hints.words import Call
-from steps import whole
+from fleetplan.files import remove, write
+from fleetplan.program import TOP
+from fleetplan.tables import TABLES
+from fleetplan.words import Call
 from steps.flagged import FLAGGED, tables_in
 from steps.laying import FAULT, REFUSED
 from steps.running import Fault, run
+from steps.whole import folder
 
-TOP = os.path.dirname(os.path.dirname(os.path.dirname(os.path.dirname(os.path.realpath(__file__)))))
 ANSWER = "answer.json"
 # Beside the folder of the solution: what is written of it.
 CHECK, SIZES, DRAWN = "check.json", "sizes.json", "drawn"
@@ -27,8 +28,8 @@ def solve(program, tables, words, place, limits, is_last):
     """Makes the folder of the solution: the tables, what `solve` writes, and its answer, which may be a fault at the last try. What was
     written of an earlier solution goes, also where it isn't wanted any more."""
     for it in (CHECK, SIZES, DRAWN):
-        whole.remove(os.path.join(os.path.dirname(place), it))
-    with whole.folder(place) as beside:
+        remove(os.path.join(os.path.dirname(place), it))
+    with folder(place) as beside:
         for name in tables_in(tables):
             shutil.copyfile(os.path.join(tables, name), os.path.join(beside, name))
         answer = refusal_of(tables) or answer_or_fault(lambda: answer_of(program, beside, words, limits), is_last)
@@ -51,11 +52,11 @@ def text_in(path):
         return it.read()
 
 
-def answer_of(program, folder, words, limits):
+def answer_of(program, place, words, limits):
     """Returns the answer of `solve` in a folder, with the words by which its tables are read."""
-    call = Call(["solve", folder, *words])
+    call = Call(["solve", place, *words])
     as_json = [] if "json" in call.given else ["--json"]
-    ran = run(program, ["solve", *as_json, folder, *words], limits)
+    ran = run(program, ["solve", *as_json, place, *words], limits)
     answer = {"status": ran.status, "told": ran.told, "seconds": ran.seconds, "memory": ran.memory}
     if ran.status in PROVED:
         answer["solved"] = json.loads(ran.told)
@@ -88,11 +89,11 @@ def answer_or_fault(call, is_last):
         return {"fault": str(error)}
 
 
-def sums_of(folder):
+def sums_of(place):
     """Returns the sums of the files that a check reads, of those that stand there."""
     found = {}
     for name in CLAIMED:
-        path = os.path.join(folder, name)
+        path = os.path.join(place, name)
         if os.path.lexists(path):
             with open(path, "rb") as it:
                 found[name] = hashlib.sha256(it.read()).hexdigest()
@@ -102,7 +103,7 @@ def sums_of(folder):
 def draw(solved, name, place, is_last):
     """Makes the folder of the picture, which stays empty where there is no plan."""
     answer = read_json(os.path.join(solved, ANSWER))
-    with whole.folder(place) as beside:
+    with folder(place) as beside:
         if answer.get("status") not in (0, 3):
             return
         # The page is called by its folder.
@@ -115,7 +116,7 @@ def draw(solved, name, place, is_last):
         if not ran.returncode:
             os.rename(os.path.join(own, "plan.html"), os.path.join(beside, "plan.html"))
         elif is_last:
-            whole.write(os.path.join(beside, FAULT), ran.stderr.strip())
+            write(os.path.join(beside, FAULT), ran.stderr.strip())
         else:
             raise Fault(ran.stderr.strip())
         shutil.rmtree(own)
@@ -127,4 +128,4 @@ def read_json(path):
 
 
 def write_json(path, value):
-    whole.write(path, json.dumps(value, sort_keys=True) + "\n")
+    write(path, json.dumps(value, sort_keys=True) + "\n")

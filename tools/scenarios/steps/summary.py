@@ -1,12 +1,11 @@
 """The summary of all scenarios, of which those that aren't proved come first."""
 
-import csv
-import io
 import os
 import sys
 from collections import Counter
 
-from steps import whole
+from fleetplan.files import remove, write
+from fleetplan.records import text_of as table_text
 from steps.flagged import moved_and_left_out
 from steps.laying import FAULT
 from steps.page import page
@@ -83,23 +82,23 @@ def text_of(rows):
     names = columns_of(rows)
     asked = [(change, fleet) for fleet in asked_of(rows) for change in CHANGES]
     head = ["scenario", "outcome", *names, *(f"one {change} {fleet}" for change, fleet in asked)]
-    text = io.StringIO()
-    out = csv.writer(text, lineterminator="\n")
-    out.writerow([*head, "rotations", "check", "told", "seconds", "memory MB"])
+    head += ["rotations", "check", "told", "seconds", "memory MB"]
+    records = []
     for it in rows:
         numbers = [it.numbers.get(name) for name in names]
         bounds = [it.bound_with(change, fleet) for change, fleet in asked]
         took = ["", ""] if it.seconds is None else [f"{it.seconds:.2f}", f"{it.memory / 1000:.1f}"]
-        out.writerow([it.name, it.outcome, *("" if at is None else at for at in numbers), *bounds, it.rotations, it.check, it.told, *took])
-    return text.getvalue()
+        shown = ("" if at is None else at for at in numbers)
+        records.append([it.name, it.outcome, *shown, *bounds, it.rotations, it.check, it.told, *took])
+    return table_text(tuple(head), records)
 
 
 def summarize(names, folder):
     """Writes the summary of the scenarios, and returns whether each was solved, each proof holds, and no step failed."""
     rows = [row_of(it, os.path.join(folder, it)) for it in names]
     rows.sort(key=lambda it: it.is_sound)
-    whole.write("summary.csv", text_of(rows))
-    whole.write("summary.html", page(rows, folder))
+    write("summary.csv", text_of(rows))
+    write("summary.html", page(rows, folder))
     for it in names:
         forget_faults(os.path.join(folder, it))
     unsound, partial = [it for it in rows if not it.is_sound], [it for it in rows if not it.is_whole]
@@ -117,7 +116,7 @@ def forget_faults(folder):
     places = {name: os.path.join(folder, name) for name in has_fault}
     faulty = {name for name, path in places.items() if os.path.exists(path) and has_fault[name](path)}
     for name in faulty | ({CHECK, SIZES, DRAWN} if "solved" in faulty else set()):
-        whole.remove(places[name])
+        remove(places[name])
 
 
 def has_text(folder):

@@ -1,9 +1,15 @@
-"""The tables that stand in the folder of a call and aren't read, since no option of it says so."""
+"""The tables that a call reads, and those that stand in its folder and aren't read, since no option of it says so."""
 
 import os
 
-from hints.records import ASKED
-from hints.saying import listed, typed
+from fleetplan.schedule import Schedule
+from fleetplan.tables import ASKED
+from fleetplan.texts import listed, typed
+
+
+def schedule_of(call):
+    """Returns the schedule that a call reads, or raises Unread."""
+    return Schedule(call.folder, call.value("day-start"), call.value("period"), [it for it in ASKED if call.has(it)])
 
 
 def tell_unread(hint, command, call):
