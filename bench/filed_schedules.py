@@ -1,26 +1,15 @@
 """Schedules of folders with the five tables, as schedule files of made airlines: tools/ssim is to make the same tables of them."""
 
-import csv
 import re
 
-from schedule_lines import EVERY_DAY, leg, text, whole
+import shared  # noqa: F401
+from schedule_lines import EVERY_DAY, leg, text, whole, zone
+
+from fleetplan.records import rows_of
+from fleetplan.times import DAY, clock, minute_of
 
 DATE = "2026-11-30"
-DAY = 1440
 ZONES = (60, 0, -210, 345, -480, 720, 120)
-
-
-def rows_of(folder, name):
-    with open(folder / name, newline="", encoding="utf-8") as file:
-        return list(csv.reader(file))[1:]
-
-
-def clock(minute):
-    return f"{minute // 60:02}{minute % 60:02}"
-
-
-def zone(minutes):
-    return f"{'-' if minutes < 0 else '+'}{abs(minutes) // 60:02}{abs(minutes) % 60:02}"
 
 
 def shift(days):
@@ -30,11 +19,12 @@ def shift(days):
 def record(number, row, kind, zones, is_local):
     """A leg's record: its date of operation is that of its departure in local time. One of a week goes on one day of it, from Monday."""
     _, *day, origin, dep, destination, arr = row
-    departs, arrives = (60 * int(it[:2]) + int(it[3:]) for it in (dep, arr))
+    departs, arrives = minute_of(dep), minute_of(arr)
     arrives += DAY if arrives < departs else 0
     ends = [departs + is_local * zones[origin], arrives + is_local * zones[destination]]
     days = ends[1] // DAY - ends[0] // DAY
-    way = f"{origin} {clock(ends[0] % DAY)} {zone(zones[origin])} {destination} {clock(ends[1] % DAY)} {zone(zones[destination])}"
+    times = [clock(it).replace(":", "") for it in ends]
+    way = f"{origin} {times[0]} {zone(zones[origin])} {destination} {times[1]} {zone(zones[destination])}"
     operates = EVERY_DAY[(int(day[0]) - 1 + ends[0] // DAY) % 7] if day else EVERY_DAY
     return leg("ZZ", number, way, kind, operates, shifts=f"0{shift(days)}")
 
@@ -42,11 +32,11 @@ def record(number, row, kind, zones, is_local):
 def differs(folder, scratch, mode, ssim):
     """Returns which table of a schedule isn't the same after its way through a file, or None. `ssim` calls tools/ssim with words, and
     returns its status and what it told."""
-    stations, fleets, legs = (rows_of(folder, f"{it}.csv") for it in ("stations", "fleets", "legs"))
+    stations, fleets, legs = (rows_of(str(folder), f"{it}.csv") for it in ("stations", "fleets", "legs"))
     zones = {it[0]: ZONES[at % len(ZONES)] for at, it in enumerate(stations)}
     codes = {it[0]: it[0] if re.fullmatch(".{3}", it[0]) else f"Q{at:02}" for at, it in enumerate(fleets)}
     filed = {}
-    for flight, fleet, _ in rows_of(folder, "costs.csv"):
+    for flight, fleet, _ in rows_of(str(folder), "costs.csv"):
         filed.setdefault(flight, codes[fleet])
     records = [record(at, row, filed[row[0]], zones, mode == "L") for at, row in enumerate(legs, 1)]
     (scratch / "season").write_bytes(text(whole("ZZ", records, mode)).encode("ascii"))
@@ -58,13 +48,13 @@ def differs(folder, scratch, mode, ssim):
     if status:
         return told
     names = {f"ZZ{at}D{row[1]}" if is_week else f"ZZ{at}": row[0] for at, row in enumerate(legs, 1)}
-    came = [[names[it[0]], *it[1:]] for it in rows_of(scratch / "day", "legs.csv")]
-    plan = [(names[flight], kind) for flight, kind in rows_of(scratch / "day", "plan.csv")]
+    came = [[names[it[0]], *it[1:]] for it in rows_of(str(scratch / "day"), "legs.csv")]
+    plan = [(names[flight], kind) for flight, kind in rows_of(str(scratch / "day"), "plan.csv")]
     flown = {code for row in legs for code in (row[-4], row[-2])}
     for name, before, after in (
         ("legs", sorted(legs), sorted(came)),
-        ("stations", [it for it in stations if it[0] in flown], rows_of(scratch / "day", "stations.csv")),
-        ("fleets", own, rows_of(scratch / "day", "fleets.csv")),
+        ("stations", [it for it in stations if it[0] in flown], rows_of(str(scratch / "day"), "stations.csv")),
+        ("fleets", own, rows_of(str(scratch / "day"), "fleets.csv")),
         ("plan", sorted(filed.items()), sorted(plan)),
         ("order of legs", sorted(came, key=lambda it: (it[1] if is_week else "", it[-3])), came),
     ):

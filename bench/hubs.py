@@ -8,12 +8,12 @@ A leg has a demand that changes over the day. A fleet may fly it if it has the r
 that it leaves behind. Each tour goes to a fleet that may fly all of it, at least cost and at times another one, and a fleet has
 the aircraft of its tours and some more: so there is a legal plan. With MOST the costs are drawn from 1 to MOST in place of that.
 """
-import csv
 import random
-import sys
-from pathlib import Path
 
-DAY = 1440
+from shared import put, write_by_words
+
+from fleetplan.times import DAY, clock
+
 START = 180
 LEGS_A_STATION = 11
 # seats, turn in minutes, range in minutes, cost of a minute
@@ -21,10 +21,6 @@ KINDS = (
     (50, 25, 130, 30), (70, 30, 150, 36), (100, 35, 200, 44), (150, 40, 280, 58),
     (180, 45, 300, 66), (220, 55, 330, 80), (250, 60, 400, 92), (300, 70, 500, 110),
 )
-
-
-def clock(minute):
-    return f"{minute // 60 % 24:02}:{minute % 60:02}"
 
 
 def name(place, hubs):
@@ -103,14 +99,6 @@ def places(stations, hubs):
     return [(name(s, hubs), 5 if s < hubs else 0, "yes" if s % 3 == 0 else "no") for s in range(stations)]
 
 
-def put(folder, tables):
-    """Writes tables, each with its header and its records."""
-    Path(folder).mkdir(parents=True, exist_ok=True)
-    for file, rows in tables.items():
-        with open(Path(folder, file), "w", newline="") as out:
-            csv.writer(out, lineterminator="\n").writerows(rows)
-
-
 def write(folder, legs, fleets, number=1, most=None):
     draw = random.Random(number)
     (stations, hubs), kinds = sizes_of(legs), kinds_of(fleets)
@@ -124,20 +112,16 @@ def write(folder, legs, fleets, number=1, most=None):
     flown = [leg for tour in kept for leg in tour]
     pairs = [(f"L{at}", f"F{kind[0]}", paid) for at, leg in enumerate(flown) for kind in kinds if (paid := cost(leg, kind)) is not None]
     tables = {
-        "stations.csv": [("code", "extra", "maintenance"), *places(stations, hubs)],
-        "fleets.csv": [("fleet", "aircraft", "turn"), *((f"F{kind[0]}", count, kind[1]) for kind, count in zip(kinds, aircraft))],
-        "legs.csv": [("flight", "from", "dep", "to", "arr"), *((f"L{at}", name(a, hubs), clock(dep), name(b, hubs), clock(dep + block)) for at, (a, dep, b, block, _) in enumerate(flown))],
-        "costs.csv": [("flight", "fleet", "cost"), *((leg, fleet, draw.randint(1, most) if most else paid) for leg, fleet, paid in pairs)],
-        "throughs.csv": [("in", "out", "value")],
+        "stations.csv": places(stations, hubs),
+        "fleets.csv": [(f"F{kind[0]}", count, kind[1]) for kind, count in zip(kinds, aircraft)],
+        "legs.csv": [
+            (f"L{at}", name(a, hubs), clock(dep), name(b, hubs), clock(dep + block)) for at, (a, dep, b, block, _) in enumerate(flown)
+        ],
+        "costs.csv": [(leg, fleet, draw.randint(1, most) if most else paid) for leg, fleet, paid in pairs],
+        "throughs.csv": [],
     }
     put(folder, tables)
 
 
-def main():
-    if len(sys.argv) not in (4, 5, 6):
-        sys.exit(__doc__)
-    write(sys.argv[1], *map(int, sys.argv[2:]))
-
-
 if __name__ == "__main__":
-    main()
+    write_by_words(__doc__, 5, write)

@@ -14,13 +14,11 @@ import sys
 import tempfile
 
 import schedules
+from shared import DAY_START, rows
 
-DAY = 1440
-DAY_START = 180
+from fleetplan.times import DAY, minute_of
 
-
-def minute(clock):
-    return 60 * int(clock[:2]) + int(clock[3:])
+START = minute_of(DAY_START)
 
 
 def schedule(number, legs):
@@ -35,7 +33,7 @@ def read(folder):
     fleets may fly, and the number of stations of a folder's tables. The schedule repeats after `schedules.period_of` days."""
     period = DAY * schedules.period_of(folder)
     stations, fleets, flights, pairs = (
-        schedules.rows(folder, name) for name in ("stations.csv", "fleets.csv", "legs.csv", "costs.csv")
+        rows(folder, name) for name in ("stations.csv", "fleets.csv", "legs.csv", "costs.csv")
     )
     place = {row["code"]: at for at, row in enumerate(stations)}
     costs = {row["flight"]: [] for row in flights}
@@ -44,9 +42,9 @@ def read(folder):
     made = [
         (
             place[row["from"]],
-            (DAY * (int(row.get("day", 1)) - 1) + minute(row["dep"]) - DAY_START) % period,
+            (DAY * (int(row.get("day", 1)) - 1) + minute_of(row["dep"]) - START) % period,
             place[row["to"]],
-            (minute(row["arr"]) - minute(row["dep"])) % DAY + int(stations[place[row["to"]]]["extra"]),
+            (minute_of(row["arr"]) - minute_of(row["dep"])) % DAY + int(stations[place[row["to"]]]["extra"]),
             costs[row["flight"]],
         )
         for row in flights

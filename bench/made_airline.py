@@ -11,7 +11,7 @@ may fly with another's aircraft, and a bus.
 import sys
 from pathlib import Path
 
-from schedule_lines import leg, segment, text, whole
+from schedule_lines import leg, segment, text, whole, zone
 
 AIRLINE, HUB, HUB_ZONE, TURN = "ZZ", "ZRH", 60, 45
 WEEKDAYS, WEEKEND = "12345", "67"
@@ -33,10 +33,6 @@ PRICES = "fleet,departure,minute,longest,closed\n223,750,45,300,\n320,900,52,400
 STATIONS = ("ZRH", "GVA")
 WINDOWS = "flight,shift,extra\n*,-15,100\n*,15,100\n"
 OPTIONAL = "flight,skip\nZZ324,2000\nZZ325,2000\n"
-
-
-def zone(minutes):
-    return f"{'-' if minutes < 0 else '+'}{abs(minutes) // 60:02}{abs(minutes) % 60:02}"
 
 
 def way(origin, departs, destination, arrives):

@@ -6,13 +6,12 @@ and of 0 after it. What is left is one assignment, that of the first fleet. No t
 """
 from pathlib import Path
 
+from shared import put
+
+from fleetplan.times import DAY, clock
+
 TURN = 30
 BLOCK = 60
-MINUTES = 1440
-
-
-def clock(minute):
-    return f"{minute // 60:02}:{minute % 60:02}"
 
 
 def code(station):
@@ -59,10 +58,10 @@ def stepped(fleets, stations):
     yield "plan yes"
     yield "open pivots 0"
     yield "scale 1"
-    yield from (f"rent F{fleet + 1} {MINUTES - 1}" for fleet in range(fleets))
+    yield from (f"rent F{fleet + 1} {DAY - 1}" for fleet in range(fleets))
     for fleet in range(fleets):
         for station in range(stations):
-            yield from (f"at F{fleet + 1} {code(station)} {minute} {MINUTES - 1 - minute}" for minute in range(MINUTES))
+            yield from (f"at F{fleet + 1} {code(station)} {minute} {DAY - 1 - minute}" for minute in range(DAY))
     yield "end"
 
 
@@ -71,22 +70,14 @@ def write(folder, trips, fleets, stations, proof=None, cost=cost_of):
 
     The proof is the one of trims, or the lines that are given. A pair costs what `cost` says of its leg and its fleet."""
     legs = list(legs_of(trips, stations))
-    texts = {
-        "stations.csv": ["code,extra,maintenance", *(f"{code(s)},0,yes" for s in range(stations))],
-        "fleets.csv": ["fleet,aircraft,turn", *(f"F{f + 1},{0 if f else trips},{TURN}" for f in range(fleets))],
-        "legs.csv": [
-            "flight,from,dep,to,arr",
-            *(f"{n},{code(a)},{clock(d)},{code(b)},{clock(d + BLOCK)}" for n, a, d, b in legs),
-        ],
-        "costs.csv": [
-            "flight,fleet,cost",
-            *(f"{leg[0]},F{f + 1},{cost(l, f)}" for l, leg in enumerate(legs) for f in range(fleets)),
-        ],
-        "throughs.csv": ["in,out,value"],
-        "plan.csv": ["flight,fleet", *(f"{leg[0]},F1" for leg in legs)],
-        "proof.txt": proof or proof_of(legs, fleets, stations),
-    }
-    for name, lines in texts.items():
-        with open(Path(folder, name), "w", encoding="ascii") as file:
-            file.writelines(line + "\n" for line in lines)
-    return 2 * len(legs) * (fleets - 1) + 1, sum(cost(l, 0) for l in range(len(legs)))
+    put(folder, {
+        "stations.csv": [(code(it), 0, "yes") for it in range(stations)],
+        "fleets.csv": [(f"F{it + 1}", 0 if it else trips, TURN) for it in range(fleets)],
+        "legs.csv": [(flight, code(a), clock(departs), code(b), clock(departs + BLOCK)) for flight, a, departs, b in legs],
+        "costs.csv": [(leg[0], f"F{it + 1}", cost(at, it)) for at, leg in enumerate(legs) for it in range(fleets)],
+        "throughs.csv": [],
+        "plan.csv": [(leg[0], "F1") for leg in legs],
+    })  # fmt: skip
+    with open(Path(folder, "proof.txt"), "w", encoding="ascii") as file:
+        file.writelines(line + "\n" for line in proof or proof_of(legs, fleets, stations))
+    return 2 * len(legs) * (fleets - 1) + 1, sum(cost(at, 0) for at in range(len(legs)))

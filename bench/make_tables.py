@@ -14,9 +14,12 @@ fleet flies more of them than it has aircraft. It is so by any day start.
 import sys
 from pathlib import Path
 
-DAY = 1440
-MOST_BYTES = 4_194_304
-STATIONS, FLEETS, LEGS, THROUGHS = 200, 20, 1000, 2000
+from shared import HEADERS, text_of
+
+from fleetplan.tables import LIMITED, MOST_BYTES, SHIFTED, TABLE
+from fleetplan.times import DAY, clock
+
+STATIONS, FLEETS, LEGS, THROUGHS = (TABLE[f"{it}.csv"].most for it in ("stations", "fleets", "legs", "throughs"))
 SHIFTS = (-20, -15, -10, -5, 5, 10, 15, 20)
 
 
@@ -30,10 +33,6 @@ def fleet_name(fleet):
 
 def flight(leg):
     return f"FL{leg:06}"
-
-
-def clock(minute):
-    return f"{minute // 60 % 24:02}:{minute % 60:02}"
 
 
 def extra(station):
@@ -55,46 +54,39 @@ def round_trip(trip):
     leaves = 37 * trip % DAY
     lands = leaves + block
     returns = lands + turn(trip % FLEETS) + extra(away) + trip % 60
-    out = f"{flight(2 * trip)},{code(home)},{clock(leaves)},{code(away)},{clock(lands)}"
-    back = f"{flight(2 * trip + 1)},{code(away)},{clock(returns)},{code(home)},{clock(returns + block)}"
-    return [out, back]
+    out = flight(2 * trip), code(home), clock(leaves), code(away), clock(lands)
+    return [out, (flight(2 * trip + 1), code(away), clock(returns), code(home), clock(returns + block))]
 
 
 def largest(shuffled=False, limited=False, timed=False):
-    """The files, each as its lines."""
+    """The files, each as its header and its records."""
     fleets_of = (lambda leg: sorted((fleet_of(leg), (fleet_of(leg) + 1) % FLEETS))) if timed else (lambda leg: range(FLEETS))
     pairs = [(leg, fleet) for leg in range(LEGS) for fleet in fleets_of(leg)]
     if shuffled:
         pairs = [pairs[7919 * place % len(pairs)] for place in range(len(pairs))]
     links = [(leg, (leg + step) % LEGS) for step in range(1, THROUGHS // LEGS + 1) for leg in range(LEGS)]
-    room = f",{LEGS // 2}" if limited else ""
-    stations = [f"{code(station)},{extra(station)},{'no' if station % 3 else 'yes'}{room}" for station in range(STATIONS)]
-    fleets = [f"{fleet_name(fleet)},{LEGS // 2 // FLEETS},{turn(fleet)}" for fleet in range(FLEETS)]
-    legs = [line for trip in range(LEGS // 2) for line in round_trip(trip)]
-    costs = [f"{flight(leg)},{fleet_name(fleet)},{10_000 + (31 * leg + 977 * fleet) % 90_000}" for leg, fleet in pairs]
-    throughs = [f"{flight(arriving)},{flight(departing)},{arriving % 500}" for arriving, departing in links]
-    plan = [f"{flight(leg)},{fleet_name(fleet_of(leg))}{',0' if timed else ''}" for leg in range(LEGS)]
+    room, shift = (LEGS // 2,) if limited else (), (0,) if timed else ()
     files = {
-        "stations.csv": [f"code,extra,maintenance{',parking' if limited else ''}", *stations],
-        "fleets.csv": ["fleet,aircraft,turn", *fleets],
-        "legs.csv": ["flight,from,dep,to,arr", *legs],
-        "costs.csv": ["flight,fleet,cost", *costs],
-        "throughs.csv": ["in,out,value", *throughs],
-        "plan.csv": [f"flight,fleet{',shift' if timed else ''}", *plan],
+        "stations.csv": [(code(it), extra(it), "no" if it % 3 else "yes", *room) for it in range(STATIONS)],
+        "fleets.csv": [(fleet_name(it), LEGS // 2 // FLEETS, turn(it)) for it in range(FLEETS)],
+        "legs.csv": [row for trip in range(LEGS // 2) for row in round_trip(trip)],
+        "costs.csv": [(flight(leg), fleet_name(fleet), 10_000 + (31 * leg + 977 * fleet) % 90_000) for leg, fleet in pairs],
+        "throughs.csv": [(flight(arriving), flight(departing), arriving % 500) for arriving, departing in links],
+        "plan.csv": [(flight(leg), fleet_name(fleet_of(leg)), *shift) for leg in range(LEGS)],
     }
     if timed:
-        windows = [f"{flight(leg)},{shift},{10 * abs(shift) + leg % 7}" for leg in range(LEGS) for shift in SHIFTS]
-        files["windows.csv"] = ["flight,shift,extra", *windows]
-        files["optional.csv"] = ["flight,skip", *(f"{flight(leg)},{90_000 + leg}" for leg in range(LEGS))]
-    return files
+        files["windows.csv"] = [(flight(leg), it, 10 * abs(it) + leg % 7) for leg in range(LEGS) for it in SHIFTS]
+        files["optional.csv"] = [(flight(leg), 90_000 + leg) for leg in range(LEGS)]
+    headers = {**HEADERS, **({"stations.csv": LIMITED} if limited else {}), **({"plan.csv": SHIFTED} if timed else {})}
+    return {name: (headers[name], records) for name, records in files.items()}
 
 
 def write(folder, shuffled=False, limited=False, timed=False, filled=False):
     """Writes the files, and gives their paths."""
     folder.mkdir(parents=True, exist_ok=True)
     files = largest(shuffled, limited, timed)
-    for name, lines in files.items():
-        text = "\n".join(lines) + "\n"
+    for name, (header, records) in files.items():
+        text = text_of(header, records)
         (folder / name).write_text(text.ljust(MOST_BYTES, "\n") if filled else text, encoding="ascii")
     return [folder / name for name in files]
 

@@ -7,11 +7,9 @@ import time
 from pathlib import Path
 
 import make_tables
+from shared import BENCH, DAY_START, program_of, run
 
-BENCH = Path(__file__).resolve().parent
-BUILT = BENCH.parent / "crates" / "fleetplan" / "out" / "fleetplan"
 RUNS = 9
-DAY_START = "03:00"
 
 
 def seconds_of(words):
@@ -45,17 +43,14 @@ def compare(title, program, folder, files, flags):
 
 def same_answer(program, folder, flags):
     """Whether the program prints what the reference prints."""
-    ours = subprocess.run([str(program), "judge", str(folder), "--day-start", DAY_START, *flags], capture_output=True)
-    reference = [sys.executable, str(BENCH / "judge_reference.py"), str(folder), DAY_START, *flags]
-    theirs = subprocess.run(reference, capture_output=True)
+    ours = run(program, "judge", folder, "--day-start", DAY_START, *flags)
+    theirs = run(sys.executable, BENCH / "judge_reference.py", folder, DAY_START, *flags)
     return (ours.returncode, ours.stdout) == (theirs.returncode, theirs.stdout) and ours.returncode == 0
 
 
 def main(filled):
     """Measures on the largest tables, in both orders of costs, and on those with windows and optional legs. Its status is 0 where the program took no more time."""
-    program = Path(sys.argv[1] if len(sys.argv) > 1 else BUILT).resolve()
-    if not program.exists():
-        sys.exit(f"{program} is not there: run ./fleetplan first, which builds it")
+    program = program_of(*sys.argv[1:2])
     if not shutil.which("time"):
         sys.exit("GNU time is not on the PATH, by which memory is measured")
     print(f"best of {RUNS} runs, and the most memory held")

@@ -6,23 +6,18 @@ usage: nights.py FOLDER LEGS FLEETS [NUMBER [MOST]]
 The tables are those of hubs.py. At each station but the hubs at most MOST aircraft may stand at the end of the day, 7 where it isn't
 given.
 """
-import sys
-
 import hubs
+from shared import put, write_by_words
+
+from fleetplan.tables import LIMITED
 
 
 def write(folder, legs, fleets, number=1, most=7):
     hubs.write(folder, legs, fleets, number)
     stations, count = hubs.sizes_of(legs)
     limited = [(*row, "-" if place < count else most) for place, row in enumerate(hubs.places(stations, count))]
-    hubs.put(folder, {"stations.csv": [("code", "extra", "maintenance", "parking"), *limited]})
-
-
-def main():
-    if not 4 <= len(sys.argv) <= 6:
-        sys.exit(__doc__)
-    write(sys.argv[1], *map(int, sys.argv[2:]))
+    put(folder, {"stations.csv": limited}, stations=LIMITED)
 
 
 if __name__ == "__main__":
-    main()
+    write_by_words(__doc__, 5, write)

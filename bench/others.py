@@ -6,6 +6,9 @@ import subprocess
 from pathlib import Path
 
 import plan_by_cbc
+from shared import BENCH
+
+from fleetplan.times import minute_of
 
 SECONDS = 120
 # Debian's scipy is for this one.
@@ -15,7 +18,7 @@ INTEGER_OPTIMAL = re.compile(r"\A(?:.*\n)*\+ *\d+: mip = +(\S+) >= .*\n(?:.*\n)*
 SOLVERS = {
     "cbc": (["cbc", "model.lp", "solve"], OBJECTIVE),
     "glpsol": (["glpsol", "--lp", "model.lp", "-o", "found"], INTEGER_OPTIMAL),
-    "highs": ([PYTHON, str(Path(__file__).resolve().parent / "by_highs.py"), "model.lp"], OBJECTIVE),
+    "highs": ([PYTHON, str(BENCH / "by_highs.py"), "model.lp"], OBJECTIVE),
 }
 
 
@@ -29,7 +32,7 @@ def is_there(name):
 def solved(folder, day_start="03:00"):
     """The seconds of the processor and the cost of each solver that is there, on the tables of a folder. After two minutes by the
     clock they are ended, and have no cost."""
-    model, _ = plan_by_cbc.program(*plan_by_cbc.pairs_of(folder, plan_by_cbc.minute(day_start)))
+    model, _ = plan_by_cbc.program(*plan_by_cbc.pairs_of(folder, minute_of(day_start)))
     Path(folder, "model.lp").write_text(model)
     found = {}
     for name, (words, cost) in SOLVERS.items():

@@ -15,14 +15,11 @@ import tempfile
 from collections import defaultdict
 from pathlib import Path
 
-from schedules import FLAGGED, flags_of, period_of, rows
+from schedules import flags_of, period_of
+from shared import FLAGGED, put, rows
 
-DAY = 1440
-LEFT_OUT = UNLIMITED = "-"
-
-
-def minute(text):
-    return int(text[:2]) * 60 + int(text[3:])
+from fleetplan.tables import NO_FLEET, NO_LIMIT, SHIFTED
+from fleetplan.times import DAY, minute_of
 
 
 def pairs_of(folder, start):
@@ -30,7 +27,7 @@ def pairs_of(folder, start):
     be left out has a way without fleet that has its cost alone. Last come the limits of stations that have one."""
     stations = rows(folder, "stations.csv")
     extra = {row["code"]: int(row["extra"]) for row in stations}
-    limits = {row["code"]: int(row["parking"]) for row in stations if row.get("parking", UNLIMITED) != UNLIMITED}
+    limits = {row["code"]: int(row["parking"]) for row in stations if row.get("parking", NO_LIMIT) != NO_LIMIT}
     fleets = [(row["fleet"], int(row["aircraft"]), int(row["turn"])) for row in rows(folder, "fleets.csv")]
     legs, period = rows(folder, "legs.csv"), DAY * period_of(folder)
     place = {leg["flight"]: number for number, leg in enumerate(legs)}
@@ -40,13 +37,13 @@ def pairs_of(folder, start):
         shifts[row["flight"]].append((int(row["shift"]), int(row["extra"])))
     for row in rows(folder, "costs.csv"):
         leg = legs[place[row["flight"]]]
-        block = (minute(leg["arr"]) - minute(leg["dep"])) % DAY
+        block = (minute_of(leg["arr"]) - minute_of(leg["dep"])) % DAY
         for shift, more in shifts[row["flight"]]:
-            departs = (DAY * (int(leg.get("day", 1)) - 1) + minute(leg["dep"]) - start + shift) % period
+            departs = (DAY * (int(leg.get("day", 1)) - 1) + minute_of(leg["dep"]) - start + shift) % period
             ready = departs + block + turns[row["fleet"]] + extra[leg["to"]]
             pairs[place[row["flight"]], row["fleet"], shift] = (departs, ready % period, ready // period, int(row["cost"]) + more)
     for row in rows(folder, FLAGGED["--optional"]) if "--optional" in flags else ():
-        pairs[place[row["flight"]], LEFT_OUT, 0] = (None, None, 0, int(row["skip"]))
+        pairs[place[row["flight"]], NO_FLEET, 0] = (None, None, 0, int(row["skip"]))
     return legs, fleets, pairs, limits
 
 
@@ -58,7 +55,7 @@ def program(legs, fleets, pairs, limits):
     for key, (departs, ready, crossed, _) in pairs.items():
         leg, fleet, _ = key
         cover[leg].append(name[key])
-        if fleet == LEFT_OUT:
+        if fleet == NO_FLEET:
             continue
         events[fleet, legs[leg]["from"]].append((departs, 1, name[key]))
         events[fleet, legs[leg]["to"]].append((ready, 0, name[key]))
@@ -109,14 +106,12 @@ def solve(text):
 
 def write(folder, day_start):
     """Writes the plan of a folder, and gives its cost."""
-    legs, fleets, pairs, limits = pairs_of(folder, minute(day_start))
+    legs, fleets, pairs, limits = pairs_of(folder, minute_of(day_start))
     text, name = program(legs, fleets, pairs, limits)
     chosen = solve(text)
     flown = {leg: (fleet, shift) for (leg, fleet, shift), it in name.items() if it in chosen}
-    width = 3 if "--windows" in flags_of(folder) else 2
-    lines = [("flight", "fleet", "shift"), *((leg["flight"], *flown[number]) for number, leg in enumerate(legs))]
-    with open(Path(folder, "plan.csv"), "w") as plan:
-        plan.write("".join(",".join(map(str, it[:width])) + "\n" for it in lines))
+    header = SHIFTED if "--windows" in flags_of(folder) else SHIFTED[:2]
+    put(folder, {"plan.csv": [(leg["flight"], *flown[number])[: len(header)] for number, leg in enumerate(legs)]}, plan=header)
     return sum(pairs[key][3] for key, it in name.items() if it in chosen)
 
 

@@ -1,16 +1,13 @@
 """Scenarios with days, room at night, windows and optional legs, in runs of tools/scenarios."""
 
-import csv
 import json
 import random
 import shutil
-import subprocess
 import sys
 
-from scenario_runs import HUB_DAY, TOP, Run, records
+from scenario_runs import HUB_DAY, Run
+from shared import BENCH, EXAMPLES, TABLES, put, rows, run as ran
 
-REFERENCE = TOP / "bench" / "judge_reference.py"
-TABLES = [f"{it}.csv" for it in ("stations", "fleets", "legs", "costs", "throughs")]
 WEEK, BOTH = "--period 7 --days 4", "--windows --optional"
 SIZES = {"less": "-1", "more": "+1"}
 # Scenarios of examples: the example, the words, the tables that are read beside the five, changes, and the least cost, or how it ends.
@@ -64,19 +61,17 @@ def known(tries, scratch):
 
 def laid(folder):
     """Lays the tables of the known scenarios into folders, and returns their records."""
-    rows = []
-    for name, (example, words, more, changes, _) in KNOWN.items():
-        lay(folder / name, TOP / "examples" / example, more)
-        rows.append((name, words, name, changes))
-    return rows
+    for name, (example, _, more, _, _) in KNOWN.items():
+        lay(folder / name, EXAMPLES / example, more)
+    return [(name, words, name, changes) for name, (_, words, _, changes, _) in KNOWN.items()]
 
 
 def schedules(scratch):
     """Yields schedules whose fleets are changed, with their words and a change: a week, and a week and a day with windows, optional legs
     and less room at night."""
-    yield TOP / "examples" / "week", WEEK, ""
+    yield EXAMPLES / "week", WEEK, ""
     for name, base, words, change in (("wide-week", "week", WEEK, "parking HUB 2"), ("wide-day", "hub-day", "", "parking ZRH 7")):
-        lay(scratch / name, TOP / "examples" / base)
+        lay(scratch / name, EXAMPLES / base)
         widen(scratch / name)
         yield scratch / name, f"{words} {BOTH}".strip(), change
 
@@ -84,23 +79,21 @@ def schedules(scratch):
 def widen(folder):
     """Adds windows and optional legs to a schedule, drawn from a number."""
     draw, costs = random.Random(1), {}
-    for it in records(folder / "costs.csv"):
+    for it in rows(folder, "costs.csv"):
         costs.setdefault(it["flight"], []).append(int(it["cost"]))
     windows = [(it, shift, draw.randrange(-100, 300)) for it in costs for shift in (-15, 10) if draw.random() < 0.5]
     optional = [(it, max(prices) - draw.randrange(2000)) for it, prices in costs.items() if draw.random() < 0.2]
-    for name, header, rows in (("windows.csv", ("flight", "shift", "extra"), windows), ("optional.csv", ("flight", "skip"), optional)):
-        with open(folder / name, "w", newline="", encoding="utf-8") as out:
-            csv.writer(out, lineterminator="\n").writerows([header, *rows])
+    put(folder, {"windows.csv": windows, "optional.csv": optional})
 
 
 def sizes(tries, scratch):
     """What a proof says of one aircraft less or more is no more than what a solve with so many finds."""
     for base, words, change in schedules(scratch):
-        fleets = [it["fleet"] for it in records(base / "fleets.csv")]
+        fleets = [it["fleet"] for it in rows(base, "fleets.csv")]
         changed = {(fleet, size): f"{fleet}-{size}" for fleet in fleets for size in SIZES}
-        rows = [("as-is", words, "", change)]
-        rows += [(name, words, "", f"{change}; aircraft {fleet} {SIZES[size]}") for (fleet, size), name in changed.items()]
-        run = Run(scratch / f"run-{base.name}", base, rows)
+        asked = [("as-is", words, "", change)]
+        asked += [(name, words, "", f"{change}; aircraft {fleet} {SIZES[size]}") for (fleet, size), name in changed.items()]
+        run = Run(scratch / f"run-{base.name}", base, asked)
         tries(f"{base.name}: as it is, and each fleet one aircraft less and more", run.on(2) == 0)
         base_row = run.row("as-is")
         wrong = [name for (fleet, size), name in changed.items() if not bounds(base_row[f"one {size} {fleet}"], run.row(name))]
@@ -139,4 +132,4 @@ def judged(folder):
     value = {name: word for name, word in zip(reading, reading[1:]) if not word.startswith("--")}
     flags = [it for it in BOTH.split() if it in reading]
     words = [folder, value.get("--day-start", "03:00"), value.get("--period", "1"), *flags]
-    return subprocess.run([sys.executable, REFERENCE, *words], stdout=subprocess.PIPE, text=True, check=False).stdout
+    return ran(sys.executable, BENCH / "judge_reference.py", *words).stdout

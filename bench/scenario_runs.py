@@ -1,7 +1,6 @@
 """Runs of tools/scenarios in scratch folders, and what stands there afterwards."""
 
 import contextlib
-import csv
 import os
 import random
 import resource
@@ -12,17 +11,15 @@ import sys
 import time
 from pathlib import Path
 
-TOP = Path(__file__).resolve().parent.parent
+from shared import BUILT, EXAMPLES, TOP, rows as records
+
+from fleetplan.files import write
+from fleetplan.records import text_of
+
 PLACE = TOP / "tools" / "scenarios"
-BUILT = TOP / "crates" / "fleetplan" / "out" / "fleetplan"
-HUB_DAY = TOP / "examples" / "hub-day"
+HUB_DAY = EXAMPLES / "hub-day"
 # Columns of the summary that may differ from run to run.
 TAKEN = ("seconds", "memory MB")
-
-
-def records(path):
-    with open(path, newline="", encoding="utf-8") as file:
-        return list(csv.DictReader(file))
 
 
 def drawn(base, count, seed=1):
@@ -65,8 +62,7 @@ class Run:
         self.folder.mkdir(parents=True, exist_ok=True)
         lines = {"base": base, "program": BUILT, **config}
         (self.folder / "config.yaml").write_text("".join(f"{name}: {value}\n" for name, value in lines.items()), encoding="utf-8")
-        with open(self.folder / "scenarios.csv", "w", newline="", encoding="utf-8") as out:
-            csv.writer(out, lineterminator="\n").writerows([("scenario", "words", "folder", "changes"), *rows])
+        write(str(self.folder / "scenarios.csv"), text_of(("scenario", "words", "folder", "changes"), rows))
         self.count, self.before = len(rows), []
 
     def words(self, profile, *more):
@@ -95,10 +91,9 @@ class Run:
 
     def summary(self):
         """Returns the records of the summary without what differs from run to run, or None where there is none."""
-        path = self.folder / "summary.csv"
-        if not path.exists():
+        if not (self.folder / "summary.csv").exists():
             return None
-        return [{name: text for name, text in it.items() if name not in TAKEN} for it in records(path)]
+        return [{name: text for name, text in it.items() if name not in TAKEN} for it in records(self.folder, "summary.csv")]
 
     def row(self, name):
         return next(it for it in self.summary() if it["scenario"] == name)

@@ -7,6 +7,11 @@ SEASON = ("25OCT26", "27MAR27")
 EVERY_DAY = "1234567"
 
 
+def zone(minutes):
+    """A variation from UTC."""
+    return f"{'-' if minutes < 0 else '+'}{abs(minutes) // 60:02}{abs(minutes) % 60:02}"
+
+
 def line(*texts):
     """A line with texts at their first bytes, counted from 1, and blanks between."""
     row = [" "] * LENGTH

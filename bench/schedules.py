@@ -3,21 +3,17 @@
 All legs on the first fleet are always a legal assignment, so each schedule has a plan. `make` also solves it, which takes a
 part of a second at 100 legs, and a second or two at 1,000.
 """
-import csv
-import subprocess
 import sys
 from pathlib import Path
 
-BUILT = Path(__file__).resolve().parent.parent / "crates" / "fleetplan" / "out" / "fleetplan"
+from shared import FLAGGED, program_of, rows, run
+
 SOLVED = (0, 3, 5)
-FLAGGED = {"--windows": "windows.csv", "--optional": "optional.csv"}
 
 
-def make(folder, number, legs, program=BUILT):
+def make(folder, number, legs, program=None):
     """Has the program write the tables of a number into a folder, with so many legs."""
-    if not Path(program).exists():
-        sys.exit(f"{program} is not there: run ./fleetplan first, which builds it")
-    made = subprocess.run([str(program), "make", str(folder), str(number), str(legs)], capture_output=True, text=True)
+    made = run(program_of(program), "make", folder, number, legs)
     if made.returncode not in SOLVED:
         sys.exit(f"make {folder} {number} {legs} ended with {made.returncode}: {made.stdout}")
 
@@ -42,9 +38,3 @@ def want_one_day(folder, what):
     """Ends where the schedule of a folder has several days, of which a script knows nothing."""
     if period_of(folder) > 1:
         sys.exit(f"{folder}: {what} knows schedules of one day alone")
-
-
-def rows(folder, name):
-    """The records of a table, by the names of its columns."""
-    with open(Path(folder, name), newline="") as file:
-        return list(csv.DictReader(file))

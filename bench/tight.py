@@ -8,23 +8,15 @@ fleet, and writes them to TO. All legs are flown by as few aircraft as can be: t
 to tours, as many as a few swaps of connections can make. Each tour goes to a fleet (drawn from NUMBER), and a fleet has
 the aircraft of its tours. So a legal plan is left, and no aircraft is to spare.
 """
-import csv
 import random
 import sys
-from pathlib import Path
 
 import schedules
+from shared import put
 
-DAY = 1440
-
-
-def minute_of(clock):
-    return 60 * int(clock[:2]) + int(clock[3:])
-
-
-def read(folder, name):
-    with open(Path(folder, name), newline="") as file:
-        return list(csv.reader(file))
+from fleetplan.records import table_of
+from fleetplan.tables import TABLES, headers_of
+from fleetplan.times import DAY, minute_of
 
 
 class Flight:
@@ -99,29 +91,22 @@ def swap(flights, follows, one, other):
 
 
 def write(folder, to, start, number):
-    stations, fleets, legs = (read(folder, f"{name}.csv") for name in ("stations", "fleets", "legs"))
-    costs, throughs = read(folder, "costs.csv"), read(folder, "throughs.csv")
-    turn = min(int(row[2]) for row in fleets[1:])
-    extras = {row[0]: int(row[1]) for row in stations[1:]}
-    flights = [Flight(row, start, turn, extras) for row in legs[1:]]
+    read = {name: table_of(folder, name, headers_of(name)) for name in TABLES}
+    tables = {name: rows for name, (_, rows) in read.items()}
+    fleets, legs, costs = tables["fleets.csv"], tables["legs.csv"], tables["costs.csv"]
+    turn = min(int(row[2]) for row in fleets)
+    extras = {row[0]: int(row[1]) for row in tables["stations.csv"]}
+    flights = [Flight(row, start, turn, extras) for row in legs]
     follows = connections(flights)
     split(flights, follows)
-    draw, aircraft = random.Random(number), [0] * (len(fleets) - 1)
+    draw, aircraft = random.Random(number), [0] * len(fleets)
     for tour in tours_of(follows):
         aircraft[draw.randrange(len(aircraft))] += days_of(flights, follows, tour)
-    known = {(row[0], row[1]): row[2] for row in costs[1:]}
-    most = {row[0]: max(int(cost) for (flight, _), cost in known.items() if flight == row[0]) for row in legs[1:]}
-    tables = {
-        "stations.csv": stations,
-        "fleets.csv": [fleets[0], *([row[0], count, turn] for row, count in zip(fleets[1:], aircraft))],
-        "legs.csv": legs,
-        "costs.csv": [costs[0], *([leg[0], row[0], known.get((leg[0], row[0]), most[leg[0]])] for leg in legs[1:] for row in fleets[1:])],
-        "throughs.csv": throughs,
-    }
-    Path(to).mkdir(parents=True, exist_ok=True)
-    for name, rows in tables.items():
-        with open(Path(to, name), "w", newline="") as file:
-            csv.writer(file, lineterminator="\n").writerows(rows)
+    known = {(row[0], row[1]): row[2] for row in costs}
+    most = {row[0]: max(int(cost) for (flight, _), cost in known.items() if flight == row[0]) for row in legs}
+    tables["fleets.csv"] = [[row[0], count, turn] for row, count in zip(fleets, aircraft)]
+    tables["costs.csv"] = [[leg[0], row[0], known.get((leg[0], row[0]), most[leg[0]])] for leg in legs for row in fleets]
+    put(to, tables, **{name.partition(".")[0]: header for name, (header, _) in read.items()})
 
 
 def main():

@@ -10,12 +10,16 @@ Each fleet has the aircraft with which the tours are a legal plan, as judge_refe
 given; that plan is written too. Some flights that follow each other at a hub are through pairs.
 """
 import random
-import sys
 import tempfile
 from pathlib import Path
 
 import judge_reference
-from hubs import DAY, START, Network, clock, cost, kinds_of, name, places, put, sizes_of
+from hubs import START, Network, cost, kinds_of, name, places, sizes_of
+from shared import put, write_by_words
+
+from fleetplan.forms import MOST_AIRCRAFT
+from fleetplan.tables import DATED
+from fleetplan.times import DAY, clock
 
 DAYS = 7
 WEEKEND = (6, 7)
@@ -25,7 +29,6 @@ DEMAND = (1.1, 0.95, 1.0, 1.05, 1.2, 0.7, 0.95)
 KEPT, LATER = 0.5, 24
 # How often flights are a through pair that follow each other at a hub within so many minutes.
 PAIRED, WAIT = 0.3, 100
-MOST_AIRCRAFT = 500
 
 
 def fleets_for(tour, kinds):
@@ -90,18 +93,18 @@ class Week:
         hubs = self.network.hubs
         stations = [(code, more, "yes" if at < hubs else flag) for at, (code, more, flag) in enumerate(places(self.network.stations, hubs))]
         return {
-            "stations.csv": [("code", "extra", "maintenance"), *stations],
-            "fleets.csv": [("fleet", "aircraft", "turn"), *fleets],
-            "legs.csv": [("flight", "day", "from", "dep", "to", "arr"), *self.legs],
-            "costs.csv": [("flight", "fleet", "cost"), *self.costs],
-            "throughs.csv": [("in", "out", "value"), *self.throughs],
-            "plan.csv": [("flight", "fleet"), *self.plan],
+            "stations.csv": stations,
+            "fleets.csv": fleets,
+            "legs.csv": self.legs,
+            "costs.csv": self.costs,
+            "throughs.csv": self.throughs,
+            "plan.csv": self.plan,
         }
 
     def used(self):
         """How many aircraft of each kind the tours use."""
         with tempfile.TemporaryDirectory() as folder:
-            put(folder, self.tables([MOST_AIRCRAFT] * len(self.kinds)))
+            put(folder, self.tables([MOST_AIRCRAFT] * len(self.kinds)), legs=DATED)
             tables = judge_reference.Tables(Path(folder), START, DAYS)
         flown = {self.fleet(at): [] for at in range(len(self.kinds))}
         for flight, fleet in self.plan:
@@ -117,14 +120,8 @@ def write(folder, legs, fleets, number=1, spare=1):
     week = Week(draw, network, kinds)
     for day in range(1, DAYS + 1):
         week.add(day, weekend if day in WEEKEND else weekdays)
-    put(folder, week.tables([it + spare for it in week.used()]))
-
-
-def main():
-    if len(sys.argv) not in (4, 5, 6):
-        sys.exit(__doc__)
-    write(sys.argv[1], *map(int, sys.argv[2:]))
+    put(folder, week.tables([it + spare for it in week.used()]), legs=DATED)
 
 
 if __name__ == "__main__":
-    main()
+    write_by_words(__doc__, 5, write)

@@ -7,12 +7,11 @@ The tables are those of hubs.py. Beside them windows.csv gives each leg TIMES ti
 more minutes later and earlier, in turn, each dearer than the one before. Each fleet has so many aircraft FEWER, 0 where it isn't given,
 in percent of its own, rounded down.
 """
-import csv
 import random
-import sys
-from pathlib import Path
 
 import hubs
+from shared import put, rows, write_by_words
+from skips import fewer_aircraft
 
 STEP = 5
 
@@ -25,19 +24,10 @@ def shifts_of(times):
 def write(folder, legs, fleets, number=1, times=4, fewer=0):
     hubs.write(folder, legs, fleets, number)
     draw = random.Random(f"windows {number}")
-    with open(Path(folder, "legs.csv"), newline="") as file:
-        flights = [row["flight"] for row in csv.DictReader(file)]
-    with open(Path(folder, "fleets.csv"), newline="") as file:
-        kinds = [(row["fleet"], int(row["aircraft"]) * (100 - fewer) // 100, row["turn"]) for row in csv.DictReader(file)]
+    flights = [row["flight"] for row in rows(folder, "legs.csv")]
     windows = [(flight, shift, abs(shift) * draw.randrange(5, 30)) for flight in flights for shift in shifts_of(times)]
-    hubs.put(folder, {"windows.csv": [("flight", "shift", "extra"), *windows], "fleets.csv": [("fleet", "aircraft", "turn"), *kinds]})
-
-
-def main():
-    if not 4 <= len(sys.argv) <= 7:
-        sys.exit(__doc__)
-    write(sys.argv[1], *map(int, sys.argv[2:]))
+    put(folder, {"windows.csv": windows, "fleets.csv": fewer_aircraft(folder, fewer)})
 
 
 if __name__ == "__main__":
-    main()
+    write_by_words(__doc__, 6, write)
