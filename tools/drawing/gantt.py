@@ -1,6 +1,12 @@
 """A fleet's flights as a chart: one row for each day of its tour, or where it has none, rows in which no two overlap."""
 
-from drawing.svg import DAY_WIDTH, INK, LEFT, box, grid, group, line, picture, width_of, words, x_of
+from __future__ import annotations
+
+from typing import Dict, Iterable, Iterator, List, Optional, Sequence, Set, Tuple
+
+from drawing.svg import DAY_WIDTH, INK, LEFT, Palette, box, grid, group, line, picture, width_of, words, x_of
+from fleetplan.rotations import Night, Rotation
+from fleetplan.schedule import Leg, Plan, Schedule
 from fleetplan.times import DAY
 
 TOP, ROW, ABOVE, BAR = 24, 57, 24, 19
@@ -9,11 +15,15 @@ TIE, NIGHT, GROUND = "#b3005e", "#1f3a5f", "#9aa3af"
 NIGHT_AT = LEFT + DAY_WIDTH + 12
 
 
+# Minutes from a first to a last one.
+Span = Tuple[int, int]
+
+
 class Bar:
     """A flight with the nights after it. It begins in a row of the tour, or in a lane where there is none. Its minutes are counted from
     the start of the day on which it departs."""
 
-    def __init__(self, leg, busy, row, nights=()):
+    def __init__(self, leg: Leg, busy: int, row: int, nights: Sequence[Night] = ()) -> None:
         self.leg, self.row, self.nights = leg, row, nights
         self.day, self.departs = divmod(leg.departure, DAY)
         self.lands, self.ready = self.departs + leg.block, self.departs + busy
@@ -23,7 +33,7 @@ class Chart:
     """The chart of a fleet. The rows of a tour follow each other, and after the last one comes the first. Else each day has lanes that
     stand by themselves, and a flight over the day's end goes on in the same lane of the next day."""
 
-    def __init__(self, schedule, rotation, plan, palette):
+    def __init__(self, schedule: Schedule, rotation: Rotation, plan: Plan, palette: Palette) -> None:
         self.schedule, self.rotation, self.palette = schedule, rotation, palette
         self.fleet, self.has_tour = rotation.fleet, bool(rotation.tour)
         if self.has_tour:
@@ -32,9 +42,9 @@ class Chart:
         else:
             self.bars, self.lanes = packed(schedule.flown_by(plan, self.fleet), schedule.period)
             self.rows = len(self.lanes)
-        self.labels = {}
+        self.labels: Dict[Tuple[int, int], float] = {}
 
-    def drawn(self):
+    def drawn(self) -> str:
         """Returns the drawing, which stands by itself."""
         height = TOP + ROW * self.rows + 8
         parts = grid(self.schedule, TOP, height - 8)
@@ -52,7 +62,7 @@ class Chart:
         parts += [part for it in self.bars for part in self.nights(it)]
         return picture(height, f"{self.fleet}: {self.rotation.words}", parts)
 
-    def label(self, row):
+    def label(self, row: int) -> Tuple[str, Optional[str]]:
         """Returns what stands left of a row, and below that, or None."""
         period = self.schedule.period
         if period == 1:
@@ -62,20 +72,20 @@ class Chart:
         day, lane = list(self.lanes)[row]
         return f"day {day + 1}", f"row {lane + 1}"
 
-    def row_at(self, bar, minute):
+    def row_at(self, bar: Bar, minute: int) -> int:
         """Returns the row of a minute that is counted from the start of the flight's own day."""
         if self.has_tour:
             return (bar.row + minute // DAY) % self.rows
         return self.lanes[(bar.day + minute // DAY) % self.schedule.period, bar.row]
 
-    def pieces(self, bar, start, end):
+    def pieces(self, bar: Bar, start: int, end: int) -> Iterator[Tuple[int, int, int]]:
         """Yields a span of minutes, counted from the start of the flight's own day, as rows with their first and last minute."""
         while start < end:
             stop = min(end, start - start % DAY + DAY)
             yield self.row_at(bar, start), start % DAY, start % DAY + stop - start
             start = stop
 
-    def flight(self, bar):
+    def flight(self, bar: Bar) -> str:
         """Returns a flight with its number, its stations, and its turn."""
         leg, parts = bar.leg, []
         for row, start, end in self.pieces(bar, bar.lands, bar.ready):
@@ -96,7 +106,7 @@ class Chart:
         title += f", {abs(leg.shift)} minutes {'later' if leg.shift > 0 else 'earlier'} than in legs.csv" if leg.shift else ""
         return group("leg", leg.flight, title, parts)
 
-    def number(self, flight, left, right, row):
+    def number(self, flight: str, left: float, right: float, row: int) -> List[str]:
         """Returns the flight's number in its bar where it fits there, else above it where no other one stands."""
         middle, y, ink = (left + right) / 2, y_of(row), self.palette.ink(self.fleet)
         for size in (11, 9):
@@ -113,14 +123,14 @@ class Chart:
                 return [words(middle, y - 3 - 9 * level, flight, 9, "middle")]
         return []
 
-    def ground(self, bar, following):
+    def ground(self, bar: Bar, following: Bar) -> Iterator[str]:
         """Yields the time on the ground from a flight to the next as a thin line."""
         end = len(bar.nights) * DAY + following.departs
         for row, first, last in self.pieces(bar, bar.lands, end):
             y = y_of(row) + BAR / 2
             yield line(x_of(first), y, x_of(last), y, GROUND, 1.4)
 
-    def ties(self):
+    def ties(self) -> Iterator[str]:
         """Yields the chosen through flights, each tied to the flight that follows it."""
         at = {it.leg.flight: it for it in self.bars}
         for into, out in self.rotation.pairs:
@@ -135,7 +145,7 @@ class Chart:
                 parts.append(f'<circle cx="{x:.1f}" cy="{y_of(row) + BAR / 2:.1f}" r="4" fill="{TIE}" stroke="#ffffff"/>')
             yield group("through", f"{into} {out}", f"through flight: {into} and {out} by one aircraft", parts)
 
-    def nights(self, bar):
+    def nights(self, bar: Bar) -> Iterator[str]:
         """Yields the nights after a flight, each at the end of its day: filled where the aircraft can be maintained."""
         for at, (station, maintains) in enumerate(bar.nights):
             y, width = y_of(self.row_at(bar, at * DAY)) - 1, 100 if maintains else 58
@@ -150,12 +160,12 @@ class Chart:
             yield group("night", station or "aloft", title, [drawn, told])
 
 
-def y_of(row):
+def y_of(row: int) -> int:
     """Returns where the bars of a row begin."""
     return TOP + ROW * row + ABOVE
 
 
-def codes(leg, x, y, width, is_first, is_last):
+def codes(leg: Leg, x: float, y: float, width: float, is_first: bool, is_last: bool) -> List[str]:
     """Returns the codes of the stations below a bar, where there is room for both; else the first alone."""
     parts = [words(x + 2, y + BAR + 10, leg.start, 9, "start", "faint")] if is_first else []
     if is_last and (width >= 2 * width_of("AAA", 9) + 8 or not is_first and width >= width_of("AAA", 9) + 4):
@@ -163,10 +173,12 @@ def codes(leg, x, y, width, is_first, is_last):
     return parts
 
 
-def packed(flown, period):
+def packed(flown: Iterable[Tuple[Leg, int]], period: int) -> Tuple[List[Bar], Dict[Tuple[int, int], int]]:
     """Returns flights in lanes in which no two are in the air at once, each in the first lane where it fits; and of each day (from 0) and
     lane that is wanted its row."""
-    minutes, lanes, bars, wanted = period * DAY, [], [], set()
+    minutes, bars = period * DAY, []
+    lanes: List[List[Span]] = []
+    wanted: Set[Tuple[int, int]] = set()
     for leg, busy in sorted(flown, key=lambda it: it[0].departure):
         lands = leg.departure + leg.block
         spans = [(leg.departure, min(lands, minutes))] + ([(0, lands - minutes)] if lands > minutes else [])
@@ -179,5 +191,6 @@ def packed(flown, period):
     return bars, {it: row for row, it in enumerate(sorted(wanted))}
 
 
-def is_apart(one, other):
+def is_apart(one: Span, other: Span) -> bool:
+    """Returns whether two spans of minutes have none in common."""
     return one[1] <= other[0] or other[1] <= one[0]

@@ -1,7 +1,12 @@
 """The aircraft on the ground at a station through the day or the period: a lane for each fleet that comes there, as high as they are
 many."""
 
-from drawing.svg import DAY_WIDTH, FAINT, LEFT, box, days, grid, group, line, picture, width_of, words, x_of
+from __future__ import annotations
+
+from typing import Dict, Iterator, List, Optional, Sequence, Tuple
+
+from drawing.svg import DAY_WIDTH, FAINT, LEFT, Palette, box, days, grid, group, line, picture, width_of, words, x_of
+from fleetplan.schedule import Plan, Schedule
 
 TOP, LANE, HIGH = 22, 24, 17
 
@@ -9,9 +14,9 @@ TOP, LANE, HIGH = 22, 24, 17
 class Grounds:
     """The aircraft of each fleet on the ground at each station, at the end of each minute of the period."""
 
-    def __init__(self, schedule, plan):
+    def __init__(self, schedule: Schedule, plan: Plan) -> None:
         self.schedule = schedule
-        self.stands = {it: {} for it in schedule.extra}
+        self.stands: Dict[str, Dict[str, List[int]]] = {it: {} for it in schedule.extra}
         for fleet in schedule.aircraft:
             flown = schedule.flown_by(plan, fleet)
             need, goes, comes = schedule.needs(flown)
@@ -19,7 +24,7 @@ class Grounds:
                 if any(goes[station]) or any(comes[station]):
                     self.stands[station][fleet] = stands_from(need[station], goes[station], comes[station])
 
-    def chart(self, station, palette):
+    def chart(self, station: str, palette: Palette) -> Optional[str]:
         """Returns the drawing of a station, or None where no flight comes."""
         lanes = self.stands[station]
         if not lanes:
@@ -33,7 +38,7 @@ class Grounds:
         return picture(height, f"aircraft on the ground at {station}", parts)
 
 
-def stands_from(need, goes, comes):
+def stands_from(need: int, goes: Sequence[int], comes: Sequence[int]) -> List[int]:
     """Returns the aircraft on the ground at the end of each minute: those at the first day's start, and what came less what went."""
     stand, minutes = need, []
     for gone, come in zip(goes, comes):
@@ -42,7 +47,7 @@ def stands_from(need, goes, comes):
     return minutes
 
 
-def steps(minutes):
+def steps(minutes: Sequence[int]) -> Iterator[Tuple[int, int, int]]:
     """Yields the spans of minutes in which the number stays the same."""
     start = 0
     for at in range(1, len(minutes) + 1):
@@ -51,7 +56,7 @@ def steps(minutes):
             start = at
 
 
-def lane(fleet, minutes, most, bottom, palette):
+def lane(fleet: str, minutes: Sequence[int], most: int, bottom: float, palette: Palette) -> List[str]:
     """Returns the lane of a fleet at a station."""
     parts = [words(LEFT - 10, bottom - 6, fleet, 11, "end"), line(LEFT, bottom, LEFT + DAY_WIDTH, bottom, FAINT, 0.8)]
     spans = []

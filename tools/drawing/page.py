@@ -1,10 +1,15 @@
 """The page: the numbers of the summary, the rotations, and the stations."""
 
+from __future__ import annotations
+
 from html import escape
+from typing import Iterator, List, Sequence, Tuple
 
 from drawing.gantt import Chart
 from drawing.grounds import Grounds
 from drawing.svg import Palette
+from fleetplan.rotations import Rotation
+from fleetplan.schedule import Plan, Schedule
 from fleetplan.tables import NO_FLEET
 
 STYLE = """
@@ -33,63 +38,63 @@ LANES = (
 )
 
 
-class Plan:
+class Drawn:
     """What is drawn: the schedule, its plan, the rotations, and rows of what the proof says, where it was checked."""
 
-    def __init__(self, name, schedule, plan, rotations, proved):
+    def __init__(self, name: str, schedule: Schedule, plan: Plan, rotations: Sequence[Rotation], proved: Sequence[Tuple[str, str]]) -> None:
         self.name, self.schedule, self.plan, self.rotations, self.proved = name, schedule, plan, rotations, proved
         self.palette = Palette(schedule.aircraft)
         self.cost = sum(schedule.cost[it] for it in plan.items())
         self.left_out = [flight for flight, fleet in plan.items() if fleet == NO_FLEET]
         self.used = {it: schedule.used(schedule.flown_by(plan, it)) for it in schedule.aircraft}
 
-    def charts(self):
+    def charts(self) -> Iterator[Tuple[Rotation, str]]:
         """Yields the fleets that fly, with the drawing of each."""
         for it in self.rotations:
             if it.words != "unused":
                 yield it, Chart(self.schedule, it, self.plan, self.palette).drawn()
 
 
-def page(plan):
-    """Returns the page of a plan, which needs nothing beside itself."""
-    parts = [f"<h1>{escape(plan.name)}</h1>", summary(plan), "<h2>Rotations</h2>", f'<p class="note">{LEGEND}</p>']
-    for rotation, drawn in plan.charts():
+def page(drawn: Drawn) -> str:
+    """Returns the page of a drawn, which needs nothing beside itself."""
+    parts = [f"<h1>{escape(drawn.name)}</h1>", summary(drawn), "<h2>Rotations</h2>", f'<p class="note">{LEGEND}</p>']
+    for rotation, chart in drawn.charts():
         kind = ' class="long"' if rotation.days > 12 or not rotation.days else ""
-        head = f"<h3>{key(plan, rotation.fleet)}{rotation.fleet}: {told(rotation, plan.schedule.period)}</h3>"
-        parts.append(f'<section{kind} data-fleet="{rotation.fleet}">{head}{drawn}</section>')
-    unused = [it.fleet for it in plan.rotations if it.words == "unused"]
+        head = f"<h3>{key(drawn, rotation.fleet)}{rotation.fleet}: {told(rotation, drawn.schedule.period)}</h3>"
+        parts.append(f'<section{kind} data-fleet="{rotation.fleet}">{head}{chart}</section>')
+    unused = [it.fleet for it in drawn.rotations if it.words == "unused"]
     if unused:
         parts.append(f"<p>Without a flight: {', '.join(unused)}.</p>")
-    parts += choices(plan)
+    parts += choices(drawn)
     parts.append("<h2>Aircraft on the ground</h2>")
-    parts.append(f'<p class="note">{LANES.format(span="day" if plan.schedule.period == 1 else "period")}</p>')
-    grounds = Grounds(plan.schedule, plan.plan)
-    for station in plan.schedule.extra:
-        drawn = grounds.chart(station, plan.palette)
-        if drawn:
-            what = "with maintenance at night" if plan.schedule.maintains[station] else "without maintenance"
-            parts.append(f'<section data-station="{station}"><h3>{station}, {what}</h3>{drawn}</section>')
-    title = f"<title>{escape(plan.name)}: the plan</title>"
+    parts.append(f'<p class="note">{LANES.format(span="day" if drawn.schedule.period == 1 else "period")}</p>')
+    grounds = Grounds(drawn.schedule, drawn.plan)
+    for station in drawn.schedule.extra:
+        ground = grounds.chart(station, drawn.palette)
+        if ground:
+            what = "with maintenance at night" if drawn.schedule.maintains[station] else "without maintenance"
+            parts.append(f'<section data-station="{station}"><h3>{station}, {what}</h3>{ground}</section>')
+    title = f"<title>{escape(drawn.name)}: the plan</title>"
     head = f'<head><meta charset="utf-8">{title}<style>{STYLE}</style></head>'
     return f'<!doctype html>\n<html lang="en">{head}\n<body>\n' + "\n".join(parts) + "\n</body></html>\n"
 
 
-def choices(plan):
+def choices(drawn: Drawn) -> List[str]:
     """Returns paragraphs on the flights that depart at another time than their own, and on those that are left out."""
-    schedule = plan.schedule
+    schedule = drawn.schedule
     moved = [f"{it.flight} at {schedule.moment(it.departure)} ({it.shift:+})" for it in schedule.legs.values() if it.shift]
-    out = [f"{flight} ({schedule.skips[flight]:,})" for flight in plan.left_out]
+    out = [f"{flight} ({schedule.skips[flight]:,})" for flight in drawn.left_out]
     told = [("Moved, with their departures and the minutes by which they are later", moved), ("Left out, with what that costs", out)]
     return [f"<p>{escape(what)}: {escape(', '.join(flights))}.</p>" for what, flights in told if flights]
 
 
-def key(plan, fleet):
+def key(drawn: Drawn, fleet: str) -> str:
     """Returns a square in the colour of a fleet."""
-    hatched = " hatched" if plan.palette.is_hatched(fleet) else ""
-    return f'<span class="key{hatched}" style="background-color:{plan.palette.fill(fleet)}"></span>'
+    hatched = " hatched" if drawn.palette.is_hatched(fleet) else ""
+    return f'<span class="key{hatched}" style="background-color:{drawn.palette.fill(fleet)}"></span>'
 
 
-def told(rotation, period):
+def told(rotation: Rotation, period: int) -> str:
     """Returns what became of a rotation, with what its chart shows."""
     if rotation.days:
         days = "a day" if rotation.days == 1 else f"{rotation.days} days"
@@ -100,16 +105,16 @@ def told(rotation, period):
     return f"{escape(rotation.words)}: no tour. Its flights, in rows in which no two overlap (a row isn't one aircraft)"
 
 
-def summary(plan):
+def summary(drawn: Drawn) -> str:
     """Returns the numbers of the summary."""
-    schedule = plan.schedule
-    rows = [("cost", f"{plan.cost:,}"), *plan.proved, ("flights", f"{len(schedule.legs) - len(plan.left_out):,}"), ("day start", f"{schedule.clock(0)} UTC")]
+    schedule = drawn.schedule
+    rows = [("cost", f"{drawn.cost:,}"), *drawn.proved, ("flights", f"{len(schedule.legs) - len(drawn.left_out):,}"), ("day start", f"{schedule.clock(0)} UTC")]
     rows += [("period", f"{schedule.period} days")] if schedule.period > 1 else []
     head = "".join(f'<tr><th>{name}</th><td class="n">{value}</td></tr>' for name, value in rows)
     fleets = "".join(
-        f"<tr><td>{key(plan, it.fleet)}{it.fleet}</td><td class='n'>{plan.used[it.fleet]} of {schedule.aircraft[it.fleet]}</td>"
-        f"<td class='n'>{sum(fleet == it.fleet for fleet in plan.plan.values())}</td><td>{escape(it.words)}</td></tr>"
-        for it in plan.rotations
+        f"<tr><td>{key(drawn, it.fleet)}{it.fleet}</td><td class='n'>{drawn.used[it.fleet]} of {schedule.aircraft[it.fleet]}</td>"
+        f"<td class='n'>{sum(fleet == it.fleet for fleet in drawn.plan.values())}</td><td>{escape(it.words)}</td></tr>"
+        for it in drawn.rotations
     )
     head_of_fleets = "<tr><th>fleet</th><th>aircraft used</th><th>flights</th><th>rotation</th></tr>"
     return f"<table>{head}</table><table>{head_of_fleets}{fleets}</table>"

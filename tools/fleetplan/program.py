@@ -14,8 +14,8 @@ _HOLDS = re.compile(r"holds: (?:cost (-?\d+) )?bound (-?\d+)\n")
 
 def answer(words: Sequence[str], seconds: float) -> Tuple[int, bytes]:
     """Returns the status of a call of the program and what it prints, or raises OSError or SubprocessError, as after so many seconds."""
-    how = {"stdin": subprocess.DEVNULL, "stdout": subprocess.PIPE, "stderr": subprocess.DEVNULL}
-    ran = subprocess.run([PROGRAM, *words], timeout=seconds, check=False, **how)
+    pipe, nothing = subprocess.PIPE, subprocess.DEVNULL
+    ran = subprocess.run([PROGRAM, *words], timeout=seconds, check=False, stdin=nothing, stdout=pipe, stderr=nothing)
     return ran.returncode, ran.stdout
 
 

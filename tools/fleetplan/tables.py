@@ -2,7 +2,7 @@
 
 from __future__ import annotations
 
-from typing import NamedTuple, Optional, Tuple
+from typing import NamedTuple, Tuple
 
 from fleetplan.forms import MOST_AIRCRAFT, MOST_LEFT, MOST_TURN, TRILLION, Wrong, code, flag, free, limit, name, shift, time, whole
 
@@ -28,10 +28,10 @@ class Column(NamedTuple):
 
 
 class Table(NamedTuple):
-    """A table: its columns, the most records (None: no limit of its own), and how many of its first fields stand there once."""
+    """A table: its columns, the most records (0: no limit of its own), and how many of its first fields stand there once."""
 
     columns: Tuple[Column, ...]
-    most: Optional[int] = None
+    most: int = 0
     keys: int = 1
 
     @property
@@ -53,11 +53,14 @@ def _flight(heading: str = "flight") -> Column:
     return Column(heading, name, "legs.csv")
 
 
+def _station(heading: str) -> Column:
+    return Column(heading, code, "stations.csv")
+
+
 _COST = whole(-TRILLION, TRILLION)
 _FLEET = Column("fleet", name, "fleets.csv")
 STATIONS = Table((Column("code", code), Column("extra", whole(0, 600)), Column("maintenance", flag)), 200)
-LEGS = Table((Column("flight", name), *(Column(*it) for it in (
-    ("from", code, "stations.csv"), ("dep", time), ("to", code, "stations.csv"), ("arr", time)))), 1000)  # fmt: skip
+LEGS = Table((Column("flight", name), _station("from"), Column("dep", time), _station("to"), Column("arr", time)), 1000)
 TABLE = {
     "stations.csv": STATIONS,
     "fleets.csv": Table((Column("fleet", name), Column("aircraft", whole(0, MOST_AIRCRAFT)), Column("turn", whole(0, MOST_TURN))), 20),

@@ -46,7 +46,7 @@ def counted(number: int, one: str, many: Optional[str] = None) -> str:
     return f"{number} {one if number == 1 else many or one + 's'}"
 
 
-def quietly(look: Callable[..., Found], *parts: object) -> Optional[Found]:
+def quietly(look: Callable[..., Optional[Found]], *parts: object) -> Optional[Found]:
     """Returns what a look into files finds, or None where it finds nothing, whatever is wrong with them."""
     try:
         return look(*parts)

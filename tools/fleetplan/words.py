@@ -144,9 +144,9 @@ class Call:
         return COMMANDS[self.command or ""]
 
     @property
-    def folder(self) -> Optional[str]:
-        """The folder that the call names, or None."""
-        return self.words[0][1] if self.words else None
+    def folder(self) -> str:
+        """The folder that the call names, empty where it names none."""
+        return self.words[0][1] if self.words else ""
 
     @property
     def reading(self) -> List[str]:

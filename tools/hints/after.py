@@ -1,7 +1,10 @@
 """Which hint belongs to an answer."""
 
+from __future__ import annotations
+
 import os
 import sys
+from typing import Sequence
 
 from fleetplan.program import answer
 from fleetplan.texts import quietly, typed
@@ -14,14 +17,14 @@ SECONDS = 5
 MOST_LETTERS = 1 << 22
 
 
-def put(hint):
+def put(hint: Hint) -> None:
     """Writes a hint to standard error, also where a name of a table has letters that the terminal lacks."""
     sys.stderr.flush()
     sys.stderr.buffer.write(str(hint).encode(sys.stderr.encoding or "utf-8", "backslashreplace"))
     sys.stderr.flush()
 
 
-def hint_for(status, said, command, words):
+def hint_for(status: str, said: str, command: str, words: Sequence[str]) -> Hint:
     """Returns the hint for a status, what was said, and the words. What fails on the way leaves what was found before."""
     hint, call = Hint(), Call(words)
     try:
@@ -31,15 +34,16 @@ def hint_for(status, said, command, words):
     return hint
 
 
-def tell(hint, status, said, command, call):
+def tell(hint: Hint, status: str, said: str, command: str, call: Call) -> None:
     # Each module is loaded where it speaks alone, since most answers need none.
+    """Says what belongs to an answer."""
     if status == "building":
         tell_preview(hint, command, call)
     elif status == "2":
         from hints import usage
 
         usage.explain(hint, command, call)
-    elif call.folder is None or call.faults:
+    elif not call.words or call.faults:
         return
     elif status == "7":
         from hints import files
@@ -63,13 +67,14 @@ def tell(hint, status, said, command, call):
         tell_answer(hint, status, said, command, call)
 
 
-def once_more(call):
+def once_more(call: Call) -> str:
     """Returns what the program prints for the same words: where it refused something, or writes nothing, a further run changes
     nothing."""
     return answer(call.all, SECONDS)[1][:MOST_LETTERS].decode("utf-8", "replace")
 
 
-def tell_refusal(hint, command, call, said):
+def tell_refusal(hint: Hint, command: str, call: Call, said: str) -> None:
+    """Says what a line of a refusal means, whichever it is."""
     from hints import other_sizes, refused_plans, refused_proofs, refused_tables
 
     line = said.strip()
@@ -79,7 +84,7 @@ def tell_refusal(hint, command, call, said):
     refused_proofs.explain(hint, command, call, line)
 
 
-def tell_answer(hint, status, said, command, call):
+def tell_answer(hint: Hint, status: str, said: str, command: str, call: Call) -> None:
     """Says of a plan what stayed open, and of its rotations what helps."""
     if status != "0":
         from hints import open_ends
@@ -94,7 +99,7 @@ def tell_answer(hint, status, said, command, call):
         rotations.explain(hint, command, call, answers)
 
 
-def tell_preview(hint, command, call):
+def tell_preview(hint: Hint, command: str, call: Call) -> None:
     """Says, before the program is built, how to have a look until then, or that the words are no call in any case."""
     if call.faults or call.wants_help:
         from hints import usage

@@ -1,12 +1,17 @@
 """What is said where a file couldn't be read or written (status 7): which one, and what stands in its place."""
 
+from __future__ import annotations
+
 import difflib
 import os
 import shutil
 import stat
+from typing import List, Optional, Tuple
 
 from fleetplan.tables import ASKED, HEADERS, TABLES, WRITTEN
 from fleetplan.texts import listed, typed
+from fleetplan.words import Call
+from hints.saying import Hint
 
 SECTION = "the-files-of-a-folder"
 # Of a table that only some calls read what it is for, and a record of one.
@@ -22,7 +27,7 @@ MORE_TABLES = {
 MOST_NAMES = 2000
 
 
-def explain(hint, command, call):
+def explain(hint: Hint, command: str, call: Call) -> None:
     """Says which file of the call is missing, is a folder, or may not be read or written."""
     if tell_folder(hint, call.folder, call) or tell_reads(hint, command, call) or tell_writes(hint, call):
         hint.see(SECTION)
@@ -31,7 +36,7 @@ def explain(hint, command, call):
     hint.say("The status is the same where the output could not be put: a full disk, or a pipe whose reader has gone.")
 
 
-def names_in(folder):
+def names_in(folder: str) -> List[str]:
     """Returns the names in a folder, or none where it may not be listed."""
     try:
         return sorted(os.listdir(folder or "/"))[:MOST_NAMES]
@@ -39,7 +44,7 @@ def names_in(folder):
         return []
 
 
-def kind_of(path):
+def kind_of(path: str) -> str:
     """Returns what stands under a path: 'nothing', 'folder', 'file', 'other', or 'hidden' where that may not be known."""
     try:
         mode = os.stat(path).st_mode
@@ -50,7 +55,7 @@ def kind_of(path):
     return "folder" if stat.S_ISDIR(mode) else "file" if stat.S_ISREG(mode) else "other"
 
 
-def tell_folder(hint, folder, call):
+def tell_folder(hint: Hint, folder: str, call: Call) -> bool:
     """Says what is wrong with the folder itself, and returns whether anything is."""
     kind = kind_of(folder or "/")
     if kind == "folder":
@@ -76,14 +81,14 @@ def tell_folder(hint, folder, call):
     return True
 
 
-def files_of(call):
+def files_of(call: Call) -> Tuple[str, ...]:
     """Returns the files that a call reads, in its order."""
     if not call.own.needs_tables:
         return ()
     return (*TABLES, *(name for option, name in ASKED.items() if call.has(option)), *call.own.reads)
 
 
-def tell_reads(hint, command, call):
+def tell_reads(hint: Hint, command: str, call: Call) -> bool:
     """Says which file can't be read, the first in the order of reading, and returns whether one can't."""
     folder = call.folder
     bad = [it for it in files_of(call) if wrong_to_read(os.path.join(folder, it))]
@@ -103,7 +108,7 @@ def tell_reads(hint, command, call):
     return True
 
 
-def wrong_to_read(path):
+def wrong_to_read(path: str) -> Optional[str]:
     """Returns why a file can't be read, or None."""
     kind = kind_of(path)
     if kind == "file":
@@ -111,7 +116,7 @@ def wrong_to_read(path):
     return {"nothing": "is missing", "folder": "is a folder, and a file is wanted", "hidden": "may not be looked at"}.get(kind)
 
 
-def says_plan(path):
+def says_plan(path: str) -> bool:
     """Returns whether a proof says that a plan comes with it."""
     try:
         with open(path, "rb") as it:
@@ -120,7 +125,7 @@ def says_plan(path):
         return False
 
 
-def tell_other_folders(hint, command, call):
+def tell_other_folders(hint: Hint, command: str, call: Call) -> None:
     """Says that no table stands in the folder, and in which folders below it there are tables."""
     hint.say(f"none of the five tables stands in {call.folder}: {listed(TABLES)}")
     below = [os.path.join(call.folder, it) for it in names_in(call.folder)]
@@ -132,7 +137,7 @@ def tell_other_folders(hint, command, call):
         hint.show(typed([command, *words]))
 
 
-def tell_missing(hint, command, call, name):
+def tell_missing(hint: Hint, command: str, call: Call, name: str) -> None:
     """Says what may stand for a missing file, and how to come by it."""
     has = names_in(call.folder)
     like = [it for it in has if it.lower() == name]
@@ -155,7 +160,7 @@ def tell_missing(hint, command, call, name):
         hint.show(typed([command, "solve", call.folder, *call.reading]))
 
 
-def tell_writes(hint, call):
+def tell_writes(hint: Hint, call: Call) -> bool:
     """Says which file can't be written, and returns whether one can't."""
     for name in call.own.writes:
         path = os.path.join(call.folder, name)
@@ -169,7 +174,7 @@ def tell_writes(hint, call):
     return False
 
 
-def wrong_to_write(path):
+def wrong_to_write(path: str) -> Optional[str]:
     """Returns why a file can't be written, or None."""
     kind = kind_of(path)
     if kind == "folder":

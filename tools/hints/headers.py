@@ -1,9 +1,12 @@
 """What is wrong with the first record of a table."""
 
+from __future__ import annotations
+
 import re
+from typing import List, Optional, Sequence
 
 from fleetplan.records import MARK, bytes_of, records_in
-from fleetplan.tables import HEADERS, forms_of, headers_of
+from fleetplan.tables import HEADERS, Header, forms_of, headers_of
 from fleetplan.texts import plain
 
 # How a file begins that is no table.
@@ -18,7 +21,7 @@ KINDS = (
 OTHERS = ((";", "semicolons"), ("\t", "tabs"), ("|", "bars"))
 
 
-def explain_header(path, name, period):
+def explain_header(path: str, name: str, period: int) -> List[str]:
     """Returns what is wrong with the header of a table, in sentences, where the schedule repeats after so many days."""
     data = bytes_of(path)
     wanted = meant(data, headers_of(name, period))
@@ -39,13 +42,13 @@ def explain_header(path, name, period):
     return [f"{path} begins with {plain(str(first))}", *([why] if why else []), begins]
 
 
-def meant(data, headers):
+def meant(data: bytes, headers: Sequence[Header]) -> Header:
     """Returns the header that a file is meant to have: the longest one whose words stand in its first line, or else the first."""
     words = set(re.findall("[a-z]+", data[:200].decode("latin-1").lower().split("\n")[0]))
     return max((it for it in headers if words.issuperset(it)), key=len, default=headers[0])
 
 
-def difference(has, wanted, name):
+def difference(has: Header, wanted: Header, name: str) -> Optional[str]:
     """Says in what a header differs from the one that is wanted, where that is plain."""
     trimmed = tuple(it.strip().strip("\ufeff") for it in has)
     if any("\ufeff" in it for it in has):
@@ -75,6 +78,6 @@ def difference(has, wanted, name):
     return None
 
 
-def with_day(has, wanted):
+def with_day(has: Header, wanted: Header) -> bool:
     """Returns whether a header is the one that is wanted but for the day."""
     return "day" in wanted and has == tuple(it for it in wanted if it != "day")

@@ -1,23 +1,31 @@
 """What is said where no plan is legal (status 4): the first causes that simple counts show, and what to try."""
 
+from __future__ import annotations
+
 import itertools
 import os
+from typing import Dict, Iterator, List, Sequence, Tuple
 
 from fleetplan.errors import Unread
+from fleetplan.schedule import Leg, Schedule
 from fleetplan.texts import counted, listed
 from fleetplan.times import DAY
+from fleetplan.words import Call
 from hints.reading import schedule_of, tell_unread
+from hints.saying import Hint
 
 SECTION = "what-solve-prints-and-writes"
 # The most groups of fleets that are counted one by one.
 MOST_GROUPS = 60
 # The most causes of one kind that are told.
 MOST_CAUSES = 3
+# The flights that arrive at a station, and those that depart there.
+Moves = Tuple[List[str], List[str]]
 # What flights may do beside, by an option.
 WAYS = {"windows": "depart at several times (--windows)", "optional": "be left out (--optional)"}
 
 
-def explain(hint, command, call):
+def explain(hint: Hint, command: str, call: Call) -> None:
     """Says why no plan is legal, as far as it is plain, and what to try."""
     try:
         causes = list(causes_of(schedule_of(call)))
@@ -36,7 +44,7 @@ def explain(hint, command, call):
     hint.see(SECTION)
 
 
-def causes_of(schedule):
+def causes_of(schedule: Schedule) -> List[str]:
     """Returns the causes that hold for certain, those of the first kind that has any."""
     for find in (legs_without_pair, legs_out_of_balance, legs_without_aircraft, pairs_out_of_balance, aircraft_wanted, nights_without_room):
         causes = list(find(schedule))
@@ -46,14 +54,14 @@ def causes_of(schedule):
     return []
 
 
-def legs_without_pair(schedule):
+def legs_without_pair(schedule: Schedule) -> Iterator[str]:
     """A leg that no fleet may fly."""
     none = [it.flight for it in schedule.must if not schedule.fleets_of[it.flight]]
     if none:
         yield f"no fleet may fly {listed(none)}: costs.csv has no record of {'it' if len(none) == 1 else 'them'}"
 
 
-def legs_out_of_balance(schedule):
+def legs_out_of_balance(schedule: Schedule) -> Iterator[str]:
     """A station at which more legs arrive than depart, or fewer."""
     for station in schedule.extra:
         comes = [it.flight for it in schedule.legs.values() if it.end == station]
@@ -69,7 +77,7 @@ def legs_out_of_balance(schedule):
             )
 
 
-def more_than_can_go(schedule, station, must, may):
+def more_than_can_go(schedule: Schedule, station: str, must: Moves, may: Moves) -> Iterator[str]:
     """A station at which more legs have to arrive than may depart, or the other way round, where some may be left out."""
     for at, (one, other) in enumerate((("arrive", "depart"), ("depart", "arrive"))):
         if len(must[at]) > len(may[1 - at]):
@@ -79,7 +87,7 @@ def more_than_can_go(schedule, station, must, may):
             )
 
 
-def legs_without_aircraft(schedule):
+def legs_without_aircraft(schedule: Schedule) -> Iterator[str]:
     """A leg whose fleets all have no aircraft."""
     for fleets in {tuple(schedule.fleets_of[it.flight]): None for it in schedule.must}:
         if not any(schedule.aircraft[it] for it in fleets):
@@ -88,7 +96,7 @@ def legs_without_aircraft(schedule):
             yield f"{listed(flights)} may be flown by {listed(fleets)} alone, which {has} in fleets.csv"
 
 
-def groups(schedule):
+def groups(schedule: Schedule) -> List[Tuple[str, ...]]:
     """Returns the groups of fleets that are all that may fly some leg, single fleets first, and all fleets. A leg that may be left out
     has none."""
     found = {tuple(sorted(schedule.fleets_of[it.flight])): None for it in schedule.must}
@@ -96,12 +104,13 @@ def groups(schedule):
     return sorted(found, key=lambda it: (len(it), it))[:MOST_GROUPS]
 
 
-def pairs_out_of_balance(schedule):
+def pairs_out_of_balance(schedule: Schedule) -> Iterator[str]:
     """A station and a group of fleets that have to bring more legs there than they may fly away, or the other way round."""
     for group in groups(schedule):
         own = set(group)
         for at, other, arrive, depart in (("end", "start", "arrive", "depart"), ("start", "end", "depart", "arrive")):
-            forced, free = {}, {}
+            forced: Dict[str, List[str]] = {}
+            free: Dict[str, List[str]] = {}
             for leg in schedule.legs.values():
                 if leg.flight not in schedule.skips and own.issuperset(schedule.fleets_of[leg.flight]):
                     forced.setdefault(getattr(leg, at), []).append(leg.flight)
@@ -115,7 +124,7 @@ def pairs_out_of_balance(schedule):
                     )
 
 
-def aircraft_wanted(schedule):
+def aircraft_wanted(schedule: Schedule) -> Iterator[str]:
     """A minute in which more aircraft of a group of fleets are wanted than there are."""
     for group in groups(schedule):
         own, has = set(group), sum(schedule.aircraft[it] for it in group)
@@ -132,7 +141,7 @@ def aircraft_wanted(schedule):
             yield f"the flights need {schedule.used(flown)} aircraft, however they are shared out, {have}"
 
 
-def under_way(flown, period):
+def under_way(flown: Sequence[Tuple[Leg, int]], period: int) -> List[int]:
     """Returns of each minute of a period of so many how many of these flights are in the air or in their turn, each flown once in it."""
     changes = [0] * (period + 1)
     always = 0
@@ -147,7 +156,7 @@ def under_way(flown, period):
     return [always + it for it in itertools.accumulate(changes[:period])]
 
 
-def surely(schedule, leg):
+def surely(schedule: Schedule, leg: Leg) -> Tuple[Leg, int]:
     """Returns a leg at its last time, and the minutes from then on in which an aircraft is away with it, whichever fleet flies it and
     whichever of its times is taken."""
     shifts = schedule.extras[leg.flight]
@@ -155,7 +164,7 @@ def surely(schedule, leg):
     return leg.moved(max(shifts), schedule.minutes), busy - max(shifts) + min(shifts)
 
 
-def nights_without_room(schedule):
+def nights_without_room(schedule: Schedule) -> Iterator[str]:
     """A station with a limit at which more aircraft have to stay for a night."""
     for station, limit in schedule.parking.items():
         for day in range(1, schedule.period + 1):
@@ -166,7 +175,7 @@ def nights_without_room(schedule):
                 break
 
 
-def least_stay(schedule, station, end):
+def least_stay(schedule: Schedule, station: str, end: int) -> int:
     """Returns how many aircraft at least stand at a station when a day ends, whichever fleets fly at whichever times: those that depart from
     then on before another one can be ready."""
     times = {it.flight: [it.departure + shift - end for shift in schedule.extras[it.flight]] for it in schedule.legs.values()}

@@ -1,17 +1,21 @@
 """What is said where subproblems stayed open (status 3 and 5): by which limit, how large the gap is, and what allows more."""
 
+from __future__ import annotations
+
 import os
+from typing import Dict, List, Optional
 
 from fleetplan.program import held
 from fleetplan.proofs import counts_of
 from fleetplan.texts import counted, quietly, typed
-from fleetplan.words import MOST_SEARCH, OPTIONS
+from fleetplan.words import MOST_SEARCH, OPTIONS, Call
+from hints.saying import Hint
 
 SECTION = "what-solve-prints-and-writes"
 SECONDS = 5
 
 
-def explain(hint, command, call):
+def explain(hint: Hint, command: str, call: Call) -> None:
     """Says how many subproblems stayed open by which limit, and the words of the same call with more."""
     counts = counts_of(os.path.join(call.folder, "proof.txt"))
     if not any(counts[it] for it in ("nodes", "pivots", "grew")):
@@ -31,7 +35,7 @@ def explain(hint, command, call):
     hint.see(SECTION)
 
 
-def tell_gap(hint, call):
+def tell_gap(hint: Hint, call: Call) -> None:
     """Says how far cost and bound are apart, as the program's own check of the proof tells them."""
     found = held(call.folder, call.reading, SECONDS)
     if not found:
@@ -44,7 +48,7 @@ def tell_gap(hint, call):
         hint.say(f"the plan costs {cost:,}, and none costs less than {bound:,}: a gap of {cost - bound:,}{parts}")
 
 
-def tell_more(hint, command, call, counts):
+def tell_more(hint: Hint, command: str, call: Call, counts: Dict[str, int]) -> None:
     """Shows the words of the same call with more, for the limits that have more to give."""
     words, call_on = None, call
     for option in ("nodes", "pivots"):

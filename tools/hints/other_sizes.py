@@ -1,20 +1,24 @@
 """What is said where a proof was asked about another number of aircraft: a fleet that isn't there (status 9 of whatif), and a
 proof that says nothing of that number (status 11)."""
 
+from __future__ import annotations
+
 import difflib
 import os
 import re
 
 from fleetplan.records import names_in
 from fleetplan.texts import quietly, typed
+from fleetplan.words import Call
 from hints.refused_tables import unknown
+from hints.saying import Hint
 
 SECTION = "what-whatif-prints"
 UNKNOWN = re.compile(r"unknown fleet: (.*)", re.DOTALL)
 FALLEN = re.compile(r"fallen: node (\d+)")
 
 
-def tell_unknown(hint, command, call, said):
+def tell_unknown(hint: Hint, command: str, call: Call, said: str) -> None:
     """Says which fleets there are, where one was asked about that isn't among them."""
     found = UNKNOWN.fullmatch(said)
     if not found:
@@ -27,7 +31,7 @@ def tell_unknown(hint, command, call, said):
     hint.see(SECTION)
 
 
-def tell_fallen(hint, command, call, said):
+def tell_fallen(hint: Hint, command: str, call: Call, said: str) -> None:
     """Says what a leaf that has fallen means, and how to have an answer."""
     found = FALLEN.fullmatch(said.strip())
     if not found:

@@ -1,18 +1,22 @@
 """The tables that a call reads, and those that stand in its folder and aren't read, since no option of it says so."""
 
+from __future__ import annotations
+
 import os
 
 from fleetplan.schedule import Schedule
 from fleetplan.tables import ASKED
 from fleetplan.texts import listed, typed
+from fleetplan.words import Call
+from hints.saying import Hint
 
 
-def schedule_of(call):
+def schedule_of(call: Call) -> Schedule:
     """Returns the schedule that a call reads, or raises Unread."""
     return Schedule(call.folder, call.value("day-start"), call.value("period"), [it for it in ASKED if call.has(it)])
 
 
-def tell_unread(hint, command, call):
+def tell_unread(hint: Hint, command: str, call: Call) -> bool:
     """Says which of these there are, with the words that read them, and returns whether there are any."""
     options = [it for it, name in ASKED.items() if not call.has(it) and os.path.isfile(os.path.join(call.folder, name))]
     if options:

@@ -1,13 +1,18 @@
 """What is said of a plan that is refused (status 9): its flights and fleets, with the numbers in words."""
 
+from __future__ import annotations
+
 import os
 import re
+from typing import Callable, Dict, List, Optional, Pattern, Tuple
 
-from fleetplan.records import names_in, record_of, rows_of
-from fleetplan.tables import HEADERS, NO_FLEET, SHIFTED
+from fleetplan.records import Record, names_in, record_of, rows_of
+from fleetplan.tables import HEADERS, NO_FLEET, SHIFTED, Header
 from fleetplan.texts import counted, listed, quietly, typed
+from fleetplan.words import Call
 from hints.reading import schedule_of
 from hints.refused_tables import show, unknown
+from hints.saying import Hint
 
 PLAN = "the-plan-and-its-kinds-1-to-5"
 JUDGE = "what-judge-prints"
@@ -34,15 +39,16 @@ OTHERS = {
 }
 
 
-def explain(hint, command, call, said):
+def explain(hint: Hint, command: str, call: Call, said: str) -> None:
     """Says what the line of a refused plan means."""
     unread = UNREAD.fullmatch(said)
     if unread and int(unread[2]) in MEANS:
-        record, told = quietly(look, call, *map(int, unread.groups())) or (None, None)
-        show(hint, os.path.join(call.folder, "plan.csv"), record, [told or MEANS[int(unread[2])]])
-        quietly(tell_option, hint, command, call, record, int(unread[2]))
+        kind = int(unread[2])
+        record, told = quietly(look, call, int(unread[1]), kind) or (None, MEANS[kind])
+        show(hint, os.path.join(call.folder, "plan.csv"), record, [told])
+        quietly(tell_option, hint, command, call, record, kind)
         hint.see(PLAN)
-    for form, tell in ((NOT_ALLOWED, tell_pair), (UNBALANCED, tell_balance), (TOO_MANY, tell_use), (CROWDED, tell_crowd)):
+    for form, tell in TELLERS.items():
         found = form.fullmatch(said)
         if found:
             for text in quietly(tell, call, *found.groups()) or [OTHERS[form]]:
@@ -51,18 +57,18 @@ def explain(hint, command, call, said):
             hint.see(JUDGE)
 
 
-def tell_solve(hint, command, call):
+def tell_solve(hint: Hint, command: str, call: Call) -> None:
     """Shows the words that find a legal plan."""
     hint.say("solve looks for a legal plan, which takes the place of this one:")
     hint.show(typed([command, "solve", call.folder, *call.reading]))
 
 
-def header_of(call):
+def header_of(call: Call) -> Header:
     """Returns the header that a plan has by the words of a call."""
     return SHIFTED if call.has("windows") else HEADERS["plan.csv"]
 
 
-def tell_option(hint, command, call, record, kind):
+def tell_option(hint: Hint, command: str, call: Call, record: Record, kind: int) -> None:
     """Says which option of the words doesn't go with the plan."""
     if kind == 1 and tuple(record.texts) == SHIFTED:
         hint.say("it tells a shift of each flight, as a plan of a call with --windows:")
@@ -75,7 +81,7 @@ def tell_option(hint, command, call, record, kind):
         hint.show(typed([command, *call.with_more("--optional")]))
 
 
-def look(call, number, kind):
+def look(call: Call, number: int, kind: int) -> Optional[Tuple[Optional[Record], str]]:
     """Returns the record of the plan and what is wrong with it, or nothing where the file doesn't show that (any more)."""
     folder, header = call.folder, header_of(call)
     record = record_of(os.path.join(folder, "plan.csv"), number)
@@ -96,7 +102,7 @@ def look(call, number, kind):
     return (record, told) if told else None
 
 
-def wrong_choice(call, flight, fleet, *shifts):
+def wrong_choice(call: Call, flight: str, fleet: str, *shifts: str) -> Optional[str]:
     """Returns why a fleet isn't one, or the shift beside it is none of the flight's; or None."""
     fleets = names_in(os.path.join(call.folder, "fleets.csv"))
     if fleet == NO_FLEET and not call.has("optional"):
@@ -110,7 +116,8 @@ def wrong_choice(call, flight, fleet, *shifts):
     return f"the shift of {flight} is {shifts[0] or 'empty'}, and it may be {which}"
 
 
-def tell_pair(call, flight):
+def tell_pair(call: Call, flight: str) -> List[str]:
+    """Returns what is said of a flight that its fleet may not fly, or nothing where the tables don't show that (any more)."""
     schedule, plan = schedule_of(call).planned()
     fleet = plan[flight]
     if (flight, fleet) in schedule.cost:
@@ -124,8 +131,9 @@ def tell_pair(call, flight):
     ]
 
 
-def tell_balance(call, fleet, station, comes, goes):
-    (schedule, plan), comes, goes = schedule_of(call).planned(), int(comes), int(goes)
+def tell_balance(call: Call, fleet: str, station: str, came: str, went: str) -> List[str]:
+    """Returns the same of a fleet that comes to a station more often, or less, than it leaves."""
+    (schedule, plan), comes, goes = schedule_of(call).planned(), int(came), int(went)
     own = [it for it in schedule.legs.values() if plan[it.flight] == fleet]
     into = [f"{it.flight} at {schedule.moment(it.departure + it.block)}" for it in own if it.end == station]
     out = [f"{it.flight} at {schedule.moment(it.departure)}" for it in own if it.start == station]
@@ -140,8 +148,9 @@ def tell_balance(call, fleet, station, comes, goes):
     ]
 
 
-def tell_use(call, fleet, used, has):
-    (schedule, plan), used, has = schedule_of(call).planned(), int(used), int(has)
+def tell_use(call: Call, fleet: str, uses: str, there: str) -> List[str]:
+    """Returns the same of a fleet of which more aircraft are wanted than there are."""
+    (schedule, plan), used, has = schedule_of(call).planned(), int(uses), int(there)
     flown = schedule.flown_by(plan, fleet)
     need, _, _ = schedule.needs(flown)
     aloft = sum((leg.departure + busy) // schedule.minutes for leg, busy in flown)
@@ -156,8 +165,9 @@ def tell_use(call, fleet, used, has):
     ]
 
 
-def tell_crowd(call, station, day, parked, cap):
-    (schedule, plan), day, parked, cap = schedule_of(call).planned(), int(day), int(parked), int(cap)
+def tell_crowd(call: Call, station: str, when: str, stays: str, room: str) -> List[str]:
+    """Returns the same of a station at which more aircraft stay than may."""
+    (schedule, plan), day, parked, cap = schedule_of(call).planned(), int(when), int(stays), int(room)
     stay = {fleet: schedule.stands(schedule.flown_by(plan, fleet), station, day) for fleet in schedule.aircraft}
     if sum(stay.values()) != parked or schedule.parking.get(station) != cap:
         return []
@@ -167,3 +177,12 @@ def tell_crowd(call, station, day, parked, cap):
         f"they are: {listed([f'{number} of {fleet}' for fleet, number in stay.items() if number])}",
         "fly one away in the evening, or raise the limit (parking) in stations.csv",
     ]
+
+
+# What tells more of a line, by its form.
+TELLERS: Dict[Pattern[str], Callable[..., List[str]]] = {
+    NOT_ALLOWED: tell_pair,
+    UNBALANCED: tell_balance,
+    TOO_MANY: tell_use,
+    CROWDED: tell_crowd,
+}

@@ -1,12 +1,16 @@
 """What is said of a proof that is refused (status 9 of check and whatif)."""
 
+from __future__ import annotations
+
 import os
 import re
 import stat
 
 from fleetplan.tables import NO_FLEET
 from fleetplan.texts import plain, quietly, typed
+from fleetplan.words import Call
 from hints.reading import tell_unread
+from hints.saying import Hint
 
 TEXT = "what-is-wrong-with-the-text-of-a-proof-kinds-1-to-9"
 RULES = "what-check-prints"
@@ -43,7 +47,7 @@ PAIRS = (b"trim", b"split", b"weight")
 MOST_LINES = 1_000_000
 
 
-def explain(hint, command, call, said):
+def explain(hint: Hint, command: str, call: Call, said: str) -> None:
     """Says what the line of a refused proof means, and shows the line of the text."""
     unread, broken = UNREAD.fullmatch(said), BROKEN.fullmatch(said)
     if unread and int(unread[2]) in KINDS:
@@ -60,15 +64,15 @@ def explain(hint, command, call, said):
         hint.see(RULES)
 
 
-def look(hint, command, call, number, kind):
+def look(hint: Hint, command: str, call: Call, number: int, kind: int) -> None:
     """Shows the line of the proof, where it has one and it is within reach, and says what doesn't go with its head or with the words."""
     path = os.path.join(call.folder, "proof.txt")
     if number > MOST_LINES or not stat.S_ISREG(os.stat(path).st_mode):
         return
     with open(path, "rb") as lines:
-        for at in range(1, number + 1):
+        line = head = lines.readline(1 << 20)
+        for _ in range(number - 1):
             line = lines.readline(1 << 20)
-            head = line if at == 1 else head
     if line:
         hint.say(f"{path}, line {number}:")
         hint.show(plain(line.rstrip(b"\n").decode("latin-1")))
@@ -84,7 +88,7 @@ def look(hint, command, call, number, kind):
             tell_option(hint, command, call, "it leaves a flight out (-)", "optional")
 
 
-def tell_option(hint, command, call, what, option):
+def tell_option(hint: Hint, command: str, call: Call, what: str, option: str) -> None:
     """Says that a proof is one of a call with an option."""
     hint.say(f"{what}, as a proof of a call with --{option}:")
     hint.show(typed([command, *call.with_more(f"--{option}")]))

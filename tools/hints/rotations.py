@@ -1,12 +1,18 @@
 """What is said of the rotations that are refused, one line for each: what helps."""
 
+from __future__ import annotations
+
 import math
 import re
+from typing import Dict, List, Match, Optional, Sequence, Tuple
 
 from fleetplan.texts import listed, typed
-from fleetplan.words import MOST_MAINTENANCE, MOST_SEARCH
+from fleetplan.words import MOST_MAINTENANCE, MOST_SEARCH, Call
+from hints.saying import Hint
 
 SECTION = "what-became-of-a-rotation-and-what-to-do"
+# Of fleets what was said of their rotations.
+Answers = Sequence[Tuple[str, str]]
 # The words of a refused rotation, as they are printed.
 REFUSED = re.compile(
     r"(?:rotation )?([A-Z0-9]{1,8}): "
@@ -14,9 +20,9 @@ REFUSED = re.compile(
 )
 
 
-def explain(hint, command, call, answers):
+def explain(hint: Hint, command: str, call: Call, answers: Answers) -> None:
     """Says of each refused rotation what helps. `answers` are the fleets and what was said of their rotations."""
-    told = {}
+    told: Dict[str, List[str]] = {}
     for fleet, answer in answers:
         text = advice(answer, call)
         if text:
@@ -30,7 +36,7 @@ def explain(hint, command, call, answers):
         hint.see(SECTION)
 
 
-def more_days(answers, call):
+def more_days(answers: Answers, call: Call) -> Optional[int]:
     """Returns the days that are worth a try for all fleets that lack nights or have no tour, or None."""
     days, wanted = call.value("days"), []
     for _, answer in answers:
@@ -43,7 +49,7 @@ def more_days(answers, call):
     return best if days < best <= MOST_MAINTENANCE else None
 
 
-def advice(answer, call):
+def advice(answer: str, call: Call) -> Optional[str]:
     """Returns what helps against an answer, or None where the fleet has a tour or no flights."""
     found = REFUSED.fullmatch(f"F: {answer}")
     if not found:
@@ -54,7 +60,7 @@ def advice(answer, call):
     return f"{text}; nor was there a tour with its chosen through flights" if found[6] else text
 
 
-def plain_advice(found, days, visits):
+def plain_advice(found: Match[str], days: int, visits: int) -> Optional[str]:
     """Returns what helps against an answer, whatever was said of through flights."""
     words = found[2]
     if words.startswith("too few"):
@@ -77,6 +83,6 @@ def plain_advice(found, days, visits):
     return None
 
 
-def of_summary(text):
+def of_summary(text: str) -> Answers:
     """Returns the fleets and what became of their rotations, as a summary, tails or due tell it, in lines."""
     return [(it[1], it[0].partition(": ")[2]) for it in map(REFUSED.fullmatch, text.splitlines()) if it]

@@ -1,14 +1,20 @@
 """What is said where named aircraft can't all come to maintenance in time (status 10), one line for each fleet: what helps."""
 
+from __future__ import annotations
+
 import os
 import re
+from typing import Match, Optional
+
+from fleetplan.words import Call
+from hints.saying import Hint
 
 SECTION = "what-due-prints"
 NUMBER = re.compile(r"([A-Z0-9]{1,8}): tails (\d+) of (\d+)")
 LATE = re.compile(r"([A-Z0-9]{1,8}): late within (\d+), tails (\d+), starts (\d+)")
 
 
-def explain(hint, call, said):
+def explain(hint: Hint, call: Call, said: str) -> None:
     """Says of each fleet whose tails aren't placed what is short."""
     path = os.path.join(call.folder, "tails.csv")
     for line in said.splitlines():
@@ -18,7 +24,7 @@ def explain(hint, call, said):
     hint.see(SECTION)
 
 
-def of_number(found, path):
+def of_number(found: Optional[Match[str]], path: str) -> Optional[str]:
     """Says how many tails are too few or too many, or returns None."""
     if not found:
         return None
@@ -28,7 +34,7 @@ def of_number(found, path):
     return f"{fleet}: the plan uses {uses} alone, so take {has - uses} away from {path}: those that stay in reserve"
 
 
-def of_late(found):
+def of_late(found: Optional[Match[str]]) -> Optional[str]:
     """Says how many tails come too late, or returns None."""
     if not found:
         return None

@@ -1,11 +1,15 @@
 """What is said after words that are no call (status 2): which word is wrong, and the command's options; or a page of help."""
 
+from __future__ import annotations
+
 import os
 import re
+from typing import List, Optional
 
 from fleetplan.program import PROGRAM, TOP
 from fleetplan.texts import typed
 from fleetplan.words import COMMANDS, OPTIONS, Call
+from hints.saying import Hint
 
 # What tools/build notes of the kit beside the program that it builds.
 KIT = os.path.join(os.path.dirname(PROGRAM), "kit")
@@ -30,7 +34,7 @@ HELPERS = (
 )
 
 
-def explain(hint, command, call):
+def explain(hint: Hint, command: str, call: Call) -> None:
     """Says what is wrong with a call, or what the program can do where it was asked for help."""
     if any("\udc80" <= letter <= "\udcff" for word in call.all for letter in word):
         hint.say("a word of this call isn't UTF-8")
@@ -49,13 +53,13 @@ def explain(hint, command, call):
     hint.see(SECTION)
 
 
-def is_good(words):
+def is_good(words: List[str]) -> bool:
     """Returns whether these words are a call in which nothing is wrong."""
     call = Call(words)
     return not call.wants_help and not call.faults
 
 
-def show_command(hint, command, name):
+def show_command(hint: Hint, command: str, name: str) -> None:
     """Shows a command with its words and options."""
     own = COMMANDS[name]
     hint.say(f"{typed([command])} {' '.join([name, *own.names])} {own.does}.")
@@ -67,13 +71,14 @@ def show_command(hint, command, name):
         hint.show(f"{f'--{option} {placeholder}':<18} {means}{without}")
 
 
-def show_commands(hint, command):
+def show_commands(hint: Hint, command: str) -> None:
+    """Shows all commands with what they do."""
     hint.say("The commands:")
     for name, own in COMMANDS.items():
         hint.show(f"{typed([command])} {' '.join([name, *own.names]):<22} {own.does}")
 
 
-def show_page(hint, command):
+def show_page(hint: Hint, command: str) -> None:
     """Shows what there is to know before a first call."""
     hint.say("an airline's fleet assignment and maintenance routing, proved from bytes to bytes.")
     show_commands(hint, command)
@@ -94,7 +99,7 @@ def show_page(hint, command):
     hint.say("Read on in README.md, and in docs/formats.md of each file, word and refusal.")
 
 
-def proving_kit():
+def proving_kit() -> Optional[str]:
     """Returns the kit that proved the program, as it was noted when it was built, or else as the README names it."""
     for file, form in ((KIT, r"(rattle-kit-.*)"), (os.path.join(TOP, "README.md"), r"Proved with `(.*?)`")):
         try:

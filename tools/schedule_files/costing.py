@@ -1,19 +1,28 @@
 """Stations, fleets and costs of the tables, as files of the caller's say or as the schedule file has them."""
 
+from __future__ import annotations
+
+from typing import Any, Dict, List, Mapping, Optional, Sequence, Set, Tuple
+
 from fleetplan.errors import Unread
 from fleetplan.forms import TRILLION, code, name, whole
 from fleetplan.records import record_of
-from fleetplan.tables import HEADERS, TABLE, forms_of, headers_of
+from fleetplan.tables import HEADERS, TABLE, Header, forms_of, headers_of
 from schedule_files.files import judged
 from schedule_files.layout import LEG, BadLine
+from schedule_files.reading import Leg, Schedule
+from schedule_files.selecting import Flown
 
+# A record of a table with its numbers, and one of costs: a leg, a fleet and what that costs.
+Row = Sequence[Any]
+Cost = Tuple[str, str, int]
 PRICES = ("fleet", "departure", "minute", "longest", "closed")
 TURN = 30
 
 
-def stations_of(path, schedule, flown):
+def stations_of(path: Optional[str], schedule: Schedule, flown: Sequence[Flown]) -> Sequence[Row]:
     """Returns the records of the stations that occur, by the file of the caller's or by code."""
-    occurs = {}
+    occurs: Dict[str, Tuple[Leg, str]] = {}
     for it in flown:
         occurs.setdefault(it.leg.origin, (it.leg, "departure station"))
         occurs.setdefault(it.leg.destination, (it.leg, "arrival station"))
@@ -25,16 +34,16 @@ def stations_of(path, schedule, flown):
     return [it for it in found if it[0] in occurs]
 
 
-def station_header(path):
+def station_header(path: str) -> Header:
     """Returns which of its headers a caller's file of stations has, or the first."""
     first = record_of(path, 1)
     has = tuple(first.texts) if first else ()
     return has if has in headers_of("stations.csv") else HEADERS["stations.csv"]
 
 
-def fleets_of(path, schedule, flown):
+def fleets_of(path: Optional[str], schedule: Schedule, flown: Sequence[Flown]) -> Sequence[Row]:
     """Returns the records of the fleets: those of the caller's file, or the aircraft types with no count yet."""
-    occurs = {}
+    occurs: Dict[str, Tuple[Leg, str]] = {}
     for it in flown:
         occurs.setdefault(it.leg.type, (it.leg, "aircraft type"))
     if path is None:
@@ -47,7 +56,7 @@ def fleets_of(path, schedule, flown):
     return found
 
 
-def check_all(path, schedule, occurs, known):
+def check_all(path: str, schedule: Schedule, occurs: Mapping[str, Tuple[Leg, str]], known: Set[str]) -> None:
     """Refuses a leg whose station or aircraft type a file of the caller's doesn't have."""
     for text, (leg, field) in sorted(occurs.items(), key=lambda it: it[1][0].number):
         if text not in known:
@@ -57,29 +66,32 @@ def check_all(path, schedule, occurs, known):
 class Prices:
     """What a fleet costs: a departure and a minute of block; and where it may not fly."""
 
-    def __init__(self, row):
+    def __init__(self, row: Sequence[str]) -> None:
         self.departure, self.minute = int(row[1]), int(row[2])
         self.longest = int(row[3]) if row[3] else None
         self.closed = frozenset(row[4].split())
 
-    def allows(self, flown):
+    def allows(self, flown: Flown) -> bool:
+        """Returns whether the fleet may fly a leg."""
         is_closed = flown.leg.origin in self.closed or flown.leg.destination in self.closed
         return not is_closed and (self.longest is None or flown.block <= self.longest)
 
-    def cost(self, flown):
+    def cost(self, flown: Flown) -> int:
+        """Returns what a leg costs with the fleet."""
         return self.departure + self.minute * flown.block
 
 
-def codes(text):
+def codes(text: str) -> Optional[str]:
     """Says what is wrong with stations that blanks are between, or returns None."""
     return next((wrong for wrong in map(code, text.split()) if wrong), None)
 
 
-def longest(text):
+def longest(text: str) -> Optional[str]:
+    """Says what is wrong with the minutes of the longest leg, or returns None."""
     return whole(0, 1439)(text) if text else None
 
 
-def prices_of(path, fleets):
+def prices_of(path: str, fleets: Sequence[Row]) -> Dict[str, Prices]:
     """Returns the prices of each fleet by the caller's file."""
     price = whole(-TRILLION, TRILLION)
     found = {it[0]: Prices(it) for it in judged(path, PRICES, (name, price, price, longest, codes))}
@@ -89,7 +101,7 @@ def prices_of(path, fleets):
     return found
 
 
-def costs_of(path, schedule, flown, fleets):
+def costs_of(path: Optional[str], schedule: Schedule, flown: Sequence[Flown], fleets: Sequence[Row]) -> List[Cost]:
     """Returns the records of costs: by the caller's file, or 0 for each leg with its filed type alone."""
     if path is None:
         return [(it.name, it.leg.type, 0) for it in flown]

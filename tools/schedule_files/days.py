@@ -1,6 +1,9 @@
 """Dates, times and variations from UTC, as the lines of a schedule file write them. A day is a number: that of Python's calendar."""
 
+from __future__ import annotations
+
 import datetime
+from typing import Dict, Optional
 
 from fleetplan.times import DAY
 from schedule_files.layout import MONTHS, OPEN_END
@@ -17,10 +20,10 @@ VARIATIONS = {
 }
 DATE_VARIATIONS = {" ": 0, "A": -1, **{str(it): it for it in range(8)}}
 
-known_days = {OPEN_END: OPEN}
+known_days: Dict[str, Optional[int]] = {OPEN_END: OPEN}
 
 
-def day_of(text):
+def day_of(text: str) -> Optional[int]:
     """Returns the day that DDMMMYY writes, or None where the calendar hasn't it."""
     if text not in known_days:
         try:
@@ -31,7 +34,7 @@ def day_of(text):
     return known_days[text]
 
 
-def text_of(day):
+def text_of(day: int) -> str:
     """Returns a day as DDMMMYY."""
     if day == OPEN:
         return OPEN_END
@@ -39,12 +42,12 @@ def text_of(day):
     return f"{date.day:02}{MONTHS[date.month - 1]}{date.year % 100:02}"
 
 
-def weekday_of(day):
+def weekday_of(day: int) -> int:
     """Returns 1 for a Monday to 7 for a Sunday."""
     return (day - 1) % 7 + 1
 
 
-def iso(day):
+def iso(day: int) -> str:
     """Returns a day as YYYY-MM-DD."""
     return datetime.date.fromordinal(day).isoformat()
 
@@ -52,8 +55,8 @@ def iso(day):
 class Dates:
     """The days that tables are of: the first one, and how many."""
 
-    def __init__(self, first, count=1):
+    def __init__(self, first: int, count: int = 1) -> None:
         self.first, self.count = first, count
 
-    def __str__(self):
+    def __str__(self) -> str:
         return f"on {iso(self.first)}" if self.count == 1 else f"in the {self.count} days from {iso(self.first)}"

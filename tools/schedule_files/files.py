@@ -1,12 +1,19 @@
 """Files of the caller's, read and judged, and files written whole."""
 
+from __future__ import annotations
+
 import os
+from typing import Callable, List, Mapping, Optional, Sequence, Set, Tuple
 
 from fleetplan.errors import FAULT, Unread
-from fleetplan.files import new_folder, told_of, write, write_all
-from fleetplan.records import Saying, bytes_of, read_table
+from fleetplan.files import Data, new_folder, told_of, write, write_all
+from fleetplan.forms import Wrong
+from fleetplan.records import Rows, Saying, bytes_of, read_table
+from fleetplan.tables import Header
 from fleetplan.texts import printed
 
+# What stands once in a table, by a record.
+Key = Callable[[List[str]], Tuple[object, ...]]
 # The most bytes of a schedule file: 999,999 lines and more.
 MOST_BYTES = 1 << 30
 SAYING = Saying(
@@ -18,32 +25,32 @@ SAYING = Saying(
 )
 
 
-def schedule_bytes(path):
+def schedule_bytes(path: str) -> bytes:
     """Returns what stands in a schedule file, or raises Unread."""
     return bytes_of(path, MOST_BYTES)
 
 
-def rows(path, *headers):
+def rows(path: str, *headers: Header) -> Rows:
     """Returns the records of a table below its header, which is one of some, as lists of texts, or raises Unread."""
     return read_table(path, headers, SAYING)[1]
 
 
-def judged(path, header, forms, key=None):
+def judged(path: str, header: Header, forms: Sequence[Wrong], key: Optional[Key] = None) -> Rows:
     """Returns the records of a table whose fields all have their form, each first field once, or each key."""
-    known = set()
+    known: Set[Tuple[object, ...]] = set()
     found = rows(path, header)
     for number, row in enumerate(found, 2):
         for name, text, wrong in zip(header, row, forms):
             if wrong(text):
                 raise Unread.at(path, number, f'{name} is "{printed(text)}": {wrong(text)}', name)
-        own = key(row) if key else row[:1]
-        if tuple(own) in known:
+        own = key(row) if key else (row[0],)
+        if own in known:
             raise Unread.at(path, number, f"{' '.join(map(str, own))} stands twice, it should stand once")
-        known.add(tuple(own))
+        known.add(own)
     return found
 
 
-def write_whole(path, data):
+def write_whole(path: str, data: Data) -> None:
     """Writes a file whole or not at all, into a folder that is there, or raises Unread."""
     folder, name = os.path.split(path)
     if not os.path.isdir(folder or ".") or not name:
@@ -53,7 +60,7 @@ def write_whole(path, data):
         write(path, data)
 
 
-def write_tables(folder, texts):
+def write_tables(folder: str, texts: Mapping[str, Data]) -> None:
     """Writes files of a folder, each whole or not at all, or raises Unread: none stands in its place before all are written beside. A
     folder that isn't there comes with its files."""
     for name in texts:
@@ -66,7 +73,7 @@ def write_tables(folder, texts):
                 write_all(beside, texts)
 
 
-def want_no_folder(path):
+def want_no_folder(path: str) -> None:
     """Raises Unread where a folder stands in the place of a file."""
     if os.path.isdir(path):
         raise Unread.of(path, "can't be written: it is a folder", FAULT)

@@ -1,6 +1,9 @@
 """The lines of a schedule file: which bytes are what, and which form they have."""
 
+from __future__ import annotations
+
 import re
+from typing import Optional
 
 from fleetplan.errors import Unread
 from fleetplan.texts import printed
@@ -22,11 +25,11 @@ STATION = r"[A-Z]{3}"
 class BadLine(Unread):
     """A line that isn't as it should be."""
 
-    def __init__(self, path, line, what, where, should):
+    def __init__(self, path: str, line: int, what: str, where: str, should: str) -> None:
         super().__init__(f"{path} line {line}: {what} ({where}), it should be {should}", file=path, record=line)
 
 
-def bytes_from(first, last):
+def bytes_from(first: int, last: int) -> str:
     """Says where something stands in a line."""
     return f"byte {first}" if first == last else f"bytes {first} to {last}"
 
@@ -34,18 +37,19 @@ def bytes_from(first, last):
 class Field:
     """Bytes of a line, counted from 1, with a name, a form, and that form in words."""
 
-    def __init__(self, name, first, last, form, should):
+    def __init__(self, name: str, first: int, last: int, form: str, should: str) -> None:
         self.name, self.first, self.last, self.form, self.should = name, first, last, re.compile(form), should
         self.where = bytes_from(first, last)
 
-    def of(self, line):
+    def of(self, line: str) -> str:
+        """Returns the bytes of a line."""
         return line[self.first - 1 : self.last]
 
-    def put(self, line, text):
+    def put(self, line: str, text: str) -> str:
         """Returns a line with another text there."""
         return f"{line[: self.first - 1]}{text}{line[self.last :]}"
 
-    def fault(self, path, number, line, should=None):
+    def fault(self, path: str, number: int, line: str, should: Optional[str] = None) -> BadLine:
         """Returns the fault of a line whose field isn't as it should be."""
         return BadLine(path, number, f'{self.name} is "{printed(self.of(line))}"', self.where, should or self.should)
 
@@ -53,7 +57,7 @@ class Field:
 class Layout:
     """The fields of a record type, in their order. One form of the whole line decides; the fields say what is wrong."""
 
-    def __init__(self, *fields):
+    def __init__(self, *fields: Field) -> None:
         self.fields = {it.name: it for it in fields}
         form, at = "", 1
         for it in fields:
@@ -61,36 +65,42 @@ class Layout:
             at = it.last + 1
         self.form = re.compile(form, re.DOTALL)
 
-    def judge(self, path, number, line):
+    def judge(self, path: str, number: int, line: str) -> None:
         """Raises the first fault of a line, where it has one."""
         if self.form.fullmatch(line) is None:
             raise next(it.fault(path, number, line) for it in self.fields.values() if not it.form.fullmatch(it.of(line)))
 
-    def __getitem__(self, name):
+    def __getitem__(self, name: str) -> Field:
         return self.fields[name]
 
 
-def a_date(name, first):
+def a_date(name: str, first: int) -> Field:
+    """Returns the field of a date."""
     return Field(name, first, first + 6, DATE, "a date as 05NOV26")
 
 
-def an_end(name, first):
+def an_end(name: str, first: int) -> Field:
+    """Returns the field of a last date, which may be open."""
     return Field(name, first, first + 6, f"{DATE}|{OPEN_END}", f"a date as 05NOV26, or {OPEN_END}")
 
 
-def a_creation(name, first):
+def a_creation(name: str, first: int) -> Field:
+    """Returns the field of a date that may be blank."""
     return Field(name, first, first + 6, f"{DATE}| {{7}}", "a date as 05NOV26, or blank")
 
 
-def a_time(name, first):
+def a_time(name: str, first: int) -> Field:
+    """Returns the field of a time."""
     return Field(name, first, first + 3, TIME, "0000 to 2400")
 
 
-def a_passengers_time(name, first):
+def a_passengers_time(name: str, first: int) -> Field:
+    """Returns the field of a time that may be blank."""
     return Field(name, first, first + 3, f"{TIME}| {{4}}", "0000 to 2400, or blank")
 
 
-def a_station(name, first):
+def a_station(name: str, first: int) -> Field:
+    """Returns the field of a station."""
     return Field(name, first, first + 2, STATION, "three letters A to Z")
 
 

@@ -1,31 +1,40 @@
 """A plan written back into the schedule file: the aircraft types and the departures of the legs of its dates."""
 
+from __future__ import annotations
+
 import datetime
 import itertools
 import os
 import re
 from collections import Counter
+from typing import Callable, Dict, Iterator, List, Mapping, Optional, Sequence, Set, Tuple
 
 from fleetplan.errors import Unread
 from fleetplan.forms import MOST_SHIFT
+from fleetplan.records import Rows
 from fleetplan.tables import DATED, HEADERS, NO_FLEET, SHIFTED, headers_of
 from fleetplan.texts import printed, some
 from fleetplan.times import DAY, clock
 from schedule_files.days import iso, text_of
 from schedule_files.files import rows
 from schedule_files.layout import BadLine, ZEROS
-from schedule_files.reading import MOST_RECORDS, read_schedule
+from schedule_files.reading import MOST_RECORDS, Leg, Schedule, read_schedule
 from schedule_files.retiming import common_dates, move_of, moved, retimed
-from schedule_files.splitting import LEFT_OUT, Planned, parts_by_date, parts_by_weekday
+from schedule_files.splitting import LEFT_OUT, Changes, Chosen, Held, Part, Planned, parts_by_date, parts_by_weekday
 from schedule_files.tables import NAMES
 
 # How many records fill a block, with lines of zeros where there are too few.
 BLOCK = 5
+# What the legs of an itinerary have in common: the line of their carrier, their flight and its variation.
+Itinerary = Tuple[int, Tuple[str, int, str], str]
+Ways = Dict[str, List[str]]
+Cut = Callable[[Sequence[Leg], Changes], List[Part]]
+Variations = Dict[Tuple[Itinerary, Optional[Part]], int]
 LETTERS = " ABCDEFGHIJKLMNOPQRSTUVWXYZ"
 SHIFT = re.compile("0|-?[1-9][0-9]{0,2}")
 
 
-def changes_of(schedule, folder):
+def changes_of(schedule: Schedule, folder: str) -> Tuple[Dict[Itinerary, Changes], Counter[str], Rows]:
     """Returns of each itinerary that a plan changes its dates, each with what is planned of legs; counts of what is changed; and the
     records of the plan whose legs the file doesn't have; or raises Unread."""
     path = os.path.join(folder, "names.csv")
@@ -34,7 +43,8 @@ def changes_of(schedule, folder):
     legs = {it.number: it for it in schedule.legs}
     flown = [leg_named(schedule, legs, path, number, row) for number, row in enumerate(named, 2)]
     first = first_day(flown[0], ways.get(named[0][0])) if flown else None
-    changes, counts = {}, Counter()
+    changes: Dict[Itinerary, Changes] = {}
+    counts: Counter[str] = Counter()
     for number, row, (leg, operates) in zip(itertools.count(2), named, flown):
         check_way(f"{path} record {number}: {row[0]}", schedule, leg, way_of(leg, operates, first), ways.get(row[0]))
         planned = plan[row[0]]
@@ -44,34 +54,35 @@ def changes_of(schedule, folder):
     return changes, counts, added
 
 
-def ways_of(folder):
+def ways_of(folder: str) -> Ways:
     """Returns where and when each leg departs and arrives by legs.csv: shifts count from there."""
     return {it[0]: it[1:] for it in rows(os.path.join(folder, "legs.csv"), *headers_of("legs.csv"))}
 
 
-def first_day(flown, way):
+def first_day(flown: Tuple[Leg, int], way: Optional[Sequence[str]]) -> Optional[int]:
     """Returns the first day of tables whose legs have days, by that of a leg and its date of operation; or None."""
     leg, operates = flown
-    has_day = way and len(way) == len(DATED) - 1 and re.fullmatch("[1-7]", way[0])
-    return operates + leg.departure // DAY + 1 - int(way[0]) if has_day else None
+    if way and len(way) == len(DATED) - 1 and re.fullmatch("[1-7]", way[0]):
+        return operates + leg.departure // DAY + 1 - int(way[0])
+    return None
 
 
-def way_of(leg, operates, first):
+def way_of(leg: Leg, operates: int, first: Optional[int]) -> List[str]:
     """Returns where and when a leg departs and arrives as legs.csv has it, where the first day of the tables is known with its day."""
     day = [] if first is None else [str(operates + leg.departure // DAY + 1 - first)]
     return [*day, leg.origin, clock(leg.departure), leg.destination, clock(leg.arrival)]
 
 
-def check_way(where, schedule, leg, filed, way):
+def check_way(where: str, schedule: Schedule, leg: Leg, filed: Sequence[str], way: Optional[Sequence[str]]) -> None:
     """Refuses a leg that legs.csv has otherwise than the schedule file: what is changed there isn't written back."""
     if way != filed:
         should = f"{printed(' '.join(way))} as in legs.csv, in the file that the tables are of" if way else "in legs.csv"
         raise Unread(f"{where} is {' '.join(filed)} by line {leg.number} of {schedule.path}, it should be {should}")
 
 
-def counted(leg, planned):
+def counted(leg: Leg, planned: Chosen) -> Iterator[str]:
     """Yields what is to be counted of a leg that is changed."""
-    if planned is LEFT_OUT:
+    if planned is None:
         yield "left out"
         return
     if planned.type != leg.type:
@@ -82,7 +93,7 @@ def counted(leg, planned):
         yield "day"
 
 
-def plan_of(folder, names, ways):
+def plan_of(folder: str, names: Sequence[str], ways: Ways) -> Tuple[Dict[str, Chosen], Rows]:
     """Returns what plan.csv has for each leg of names.csv, and those of its records whose legs legs.csv alone has."""
     path, known = os.path.join(folder, "plan.csv"), set(names)
     found = list(enumerate(rows(path, HEADERS["plan.csv"], SHIFTED), 2))
@@ -98,7 +109,7 @@ def plan_of(folder, names, ways):
     return plan, added
 
 
-def planned_by(where, flight, fleet, shift="0"):
+def planned_by(where: str, flight: str, fleet: str, shift: str = "0") -> Chosen:
     """Returns what the fields of a record of plan.csv say, or raises Unread."""
     flight = printed(flight)
     if not SHIFT.fullmatch(shift) or abs(int(shift)) > MOST_SHIFT:
@@ -114,20 +125,20 @@ def planned_by(where, flight, fleet, shift="0"):
     return Planned(fleet, int(shift))
 
 
-def leg_named(schedule, legs, path, number, row):
+def leg_named(schedule: Schedule, legs: Mapping[int, Leg], path: str, number: int, row: Sequence[str]) -> Tuple[Leg, int]:
     """Returns the leg that a record of names.csv names, and its date of operation."""
     try:
         leg, operates = legs.get(int(row[6])), datetime.date.fromisoformat(row[7]).toordinal()
     except ValueError as error:
         raise Unread(f"{path} record {number}: {error}, it should be as tools/ssim tables wrote it") from error
     own = [leg.airline.strip(), str(leg.flight), leg.suffix.strip(), leg.variation, str(leg.sequence)] if leg else None
-    if row[1:6] != own or not leg.operates(operates):
+    if leg is None or row[1:6] != own or not leg.operates(operates):
         what = f"{path} record {number}: {printed(' '.join(row[1:6]))} on {row[7]} isn't the leg of line {row[6]} of {schedule.path}"
         raise Unread(f"{what}, it should be the file that the tables are of")
     return leg, operates
 
 
-def itinerary_of(leg):
+def itinerary_of(leg: Leg) -> Itinerary:
     """Returns what the legs of an itinerary have in common."""
     return leg.carrier.number, leg.name, leg.variation
 
@@ -138,11 +149,11 @@ class Piece:
 
     __slots__ = ("leg", "itinerary", "part", "line")
 
-    def __init__(self, leg, itinerary, part, line):
+    def __init__(self, leg: Leg, itinerary: Itinerary, part: Optional[Part], line: str) -> None:
         self.leg, self.itinerary, self.part, self.line = leg, itinerary, part, line
 
 
-def pieces_of(schedule, changes, cut):
+def pieces_of(schedule: Schedule, changes: Mapping[Itinerary, Changes], cut: Cut) -> List[Piece]:
     """Returns the records of legs of the new file, in their order. Legs of one itinerary that stand together are written together for
     each of its parts."""
     parts, pieces = parts_of(schedule, changes, cut), []
@@ -151,9 +162,9 @@ def pieces_of(schedule, changes, cut):
     return pieces
 
 
-def parts_of(schedule, changes, cut):
+def parts_of(schedule: Schedule, changes: Mapping[Itinerary, Changes], cut: Cut) -> Dict[Itinerary, List[Part]]:
     """Returns the parts of each itinerary that a plan changes."""
-    legs = {}
+    legs: Dict[Itinerary, List[Leg]] = {}
     for leg in schedule.legs:
         itinerary = itinerary_of(leg)
         if itinerary in changes:
@@ -161,14 +172,15 @@ def parts_of(schedule, changes, cut):
     return {itinerary: with_moves(schedule, own, cut(own, changes[itinerary])) for itinerary, own in legs.items()}
 
 
-def with_moves(schedule, legs, parts):
+def with_moves(schedule: Schedule, legs: Sequence[Leg], parts: List[Part]) -> List[Part]:
     """Returns parts of an itinerary, each with the days by which its dates of operation have to move."""
     for part in parts:
-        part.move = move_of(schedule, [(leg, part.planned_of(leg).shift) for leg in legs if is_flown(leg, part)])
+        flown = ((leg, flown_in(leg, part)) for leg in legs)
+        part.move = move_of(schedule, [(leg, it[0].shift) for leg, it in flown if it])
     return parts
 
 
-def pieces_in(schedule, itinerary, legs, parts):
+def pieces_in(schedule: Schedule, itinerary: Itinerary, legs: Sequence[Leg], parts: Optional[Sequence[Part]]) -> List[Piece]:
     """Returns the records of legs that stand together: those of each part, or, where there are none, as they are."""
     if parts is None:
         return [Piece(leg, itinerary, None, schedule.lines[leg.number - 1]) for leg in legs]
@@ -176,47 +188,51 @@ def pieces_in(schedule, itinerary, legs, parts):
     return [Piece(leg, itinerary, part, line) for leg, part, line in found if line]
 
 
-def is_flown(leg, part):
-    """Returns whether a leg has a date of operation in a part of its itinerary and isn't left out there."""
-    return part.planned_of(leg) is not LEFT_OUT and part.of(leg) is not None
+def flown_in(leg: Leg, part: Part) -> Optional[Tuple[Planned, Held]]:
+    """Returns what is planned of a leg in a part of its itinerary, with its dates there, or None where it has none or is left out."""
+    planned, held = part.planned_of(leg), part.of(leg)
+    return (planned, held) if planned and held else None
 
 
-def line_in(schedule, leg, part, parts):
+def line_in(schedule: Schedule, leg: Leg, part: Part, parts: Sequence[Part]) -> Optional[str]:
     """Returns a leg's line in a part of its itinerary, or None. A record without a date of operation stays as it is in the first."""
     line = schedule.lines[leg.number - 1]
     if part is parts[0] and not any(it.of(leg) for it in parts):
         return line
-    if not is_flown(leg, part):
+    flown = flown_in(leg, part)
+    if not flown:
         return None
-    kind, shift = part.planned_of(leg)
+    (kind, shift), held = flown
     line = retimed(line, shift, part.move)
-    start, end, days = moved(schedule, leg, part.of(leg), part.move)
+    start, end, days = moved(schedule, leg, held, part.move)
     return f"{line[:14]}{text_of(start)}{text_of(end)}{days}{line[35:72]}{kind}{line[75:]}"
 
 
-def variations_of(pieces, changes):
+def variations_of(pieces: Sequence[Piece], changes: Mapping[Itinerary, Changes]) -> Variations:
     """Returns the itinerary variation of each part of a flight that has more or fewer of them than before, counted anew from 1."""
-    parts = {it: set() for it in changes}
+    parts: Dict[Itinerary, Set[Part]] = {it: set() for it in changes}
     for it in pieces:
         if it.part is not None:
             parts[it.itinerary].add(it.part)
-    flights = {itinerary[:2]: {} for itinerary, own in parts.items() if len(own) != 1}
+    flights: Dict[object, Variations] = {itinerary[:2]: {} for itinerary, own in parts.items() if len(own) != 1}
     for it in pieces:
         if it.itinerary[:2] in flights:
-            flights[it.itinerary[:2]][it.itinerary, it.part] = True
+            flights[it.itinerary[:2]][it.itinerary, it.part] = 0
     return {key: number for own in flights.values() for number, key in enumerate(own, 1)}
 
 
 class Writer:
     """The lines of the new file. Serial numbers are counted as they are written."""
 
-    def __init__(self, schedule, pieces, variations):
-        self.schedule, self.pieces, self.variations = schedule, {}, variations
+    def __init__(self, schedule: Schedule, pieces: Sequence[Piece], variations: Variations) -> None:
+        self.schedule, self.variations = schedule, variations
+        self.pieces: Dict[int, List[Piece]] = {}
         for it in pieces:
             self.pieces.setdefault(it.leg.carrier.number, []).append(it)
-        self.lines, self.serial = [], 0
+        self.lines: List[str] = []
+        self.serial = 0
 
-    def write(self):
+    def write(self) -> bytes:
         """Returns the bytes of the new file."""
         carriers = {it.number for it in self.schedule.carriers}
         carrier, kind, zeros = 0, "1", 0
@@ -239,11 +255,12 @@ class Writer:
         end = self.schedule.end
         return (end.join(self.lines) + (end if self.schedule.is_ended else "")).encode("latin-1")
 
-    def put(self, line):
+    def put(self, line: str) -> None:
+        """Writes a record with the next serial number."""
         self.serial += 1
         self.lines.append(f"{line[:194]}{self.serial:06}")
 
-    def trailer(self, carrier, number, line, kind, zeros):
+    def trailer(self, carrier: int, number: int, line: str, kind: str, zeros: int) -> None:
         """Writes the legs of a carrier, the lines of zeros behind them, and the trailer. Where such lines filled the last block of five,
         or none was wanted, they fill it again."""
         for it in self.pieces.get(carrier, ()):
@@ -253,7 +270,7 @@ class Writer:
         self.lines.extend([ZEROS] * zeros)
         self.put(f"{line[:187]}{self.serial:06}{line[193:]}")
 
-    def leg(self, piece):
+    def leg(self, piece: Piece) -> None:
         """Writes a leg and its segment data."""
         number = self.variations.get((piece.itinerary, piece.part))
         self.put(varied(piece.line, number, 127))
@@ -261,14 +278,14 @@ class Writer:
             self.put(varied(it, number, 27))
 
 
-def varied(line, number, at):
+def varied(line: str, number: Optional[int], at: int) -> str:
     """Returns a line with an itinerary variation, of which the hundreds stand elsewhere as a letter."""
     if number is None:
         return line
     return f"{line[:9]}{number % 100:02}{line[11:at]}{LETTERS[number // 100]}{line[at + 1 :]}"
 
 
-def write_plan(schedule, folder, is_whole_season):
+def write_plan(schedule: Schedule, folder: str, is_whole_season: bool) -> Tuple[bytes, List[str]]:
     """Returns the bytes of the file with what a plan says of its legs, and what is told of it."""
     changes, counts, added = changes_of(schedule, folder)
     pieces = pieces_of(schedule, changes, parts_by_weekday if is_whole_season else parts_by_date)
@@ -283,14 +300,14 @@ def write_plan(schedule, folder, is_whole_season):
     return data, [*told(counts, len(schedule.legs), pieces), *unwritten(added), *doubled(schedule.path, data, pieces)]
 
 
-def unwritten(added):
+def unwritten(added: Rows) -> Iterator[str]:
     """Yields what is told of the legs that the file doesn't have: those that are flown, as ferries."""
     flown = [f"{printed(flight)} by {printed(fleet)}" for flight, fleet, *_ in added if fleet != NO_FLEET]
     if flown:
         yield f"{len(flown)} legs of legs.csv aren't in the file, and aren't written into it: {some(flown)}"
 
 
-def doubled(path, data, pieces):
+def doubled(path: str, data: bytes, pieces: Sequence[Piece]) -> Iterator[str]:
     """Yields what is told of the flights that have a date of operation twice, where the plan moves dates."""
     names = {it.leg.name for it in pieces if it.part is not None and it.part.move}
     if names:
@@ -300,7 +317,7 @@ def doubled(path, data, pieces):
             yield f"{len(dates)} flights have a date of operation twice, which date variations can't say otherwise: {some(dates)}"
 
 
-def told(counts, filed, pieces):
+def told(counts: Counter[str], filed: int, pieces: Sequence[Piece]) -> Iterator[str]:
     """Yields what standard error is told of a plan, in lines."""
     kept = len({it.leg.number for it in pieces})
     yield f"{counts['type']} legs have another aircraft type, and {len(pieces) - kept} records are new"

@@ -1,11 +1,15 @@
 """A whole schedule file, each of its lines judged."""
 
+from __future__ import annotations
+
+from typing import Dict, List, Optional, Sequence, Tuple
+
 from fleetplan.errors import Unread
 from fleetplan.texts import printed
 from fleetplan.times import DAY
 from schedule_files import layout
 from schedule_files.days import DATE_VARIATIONS, OPEN, TIMES, VARIATIONS, day_of, iso, weekday_of
-from schedule_files.layout import LENGTH, ZEROS, BadLine
+from schedule_files.layout import LENGTH, ZEROS, BadLine, Field, Layout
 
 MOST_RECORDS = 999_999
 # Which record types may stand behind one; 0 are lines of zeros behind the legs, C and E a trailer's end code.
@@ -25,15 +29,16 @@ OPERATIONAL_LEG = "050"
 class Carrier:
     """A carrier's part of a file: its time mode, its validity as days, and its legs."""
 
-    def __init__(self, number, line):
+    def __init__(self, number: int, line: str) -> None:
         self.number, self.is_local, self.airline = number, line[1] == "L", line[2:5]
-        self.start, self.end = day_of(line[14:21]), day_of(line[21:28])
-        self.legs = []
+        self.start, self.end = day_of(line[14:21]) or OPEN, day_of(line[21:28]) or OPEN
+        self.legs: List[Leg] = []
 
-    def is_valid(self, day):
+    def is_valid(self, day: int) -> bool:
+        """Returns whether a day lies within the validity."""
         return self.start <= day <= self.end
 
-    def __str__(self):
+    def __str__(self) -> str:
         return f"from {iso(self.start)} on" if self.end == OPEN else f"from {iso(self.start)} to {iso(self.end)}"
 
 
@@ -45,19 +50,39 @@ class Leg:
         "carrier", "number", "last", "suffix", "airline", "flight", "variation", "sequence", "service", "start", "end", "days", "rate",
         "origin", "destination", "departure", "arrival", "type", "disclosure", "is_duplicate",
     )  # fmt: skip
+    carrier: Carrier
+    number: int
+    last: int
+    suffix: str
+    airline: str
+    flight: int
+    variation: str
+    sequence: int
+    service: str
+    start: int
+    end: int
+    days: str
+    rate: str
+    origin: str
+    destination: str
+    departure: int
+    arrival: int
+    type: str
+    disclosure: str
+    is_duplicate: bool
 
-    def operates(self, day):
+    def operates(self, day: int) -> bool:
         """Returns whether a day is a date of operation. The weeks of a rate of 2 are counted from the first day of the period."""
         if not self.start <= day <= self.end or self.days[weekday_of(day) - 1] == " ":
             return False
         return self.rate != "2" or (day - self.start) // 7 % 2 == 0
 
     @property
-    def name(self):
+    def name(self) -> Tuple[str, int, str]:
         """The flight without a suffix or a variation."""
         return self.airline, self.flight, self.suffix
 
-    def __str__(self):
+    def __str__(self) -> str:
         suffix = "" if self.suffix == " " else self.suffix
         return f"{self.airline.strip()} {self.flight}{suffix}, variation {self.variation}, leg {self.sequence}"
 
@@ -65,7 +90,7 @@ class Leg:
 class Schedule:
     """A schedule file: its path, its lines without their ends, how they end, whether the last one does, and its carriers."""
 
-    def __init__(self, path, data):
+    def __init__(self, path: str, data: bytes) -> None:
         self.path = path
         lines = data.decode("latin-1").split("\n")
         self.is_ended = lines[-1] == ""
@@ -83,12 +108,14 @@ class Schedule:
 class Reader:
     """Reads the lines of a file one after another. `serial` is that of the last record, and `known` has the line of each leg."""
 
-    def __init__(self, path, lines):
+    def __init__(self, path: str, lines: Sequence[str]) -> None:
         self.path, self.lines = path, lines
-        self.serial, self.state, self.carriers, self.known, self.leg = 0, "", [], {}, None
+        self.serial, self.state, self.leg = 0, "", Leg()
+        self.carriers: List[Carrier] = []
+        self.known: Dict[Tuple[object, ...], int] = {}
         self.takes = {"1": self.header, "2": self.carrier, "3": self.leg_record, "4": self.segment, "5": self.trailer}
 
-    def read(self):
+    def read(self) -> List[Carrier]:
         """Returns the carriers of the file, or raises its first fault."""
         for number, line in enumerate(self.lines, 1):
             if len(line) != LENGTH:
@@ -107,7 +134,7 @@ class Reader:
             raise BadLine(self.path, at, "the file ends", f"bytes 1 to {LENGTH}", WORDS[FOLLOWS[self.state]])
         return self.carriers
 
-    def count(self, number, line, may_begin_anew=False):
+    def count(self, number: int, line: str, may_begin_anew: bool = False) -> None:
         """Judges the serial number of a record, the one after the last, and counts it."""
         serial = int(line[194:])
         self.serial += 1
@@ -116,24 +143,26 @@ class Reader:
         if serial != self.serial or serial > MOST_RECORDS:
             raise layout.SERIAL.fault(self.path, number, line, f"{self.serial:06}" if self.serial <= MOST_RECORDS else "999999 at most")
 
-    def day(self, field, number, line):
+    def day(self, field: Field, number: int, line: str) -> int:
         """Returns the day that a field writes."""
         found = day_of(field.of(line))
         if found is None:
             raise field.fault(self.path, number, line, "a day of the calendar")
         return found
 
-    def period(self, fields, names, number, line):
+    def period(self, fields: Layout, names: Tuple[str, str], number: int, line: str) -> None:
         """Judges a first and a last date."""
         first, last = (fields[it] for it in names)
         if self.day(first, number, line) > self.day(last, number, line):
             raise last.fault(self.path, number, line, f"{first.of(line)} or later")
 
-    def header(self, number, line):
+    def header(self, number: int, line: str) -> None:
+        """Takes the header."""
         layout.HEADER.judge(self.path, number, line)
         self.count(number, line)
 
-    def carrier(self, number, line):
+    def carrier(self, number: int, line: str) -> None:
+        """Takes a carrier record."""
         layout.CARRIER.judge(self.path, number, line)
         self.period(layout.CARRIER, ("first date of validity", "last date of validity"), number, line)
         self.created(layout.CARRIER["creation date"], number, line)
@@ -144,11 +173,12 @@ class Reader:
         self.carriers.append(Carrier(number, line))
         self.known = {}
 
-    def created(self, field, number, line):
+    def created(self, field: Field, number: int, line: str) -> None:
         if field.of(line).strip():
             self.day(field, number, line)
 
-    def leg_record(self, number, line):
+    def leg_record(self, number: int, line: str) -> None:
+        """Takes a leg's record."""
         if layout.LEG.form.fullmatch(line) is None:
             layout.LEG.judge(self.path, number, line)
         carrier = self.carriers[-1]
@@ -157,9 +187,11 @@ class Reader:
         leg.carrier, leg.number, leg.last = carrier, number, number
         leg.suffix, leg.airline, leg.flight = line[1], line[2:5], int(line[5:9])
         leg.variation, leg.sequence, leg.service = (line[127] + line[9:11].replace(" ", "0")).strip(), int(line[11:13]), line[13]
-        leg.start, leg.end, leg.days, leg.rate = day_of(line[14:21]), day_of(line[21:28]), line[28:35], line[35]
-        if leg.start is None or leg.end is None or leg.start > leg.end:
+        start, end, leg.days, leg.rate = day_of(line[14:21]), day_of(line[21:28]), line[28:35], line[35]
+        if start is None or end is None or start > end:
             self.period(layout.LEG, ("first date of the period", "last date of the period"), number, line)
+        else:
+            leg.start, leg.end = start, end
         leg.origin, leg.destination, leg.type = line[36:39], line[54:57], line[72:75]
         leg.disclosure, leg.is_duplicate = line[148], False
         leg.departure = DATE_VARIATIONS[line[192]] * DAY + TIMES[line[43:47]]
@@ -175,7 +207,7 @@ class Reader:
         carrier.legs.append(leg)
         self.leg = leg
 
-    def flown(self, leg, number, line):
+    def flown(self, leg: Leg, number: int, line: str) -> None:
         """Judges a leg's way and its time."""
         if leg.origin == leg.destination:
             raise layout.LEG["arrival station"].fault(self.path, number, line, "another than the departure station")
@@ -184,12 +216,14 @@ class Reader:
             what = f"the leg takes {block} minutes from departure to arrival"
             raise BadLine(self.path, number, what, "bytes 44 to 52, 58 to 70 and 193 to 194", f"1 to {DAY - 1} minutes")
 
-    def airline(self, number, line):
+    def airline(self, number: int, line: str) -> None:
+        """Judges the airline of a record: that of its carrier record."""
         carrier = self.carriers[-1]
         if line[2:5] != carrier.airline:
             raise layout.AN_AIRLINE.fault(self.path, number, line, f"{carrier.airline.strip()} as in line {carrier.number}")
 
-    def segment(self, number, line):
+    def segment(self, number: int, line: str) -> None:
+        """Takes a record of segment data."""
         if layout.SEGMENT.form.fullmatch(line) is None:
             layout.SEGMENT.judge(self.path, number, line)
         of = self.lines[self.leg.number - 1]
@@ -203,7 +237,8 @@ class Reader:
         self.leg.last = number
         self.leg.is_duplicate |= line[30:33] == OPERATIONAL_LEG
 
-    def trailer(self, number, line):
+    def trailer(self, number: int, line: str) -> None:
+        """Takes a trailer."""
         layout.TRAILER.judge(self.path, number, line)
         self.airline(number, line)
         self.created(layout.TRAILER["release date"], number, line)
@@ -214,7 +249,7 @@ class Reader:
         self.state = line[193]
 
 
-def read_schedule(path, data):
+def read_schedule(path: str, data: bytes) -> Schedule:
     """Returns the schedule that the bytes of a file hold, or raises its first fault."""
     if not data:
         raise Unread(f"{path} line 1: the file is empty (bytes 1 to {LENGTH}), it should be {WORDS['1']}")

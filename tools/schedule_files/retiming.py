@@ -1,11 +1,15 @@
 """A leg that departs later or earlier: the bytes of its record that say when it departs and arrives."""
 
+from __future__ import annotations
+
 import itertools
+from typing import Dict, Iterable, Sequence, Tuple
 
 from fleetplan.times import DAY
 from schedule_files.days import ALL_DAYS, DATE_VARIATIONS, LAST_DAY, OPEN, TIMES, WEEK, text_of, weekday_of
 from schedule_files.layout import LEG, BadLine
-from schedule_files.splitting import FORTNIGHT
+from schedule_files.reading import Leg, Schedule
+from schedule_files.splitting import FORTNIGHT, Held
 
 # The letter of each date variation, a blank being another one of 0.
 LETTERS = {days: letter for letter, days in DATE_VARIATIONS.items() if letter != " "}
@@ -15,16 +19,16 @@ EARLIEST, LATEST = min(LETTERS), max(LETTERS)
 class End:
     """The departure or the arrival of a leg: the fields of its aircraft's and its passengers' time, and of its date variation."""
 
-    def __init__(self, name):
+    def __init__(self, name: str) -> None:
         self.aircraft, self.passengers = LEG[f"aircraft's time of {name}"], LEG[f"passengers' time of {name}"]
         self.variation = LEG[f"{name}'s date variation"]
 
-    def day(self, line, shift):
+    def day(self, line: str, shift: int) -> int:
         """Returns how many days behind the date of operation this end is, by so many minutes later than filed."""
         filed = DATE_VARIATIONS[self.variation.of(line)]
         return filed + (TIMES[self.aircraft.of(line)] + shift) // DAY if shift else filed
 
-    def put(self, line, shift, move):
+    def put(self, line: str, shift: int, move: int) -> str:
         """Returns a line with this end later by a shift, and its day counted from a date of operation that is moved by some days."""
         day = self.day(line, shift) - move
         if shift:
@@ -36,7 +40,7 @@ class End:
 ENDS = End("departure"), End("arrival")
 
 
-def later(text, shift):
+def later(text: str, shift: int) -> str:
     """Returns a time of the day by so many minutes later, or a blank one as it is."""
     if not text.strip():
         return text
@@ -44,14 +48,14 @@ def later(text, shift):
     return f"{minute // 60:02}{minute % 60:02}"
 
 
-def retimed(line, shift, move):
+def retimed(line: str, shift: int, move: int) -> str:
     """Returns a leg's line with both ends later by a shift, and their days counted from a date of operation that is moved by some."""
     for end in ENDS:
         line = end.put(line, shift, move)
     return line
 
 
-def move_of(schedule, shifts):
+def move_of(schedule: Schedule, shifts: Sequence[Tuple[Leg, int]]) -> int:
     """Returns by how many days the dates of operation of an itinerary have to move, so that date variations can say on which days its
     legs depart and arrive: by none nearly always. The legs come with their shifts."""
     if not any(shift for _, shift in shifts):
@@ -65,7 +69,7 @@ def move_of(schedule, shifts):
     return move
 
 
-def moved(schedule, leg, held, move):
+def moved(schedule: Schedule, leg: Leg, held: Held, move: int) -> Held:
     """Returns a leg's first and last date and its days of operation, all moved by some days: its carrier record's validity has them
     before and after."""
     if not move:
@@ -83,7 +87,7 @@ def moved(schedule, leg, held, move):
     return start, end, "".join(it if days[(at - move) % WEEK] != " " else " " for at, it in enumerate(ALL_DAYS))
 
 
-def common_dates(legs):
+def common_dates(legs: Iterable[Leg]) -> Dict[Tuple[str, int, str], int]:
     """Returns of each flight that has one leg twice on a date of operation the first such date."""
     found = {}
     for one, other in itertools.combinations(legs, 2):

@@ -1,11 +1,16 @@
 """The legs that depart on some dates in UTC, and how many are left out for which reason."""
 
+from __future__ import annotations
+
 from collections import Counter
+from typing import AbstractSet, List, Mapping, Optional, Sequence, Tuple
 
 from fleetplan.errors import Unread
 from fleetplan.tables import TABLE
 from fleetplan.texts import some
 from fleetplan.times import DAY
+from schedule_files.days import Dates
+from schedule_files.reading import Leg, Schedule
 
 # Service types of surface vehicles, and the codes of such vehicles where aircraft types stand.
 SURFACE_SERVICES = frozenset("UV")
@@ -23,19 +28,24 @@ class Flown:
 
     __slots__ = ("leg", "operates", "day", "minute", "block", "name", "plain")
 
-    def __init__(self, leg, operates, day):
+    def __init__(self, leg: Leg, operates: int, day: int) -> None:
         self.leg, self.operates, self.day = leg, operates, day
         self.minute, self.block = leg.departure % DAY, leg.arrival - leg.departure
-        self.name = self.plain = None
+        self.name = ""
+        self.plain: Optional[str] = None
+
+
+# A set of codes, or None where all will do.
+Codes = Optional[AbstractSet[str]]
 
 
 class Choice:
     """What a call asks for. `services`, `types` and `stations` are sets, or None where all will do."""
 
-    def __init__(self, with_surface=False, services=None, types=None, stations=None):
+    def __init__(self, with_surface: bool = False, services: Codes = None, types: Codes = None, stations: Codes = None) -> None:
         self.with_surface, self.services, self.types, self.stations = with_surface, services, types, stations
 
-    def refused(self, leg):
+    def refused(self, leg: Leg) -> Optional[str]:
         """Returns why a leg is left out, or None."""
         if leg.is_duplicate:
             return ELSEWHERE
@@ -52,10 +62,11 @@ class Choice:
         return None
 
 
-def flown_on(schedule, dates, choice):
+def flown_on(schedule: Schedule, dates: Dates, choice: Choice) -> Tuple[List[Flown], Counter[str]]:
     """Returns the legs that depart on some days in UTC, in order of departure, and the counts of those that are left out; or refuses more
     than tables may have."""
-    chosen, left_out = [], Counter()
+    chosen: List[Tuple[Leg, int, List[int]]] = []
+    left_out: Counter[str] = Counter()
     for leg in schedule.legs:
         before = dates.first - leg.departure // DAY - 1
         days = [day for day in range(1, dates.count + 1) if leg.operates(before + day)]
@@ -75,10 +86,12 @@ def flown_on(schedule, dates, choice):
     return flown, left_out
 
 
-def check_size(path, dates, chosen):
+def check_size(path: str, dates: Dates, chosen: Sequence[Tuple[Leg, int, List[int]]]) -> None:
     """Refuses more legs, stations or fleets than tables may have, with the counts that help to ask for fewer. Of each leg that is chosen
     its days stand last."""
-    stations, types, services = Counter(), Counter(), Counter()
+    stations: Counter[str] = Counter()
+    types: Counter[str] = Counter()
+    services: Counter[str] = Counter()
     for leg, _, days in chosen:
         for code in (leg.origin, leg.destination):
             stations[code] += len(days)
@@ -93,6 +106,6 @@ def check_size(path, dates, chosen):
             raise Unread(f"{path}: {count:,} {what} {dates}, and tables have {most:,} at most: ask for fewer ({told})")
 
 
-def listed(counter):
+def listed(counter: Mapping[str, int]) -> str:
     """Returns the greatest counts, as `320 in 800 legs`."""
     return some([f"{name} {count}" for name, count in sorted(counter.items(), key=lambda it: (-it[1], it[0]))])

@@ -1,12 +1,27 @@
 """An itinerary that a plan changes on some of its dates, in parts: each part is one itinerary again."""
 
-from collections import namedtuple
+from __future__ import annotations
+
+from typing import Dict, Iterable, Iterator, List, Mapping, NamedTuple, Optional, Sequence, Tuple
 
 from schedule_files.days import ALL_DAYS, OPEN, WEEK, weekday_of
+from schedule_files.reading import Leg
 
-# What is planned of a leg: its aircraft type, and by how many minutes it departs later than filed; or that it isn't flown.
-Planned = namedtuple("Planned", ("type", "shift"))
-LEFT_OUT = None
+
+class Planned(NamedTuple):
+    """What is planned of a leg: its aircraft type, and by how many minutes it departs later than filed."""
+
+    type: str
+    shift: int
+
+
+# The same, or that it isn't flown.
+Chosen = Optional[Planned]
+LEFT_OUT: Chosen = None
+# What is planned of legs, by the numbers of their lines; the same by dates; and a first and a last date with days of operation.
+Planning = Dict[int, Chosen]
+Changes = Dict[int, Planning]
+Held = Tuple[int, int, str]
 # In so many days a leg operates once at least, where its period reaches so far.
 FORTNIGHT = 14
 
@@ -15,15 +30,15 @@ class Part:
     """Dates of operation, from a first to a last one, on some days of the week, what is planned on them of legs by their numbers, and
     by how many days all are moved in the new file."""
 
-    def __init__(self, start, end, days, planned):
+    def __init__(self, start: int, end: int, days: str, planned: Planning) -> None:
         self.start, self.end, self.days, self.planned = start, end, days, planned
         self.move = 0
 
-    def planned_of(self, leg):
+    def planned_of(self, leg: Leg) -> Chosen:
         """Returns what a leg has in this part."""
         return self.planned.get(leg.number, Planned(leg.type, 0))
 
-    def of(self, leg):
+    def of(self, leg: Leg) -> Optional[Held]:
         """Returns the leg's first and last date and its days of operation in this part, or None where it has no date in it."""
         start, end = max(self.start, leg.start), min(self.end, leg.end)
         days = "".join(it if it in self.days else " " for it in leg.days)
@@ -39,12 +54,12 @@ class Part:
                 return None
         return (start, end, days) if days.strip() else None
 
-    def has(self, leg, date):
+    def has(self, leg: Leg, date: int) -> bool:
         """Returns whether a date is one of operation on a day of this part."""
         return leg.operates(date) and str(weekday_of(date)) in self.days
 
 
-def parts_by_date(legs, changes):
+def parts_by_date(legs: Sequence[Leg], changes: Changes) -> List[Part]:
     """Cuts an itinerary before the first date of changes and behind the last: between them a date has what is planned on that date, and
     those that are alike are one part; all other dates stay as they are."""
     at, end = min(it.start for it in legs), max(it.end for it in legs)
@@ -61,7 +76,7 @@ def parts_by_date(legs, changes):
     return [*parts, Part(at, end, ALL_DAYS, {})]
 
 
-def weeks_of(dates):
+def weeks_of(dates: List[int]) -> Iterator[Tuple[int, int]]:
     """Yields the first and the last one of dates that lie within seven days, and then of those that are left."""
     while dates:
         within = [it for it in dates if it < dates[0] + WEEK]
@@ -69,22 +84,22 @@ def weeks_of(dates):
         dates = dates[len(within) :]
 
 
-def alike(days):
+def alike(days: Iterable[Tuple[str, Planning]]) -> List[Tuple[str, Planning]]:
     """Returns days of the week with what is planned on them, those together that have the same."""
-    groups = []
+    groups: List[Tuple[str, Planning]] = []
     for day, planned in days:
-        group = next((it for it in groups if it[1] == planned), None)
-        if group:
-            group[0].append(day)
+        at = next((at for at, it in enumerate(groups) if it[1] == planned), None)
+        if at is None:
+            groups.append((day, planned))
         else:
-            groups.append(([day], planned))
+            groups[at] = groups[at][0] + day, planned
     return groups
 
 
-def parts_by_weekday(_, changes):
+def parts_by_weekday(_: Sequence[Leg], changes: Changes) -> List[Part]:
     """Cuts an itinerary by days of operation: through its whole period a day of the week has what is planned on the date of that day,
     and all other days stay as they are."""
-    planned = {}
+    planned: Dict[str, Planning] = {}
     for date, changed in sorted(changes.items()):
         planned.setdefault(str(weekday_of(date)), {}).update(changed)
     return [Part(0, OPEN, days, own) for days, own in alike((it, planned.get(it, {})) for it in ALL_DAYS)]

@@ -1,7 +1,10 @@
 """The tables of a folder, made of the legs of a date or a week, and what is told of them."""
 
+from __future__ import annotations
+
 import os
 from collections import Counter
+from typing import Dict, Iterable, Iterator, List, Mapping, Optional, Sequence, Tuple
 
 from fleetplan.forms import MOST_AIRCRAFT
 from fleetplan.records import text_of
@@ -9,8 +12,10 @@ from fleetplan.tables import ASKED, DATED, HEADERS, LIMITED, SHIFTED
 from fleetplan.texts import some
 from fleetplan.times import clock
 from schedule_files import choosing, costing, judging, naming, selecting
-from schedule_files.days import iso
+from schedule_files.days import Dates, iso
 from schedule_files.files import write_tables
+from schedule_files.reading import Schedule
+from schedule_files.selecting import Choice, Flown
 
 NAMES = ("flight", "airline", "number", "suffix", "variation", "leg", "line", "operates")
 
@@ -18,7 +23,14 @@ NAMES = ("flight", "airline", "number", "suffix", "variation", "leg", "line", "o
 class Sources:
     """The files of the caller's, each a path or None, the value of a through pair, and the paths of tables that options have read."""
 
-    def __init__(self, stations=None, fleets=None, costs=None, through_value=0, asked=None):
+    def __init__(
+        self,
+        stations: Optional[str] = None,
+        fleets: Optional[str] = None,
+        costs: Optional[str] = None,
+        through_value: int = 0,
+        asked: Optional[Mapping[str, str]] = None,
+    ) -> None:
         self.stations, self.fleets, self.costs, self.through_value = stations, fleets, costs, through_value
         self.asked = asked or {}
 
@@ -26,7 +38,7 @@ class Sources:
 class Made:
     """The legs of some dates with their stations and fleets. Everything that can be refused is judged here, before anything is written."""
 
-    def __init__(self, schedule, dates, choice, sources):
+    def __init__(self, schedule: Schedule, dates: Dates, choice: Choice, sources: Sources) -> None:
         self.schedule, self.dates, self.sources = schedule, dates, sources
         self.flown, self.left_out = selecting.flown_on(schedule, dates, choice)
         naming.name_all(schedule, self.flown, dates)
@@ -35,11 +47,11 @@ class Made:
         self.costs = costing.costs_of(sources.costs, schedule, self.flown, self.fleets)
         self.throughs = naming.throughs(self.flown, dates)
         self.asked = [choosing.Asked(option, path, self.flown, self.costs) for option, path in sources.asked.items()]
-        self.unjudged = None
+        self.unjudged: Optional[str] = None
         if sources.fleets is None:
             self.count_aircraft()
 
-    def count_aircraft(self):
+    def count_aircraft(self) -> None:
         """Gives each fleet as many aircraft as the plan as filed uses, by the program; or as many as a fleet may have."""
         most = [(fleet, MOST_AIRCRAFT, turn) for fleet, _, turn in self.fleets]
         anywhere = [it[: len(HEADERS["stations.csv"])] for it in self.stations]
@@ -48,9 +60,9 @@ class Made:
         used, self.unjudged = judging.used_by(asked, [fleet for fleet, *_ in most], self.dates.count)
         self.fleets = most if used is None else [(fleet, used[fleet], turn) for fleet, _, turn in most]
 
-    def tables(self):
+    def tables(self) -> Dict[str, str]:
         """Returns the texts of the five tables and of the plan, by their names."""
-        records = {
+        records: Dict[str, Sequence[Sequence[object]]] = {
             "stations.csv": self.stations,
             "fleets.csv": self.fleets,
             "legs.csv": [self.leg(it) for it in self.flown],
@@ -65,19 +77,19 @@ class Made:
             texts["legs.csv"] = text_of(DATED, records["legs.csv"])
         return texts
 
-    def texts(self):
+    def texts(self) -> Dict[str, str]:
         """Returns the text of each file by its name. Where legs have other times the plan has shifts."""
         texts = {it.table: encoded(it.table, it.records) for it in self.asked}
         if "windows" in self.sources.asked:
             texts["plan.csv"] = text_of(SHIFTED, [(it.name, it.leg.type, 0) for it in self.flown])
         return {**self.tables(), **texts, "names.csv": text_of(NAMES, [named(it) for it in self.flown])}
 
-    def leg(self, it):
+    def leg(self, it: Flown) -> Tuple[object, ...]:
         """Returns the record of a leg, with its day where there are several."""
         day = [it.day] if self.dates.count > 1 else []
         return it.name, *day, it.leg.origin, clock(it.minute), it.leg.destination, clock(it.minute + it.block)
 
-    def told(self):
+    def told(self) -> Iterator[str]:
         """Returns what standard error is told, in lines."""
         stations, types = len(self.stations), len({it.leg.type for it in self.flown})
         yield f"{len(self.flown)} legs depart {self.dates} in UTC: {stations} stations, {types} aircraft types"
@@ -100,14 +112,14 @@ class Made:
         if lacking:
             yield f"{len(lacking)} legs may not be flown by their filed type by {self.sources.costs}, the first is {lacking[0]}"
 
-    def told_of_asked(self):
+    def told_of_asked(self) -> Iterator[str]:
         """Tells of the tables that options of the program have read."""
         for it in self.asked:
             yield f"{it.table} has {len(it.records)} records, for calls with --{it.option}"
             if it.unknown:
                 yield f"{len(it.unknown)} flights of {it.path} aren't among these legs: {some(it.unknown)}"
 
-    def unbalanced(self):
+    def unbalanced(self) -> Iterator[str]:
         """Tells the aircraft types that don't leave a station as often as they come to it."""
         more = Counter((it.leg.type, it.leg.destination) for it in self.flown)
         more.subtract((it.leg.type, it.leg.origin) for it in self.flown)
@@ -116,18 +128,18 @@ class Made:
             yield f"arrivals less departures: {some([f'{fleet} at {station} {count:+}' for fleet, station, count in lacks])}"
 
 
-def encoded(name, records):
+def encoded(name: str, records: Iterable[Iterable[object]]) -> str:
     """Returns the text of a table with its first header."""
     return text_of(HEADERS[name], records)
 
 
-def named(it):
+def named(it: Flown) -> Tuple[object, ...]:
     """Returns the record of names.csv of a leg."""
     leg = it.leg
     return it.name, leg.airline.strip(), leg.flight, leg.suffix.strip(), leg.variation, leg.sequence, leg.number, iso(it.operates)
 
 
-def make_tables(schedule, folder, dates, choice, sources):
+def make_tables(schedule: Schedule, folder: str, dates: Dates, choice: Choice, sources: Sources) -> List[str]:
     """Writes the tables of some dates into a folder, and returns what is told of them."""
     made = Made(schedule, dates, choice, sources)
     older = [it for option, it in ASKED.items() if option not in sources.asked and os.path.lexists(os.path.join(folder, it))]

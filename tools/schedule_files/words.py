@@ -1,7 +1,10 @@
 """The words of a call of tools/ssim."""
 
+from __future__ import annotations
+
 import datetime
 import re
+from typing import Dict, FrozenSet, List, Mapping, Optional, Sequence, Tuple, Union
 
 from fleetplan.forms import TRILLION
 from fleetplan.tables import ASKED
@@ -32,7 +35,11 @@ DAYS = {"date": 1, "week": 7}
 IN_LINE = 4
 
 
-def shown(options):
+# Of each option the form of its value, or None where it has none.
+Options = Mapping[str, Optional[str]]
+
+
+def shown(options: Options) -> str:
     """Returns options in lines."""
     texts = [f"[--{name}{f' {form}' if form else ''}]" for name, form in options.items() if name not in DAYS]
     return ("\n" + " " * 18).join(" ".join(texts[at : at + IN_LINE]) for at in range(0, len(texts), IN_LINE))
@@ -47,17 +54,19 @@ docs/formats.md#schedule-files says what they do"""
 class Usage(Exception):
     """Words that are no call, with what is wrong with them, and what a call looks like."""
 
-    def __init__(self, text=""):
+    def __init__(self, text: str = "") -> None:
         super().__init__("\n".join(([f"ssim: {text}"] if text else []) + [USAGE]))
 
 
-def given(words, options):
+def given(words: Sequence[str], options: Options) -> Tuple[List[str], Dict[str, str]]:
     """Returns the plain words and the values of options."""
-    rest, found, words = [], {}, iter(words)
-    for word in words:
+    rest: List[str] = []
+    found: Dict[str, str] = {}
+    left = iter(words)
+    for word in left:
         name, has_value, value = word[2:].partition("=")
         if word == "--":
-            rest.extend(words)
+            rest.extend(left)
         elif not word.startswith("-") or word == "-":
             rest.append(word)
         elif not word.startswith("--") or name not in options:
@@ -67,15 +76,15 @@ def given(words, options):
         elif options[name] is None:
             if has_value:
                 raise Usage(f"--{name} takes no value")
-            found[name] = True
+            found[name] = name
         else:
-            found[name] = value if has_value else next(words, "")
+            found[name] = value if has_value else next(left, "")
             if not found[name]:
                 raise Usage(f"--{name} wants a value: {options[name]}")
     return rest, found
 
 
-def dates(found):
+def dates(found: Mapping[str, str]) -> Dates:
     """Returns the days that are asked for, by the one option that says them."""
     options = [it for it in DAYS if it in found]
     if len(options) != 1:
@@ -83,7 +92,7 @@ def dates(found):
     return Dates(day(options[0], found[options[0]]), DAYS[options[0]])
 
 
-def day(option, text):
+def day(option: str, text: str) -> int:
     """Returns the day of YYYY-MM-DD, within the century that schedule files know."""
     if re.fullmatch(r"20[0-9]{2}-[0-9]{2}-[0-9]{2}", text):
         try:
@@ -93,7 +102,7 @@ def day(option, text):
     raise Usage(f"--{option} {text}: a day as 2026-11-30 is wanted, of the years 2000 to 2099")
 
 
-def listed(found, name, form):
+def listed(found: Mapping[str, str], name: str, form: str) -> Optional[FrozenSet[str]]:
     """Returns the set of an option's values between commas, or None where it isn't given."""
     if name not in found:
         return None
@@ -107,7 +116,7 @@ def listed(found, name, form):
 class TablesCall:
     """A call of `tables`: its file, its folder, the days, the choice of legs and the caller's files."""
 
-    def __init__(self, words):
+    def __init__(self, words: Sequence[str]) -> None:
         rest, found = given(words, TABLES)
         if len(rest) != 2:
             raise Usage
@@ -127,7 +136,7 @@ class TablesCall:
 class PlanCall:
     """A call of `plan`: its file, its folder, the new file, and whether the whole season is changed."""
 
-    def __init__(self, words):
+    def __init__(self, words: Sequence[str]) -> None:
         rest, found = given(words, PLAN)
         if len(rest) != 3:
             raise Usage
@@ -135,9 +144,10 @@ class PlanCall:
         self.is_whole_season = "whole-season" in found
 
 
-def read_words(words):
+def read_words(words: Sequence[str]) -> Union[TablesCall, PlanCall]:
     """Returns the call that words are, or raises Usage."""
-    calls = {"tables": TablesCall, "plan": PlanCall}
-    if not words or words[0] not in calls:
-        raise Usage
-    return calls[words[0]](words[1:])
+    if words and words[0] == "tables":
+        return TablesCall(words[1:])
+    if words and words[0] == "plan":
+        return PlanCall(words[1:])
+    raise Usage

@@ -1,18 +1,25 @@
 """The changes of tables that a scenario tells in a few words each."""
 
+from __future__ import annotations
+
 import re
 from fractions import Fraction
+from typing import Callable, Dict, List, Optional, Sequence, Set, Tuple
 
 from fleetplan.errors import Unread
 from fleetplan.forms import MOST_AIRCRAFT, MOST_PARKED, TRILLION
+from fleetplan.records import Rows
 from fleetplan.tables import DATED, HEADERS
 from steps.flagged import FLAGGED
 
+# Of each file's name its records, and what changes them.
+Tables = Dict[str, Rows]
+Change = Callable[[Tables], None]
 # Where a record of a station has its limit, if it has one.
 PARKING = len(HEADERS["stations.csv"])
 
 
-def read_change(text):
+def read_change(text: str) -> Change:
     """Returns what a text changes, as a function on tables (of each file's name its records), or raises Unread."""
     name, *words = text.split() or [""]
     if name not in CHANGES:
@@ -24,14 +31,14 @@ def read_change(text):
     return found
 
 
-def aircraft(words):
+def aircraft(words: Sequence[str]) -> Optional[Change]:
     """Another number of aircraft: so many more or less, or just so many."""
     found = re.fullmatch(r"([A-Z0-9]{1,8}) ([+-]?)([0-9]{1,3})", " ".join(words))
     if not found:
         return None
     fleet, sign, number = found[1], found[2], int(found[3])
 
-    def change(tables):
+    def change(tables: Tables) -> None:
         row = record_of(tables, "fleets.csv", fleet)
         has = int(row[1])
         count = {"": number, "+": has + number, "-": has - number}[sign]
@@ -42,14 +49,14 @@ def aircraft(words):
     return change
 
 
-def cost(words):
+def cost(words: Sequence[str]) -> Optional[Change]:
     """All costs of a fleet times a factor."""
     found = re.fullmatch(r"([A-Z0-9]{1,8}) \*([0-9]{1,6}(?:\.[0-9]{1,6})?)", " ".join(words))
     if not found:
         return None
     fleet, factor = found[1], Fraction(found[2])
 
-    def change(tables):
+    def change(tables: Tables) -> None:
         record_of(tables, "fleets.csv", fleet)
         for row in tables["costs.csv"]:
             if row[1] == fleet:
@@ -61,26 +68,26 @@ def cost(words):
     return change
 
 
-def drop_leg(words):
+def drop_leg(words: Sequence[str]) -> Optional[Change]:
     """A leg that isn't flown, so that no cost and no through pair speaks of it."""
     if len(words) != 1:
         return None
     flight = words[0]
 
-    def change(tables):
+    def change(tables: Tables) -> None:
         record_of(tables, "legs.csv", flight)
         drop(tables, {flight})
 
     return change
 
 
-def parking(words):
+def parking(words: Sequence[str]) -> Optional[Change]:
     """Another limit of how many aircraft may stay at a station for a night, or `-` for any number."""
     if len(words) != 2 or not re.fullmatch("-|[0-9]{1,5}", words[1]):
         return None
     station, limit = words
 
-    def change(tables):
+    def change(tables: Tables) -> None:
         if limit != "-" and int(limit) > MOST_PARKED:
             raise Unread(f"{station} would have room for {limit} aircraft, and a limit is {MOST_PARKED} at most")
         row = record_of(tables, "stations.csv", station)
@@ -91,13 +98,13 @@ def parking(words):
     return change
 
 
-def only_day(words):
+def only_day(words: Sequence[str]) -> Optional[Change]:
     """The legs of one day of a period alone, as a schedule of one day."""
     if len(words) != 1 or not re.fullmatch("[1-7]", words[0]):
         return None
     day = int(words[0])
 
-    def change(tables):
+    def change(tables: Tables) -> None:
         legs = tables["legs.csv"]
         if any(len(it) != len(DATED) for it in legs):
             raise Unread("legs.csv tells no day of its flights")
@@ -108,29 +115,29 @@ def only_day(words):
     return change
 
 
-def window(words):
+def window(words: Sequence[str]) -> Optional[Change]:
     """A leg that may depart so many minutes later, or earlier, for so much more."""
     return record_more("windows.csv", words, ("-?[0-9]{1,3}", "-?[0-9]{1,13}"))
 
 
-def optional(words):
+def optional(words: Sequence[str]) -> Optional[Change]:
     """A leg that may be left out, for so much."""
     return record_more("optional.csv", words, ("-?[0-9]{1,13}",))
 
 
-def record_more(name, words, forms):
+def record_more(name: str, words: Sequence[str], forms: Tuple[str, ...]) -> Optional[Change]:
     """Returns what adds a record of a leg, with numbers of these forms, to a table that may not stand there yet."""
     if len(words) != 1 + len(forms) or not all(re.fullmatch(form, it) for form, it in zip(forms, words[1:])):
         return None
 
-    def change(tables):
+    def change(tables: Tables) -> None:
         record_of(tables, "legs.csv", words[0])
-        tables.setdefault(name, []).append(words)
+        tables.setdefault(name, []).append(list(words))
 
     return change
 
 
-def drop(tables, flights):
+def drop(tables: Tables, flights: Set[str]) -> None:
     """Takes flights away, with all that speaks of them."""
     for name in {"legs.csv", "costs.csv", *FLAGGED.values()} & set(tables):
         tables[name][:] = [it for it in tables[name] if it[0] not in flights]
@@ -151,14 +158,14 @@ CHANGES = {
 FLAG_OF = {"window": "--windows", "optional": "--optional"}
 
 
-def times(price, factor):
+def times(price: int, factor: Fraction) -> int:
     """Returns a cost times a factor, as the nearest whole number, and of two as near the one further from 0."""
     count, rest = divmod(abs(price) * factor.numerator, factor.denominator)
     count += 2 * rest >= factor.denominator
     return count if price >= 0 else -count
 
 
-def record_of(tables, name, key):
+def record_of(tables: Tables, name: str, key: str) -> List[str]:
     """Returns the record of a station, a fleet or a flight, or raises Unread."""
     found = next((it for it in tables[name] if it[0] == key), None)
     if found is None:

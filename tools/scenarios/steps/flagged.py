@@ -1,6 +1,9 @@
 """The tables that a call reads only where a flag of it says so, and what a plan makes of them."""
 
+from __future__ import annotations
+
 import os
+from typing import List, Optional, Sequence, Tuple
 
 from fleetplan.records import table_of
 from fleetplan.tables import ASKED, HEADERS, NO_FLEET, SHIFTED, TABLES
@@ -9,17 +12,17 @@ from fleetplan.tables import ASKED, HEADERS, NO_FLEET, SHIFTED, TABLES
 FLAGGED = {f"--{option}": name for option, name in ASKED.items()}
 
 
-def flags_of(folder):
+def flags_of(folder: str) -> List[str]:
     """Returns the flags by which a folder's tables are read, where it holds no table that isn't to be read."""
     return [flag for flag, name in FLAGGED.items() if os.path.lexists(os.path.join(folder, name))]
 
 
-def tables_in(folder):
+def tables_in(folder: str) -> List[str]:
     """Returns the names of the tables that stand in a folder of a scenario."""
     return [*TABLES, *(FLAGGED[it] for it in flags_of(folder))]
 
 
-def moved_and_left_out(folder, words):
+def moved_and_left_out(folder: str, words: Sequence[str]) -> Tuple[Optional[int], Optional[int]]:
     """Returns how many legs of a folder's plan depart at another time than their own, and how many it leaves out; None of each where
     the words of the call don't let it."""
     if not FLAGGED.keys() & set(words):

@@ -1,15 +1,18 @@
 """The tables of a scenario: those of the base with the scenario's own laid over them, judged to read, and changed."""
 
+from __future__ import annotations
+
 import os
 import shutil
+from typing import Dict, Optional, Sequence
 
 from fleetplan.errors import Unread
 from fleetplan.files import write
-from fleetplan.records import table_of, text_of
-from fleetplan.tables import HEADERS, LIMITED, headers_of
+from fleetplan.records import Rows, table_of, text_of
+from fleetplan.tables import HEADERS, LIMITED, Header, headers_of
 from steps.changes import read_change
 from steps.flagged import flags_of, tables_in
-from steps.running import Fault, run
+from steps.running import Fault, Limits, run
 from steps.whole import folder
 
 # Either stands beside tables that can't be solved, and says why: since they are refused, or by a fault at the last try.
@@ -18,7 +21,7 @@ REFUSED, FAULT = "refused.txt", "fault.txt"
 REFUSALS = (2, 6)
 
 
-def lay(program, files, texts, period, place, limits, is_last):
+def lay(program: str, files: Sequence[str], texts: Sequence[str], period: str, place: str, limits: Limits, is_last: bool) -> None:
     """Makes the folder of the tables, from these files and with these changes. Before they are changed they repeat after `period` days,
     a word of the call."""
     with folder(place) as beside:
@@ -35,7 +38,7 @@ def lay(program, files, texts, period, place, limits, is_last):
             write(os.path.join(beside, REFUSED), refusal)
 
 
-def refused(program, folder, period, limits):
+def refused(program: str, folder: str, period: str, limits: Limits) -> Optional[str]:
     """Returns why the program refuses the tables of a folder or the period, or None where they read. It judges an empty plan, of which
     it tells a fault only where all tables read."""
     plan = os.path.join(folder, "plan.csv")
@@ -45,7 +48,7 @@ def refused(program, folder, period, limits):
     return ran.told if ran.status in REFUSALS else None
 
 
-def changed(folder, texts):
+def changed(folder: str, texts: Sequence[str]) -> Optional[str]:
     """Changes the tables of a folder, and returns why that can't be done, or None."""
     if not texts:
         return None

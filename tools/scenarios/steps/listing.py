@@ -1,8 +1,11 @@
 """The scenarios of a run, as the records of scenarios.csv tell them."""
 
+from __future__ import annotations
+
 import os
 import re
 import shlex
+from typing import Dict, List, Optional, Sequence
 
 from fleetplan.errors import Unread
 from fleetplan.records import records_of
@@ -18,32 +21,32 @@ NAME = re.compile(r"[A-Za-z0-9][A-Za-z0-9_.+-]{0,63}")
 class Scenario:
     """A scenario: its name, the words for `solve`, the folder that is laid over the base (None: none), and the texts of its changes."""
 
-    def __init__(self, name, words, folder, changes):
+    def __init__(self, name: str, words: List[str], folder: Optional[str], changes: List[str]) -> None:
         self.name, self.words, self.folder, self.changes = name, words, folder, changes
 
-    def files(self, base):
+    def files(self, base: str) -> List[str]:
         """Returns the files that its tables come from: those of its own folder, and for the others those of the base."""
         return [self.own(it) or os.path.join(base, it) for it in (*TABLES, *self.flagged(base))]
 
-    def flagged(self, base):
+    def flagged(self, base: str) -> List[str]:
         """Returns the tables that its words want beside the five, but those that its changes alone fill."""
         filled = {FLAG_OF.get(it.split()[0]) for it in self.changes}
         wanted = ((flag, name) for flag, name in FLAGGED.items() if flag in self.words)
         return [name for flag, name in wanted if flag not in filled or self.own(name) or os.path.lexists(os.path.join(base, name))]
 
     @property
-    def period(self):
+    def period(self) -> str:
         """After how many days the schedule repeats before it is changed: as the words say, whatever stands there, or 7 at most where
         a day alone is wanted."""
         return str(MOST_DAYS) if is_one_day(self.changes) else period_in(self.words) or "1"
 
-    def own(self, table):
+    def own(self, table: str) -> Optional[str]:
         """Returns the path of a table in its own folder, or None where none stands there."""
         path = self.folder and os.path.join(self.folder, table)
         return path if path and os.path.lexists(path) else None
 
 
-def scenarios_of(path):
+def scenarios_of(path: str) -> Dict[str, Scenario]:
     """Returns the scenarios of a file by their names, in its order, or raises Unread with the record that is wrong."""
     found = {}
     for record in records_of(path):
@@ -63,7 +66,7 @@ def scenarios_of(path):
     return found
 
 
-def scenario_of(fields, beside):
+def scenario_of(fields: Sequence[str], beside: str) -> Scenario:
     """Returns the scenario of a record. Its folder counts from the file's own one."""
     if len(fields) != len(HEADER):
         raise Unread(f"it has {len(fields)} fields, it should have {len(HEADER)}")
@@ -82,23 +85,23 @@ def scenario_of(fields, beside):
     return Scenario(name, with_flags(words_of(words), texts), place, texts)
 
 
-def is_one_day(texts):
+def is_one_day(texts: Sequence[str]) -> bool:
     """Returns whether changes leave the flights of one day alone."""
     return any(it.startswith("only-day ") for it in texts)
 
 
-def period_in(words):
+def period_in(words: Sequence[str]) -> Optional[str]:
     """Returns the text of the period that the words of a call give, or None."""
     return Call(["solve", ".", *words]).given.get("period", (None, 0))[0]
 
 
-def with_flags(words, texts):
+def with_flags(words: Sequence[str], texts: Sequence[str]) -> List[str]:
     """Returns the words of a call with the flags that changes bring."""
     brought = dict.fromkeys(FLAG_OF[it.split()[0]] for it in texts if it.split()[0] in FLAG_OF)
     return [*words, *(it for it in brought if it not in words)]
 
 
-def words_of(text):
+def words_of(text: str) -> List[str]:
     """Returns the words of a call, as a shell reads them."""
     try:
         return shlex.split(text)

@@ -1,5 +1,9 @@
 """The rows of the summary, and its columns."""
 
+from __future__ import annotations
+
+from typing import Any, Dict, List, Mapping, Optional, Sequence
+
 from steps.sizes import bound_in
 
 UNSOLVED, UNPROVED = "NOT SOLVED", "NOT PROVED"
@@ -13,61 +17,74 @@ class Row:
     step behind the check failed; `moved` and `left_out`, how many legs depart at another time and aren't flown, None where none may;
     seconds of the processor and the most memory in kB, None where it wasn't solved."""
 
-    def __init__(self, name, outcome, told="", check="", solved=None):
+    def __init__(self, name: str, outcome: str, told: str = "", check: str = "", solved: Optional[Mapping[str, Any]] = None) -> None:
         self.name, self.outcome, self.told, self.check, self.solved = name, outcome, told, check, solved
-        self.seconds = self.memory = self.moved = self.left_out = None
-        self.asked, self.is_whole = {}, True
+        self.seconds: Optional[float] = None
+        self.memory: Optional[int] = None
+        self.moved: Optional[int] = None
+        self.left_out: Optional[int] = None
+        self.asked: Dict[str, Dict[str, str]] = {}
+        self.is_whole = True
 
     @property
-    def is_sound(self):
+    def is_sound(self) -> bool:
+        """Whether it was solved, and its proof holds."""
         return self.outcome not in (UNSOLVED, UNPROVED)
 
     @property
-    def cost(self):
+    def cost(self) -> Optional[int]:
         """What the plan costs, or None."""
         return int(self.solved["cost"]) if self.solved and self.solved["cost"] is not None else None
 
     @property
-    def bound(self):
+    def price(self) -> int:
+        """The same of a scenario that has a plan."""
+        return self.cost or 0
+
+    @property
+    def bound(self) -> Optional[int]:
+        """What no plan costs less than, or None."""
         return int(self.solved["bound"]) if self.solved and self.solved["bound"] is not None else None
 
     @property
-    def gap(self):
+    def gap(self) -> Optional[int]:
+        """How far these are apart, or None."""
         return None if self.cost is None or self.bound is None else self.cost - self.bound
 
     @property
-    def used(self):
+    def used(self) -> Dict[str, int]:
         """How many aircraft of each fleet the plan uses."""
         return {it["name"]: it["used"] for it in self.solved["fleets"]} if self.solved else {}
 
     @property
-    def numbers(self):
+    def numbers(self) -> Dict[str, Optional[int]]:
         """Its numbers by the names of their columns, None where there is none."""
         splits = self.solved["splits"] if self.solved else None
         flagged = {"moved": self.moved, "left out": self.left_out}
         used = {f"used {fleet}": number for fleet, number in self.used.items()}
         return {"cost": self.cost, "bound": self.bound, "gap": self.gap, "splits": splits, **flagged, **used}
 
-    def add_fault(self, text):
+    def add_fault(self, text: str) -> None:
         """Notes a step that failed behind the check."""
         self.told, self.is_whole = f"{self.told}; {text}" if self.told else text, False
 
-    def bound_with(self, change, fleet):
+    def bound_with(self, change: str, fleet: str) -> str:
         """What the proof says of one aircraft less or more of a fleet, or an empty text."""
         return bound_in(self.asked.get(fleet, {}).get(change, ""))
 
     @property
-    def rotations(self):
+    def rotations(self) -> str:
+        """What became of each fleet's rotation."""
         fleets = [it["name"] for it in self.solved["fleets"]] if self.solved else []
         return "; ".join(f"{fleet} {told}" for fleet, told in zip(fleets, self.solved["rotations"] if self.solved else []))
 
 
-def columns_of(rows):
+def columns_of(rows: Sequence[Row]) -> List[str]:
     """Returns the names of the columns of numbers."""
     names = dict.fromkeys(name for it in rows for name in it.numbers)
     return [name for name in names if name in ALWAYS or any(it.numbers.get(name) is not None for it in rows)]
 
 
-def asked_of(rows):
+def asked_of(rows: Sequence[Row]) -> List[str]:
     """Returns the fleets of which the proofs were asked about another number of aircraft."""
     return list(dict.fromkeys(fleet for it in rows for fleet in it.asked))

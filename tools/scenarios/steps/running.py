@@ -1,9 +1,12 @@
 """Runs of the program within the memory and the time that are given to them, with what they took."""
 
+from __future__ import annotations
+
 import os
 import shutil
 import subprocess
 import tempfile
+from typing import List, Sequence
 
 # What the program ends with where it answers; all else is a fault of the machine, which another try may not meet.
 ANSWERS = (0, 2, 3, 4, 5, 6, 9, 11)
@@ -19,22 +22,23 @@ class Fault(Exception):
 class Limits:
     """What a run may take: memory in MB and minutes of the processor."""
 
-    def __init__(self, memory, minutes):
+    def __init__(self, memory: int, minutes: int) -> None:
         self.memory, self.minutes = memory, minutes
 
     @property
-    def words(self):
+    def words(self) -> List[str]:
+        """The words that run a command within these."""
         return ["sh", "-c", WITHIN, "sh", str(self.memory * 1024), str(self.minutes * 60)]
 
 
 class Ran:
     """A run that answered: its status, what it printed, seconds of the processor, and the most memory held, in kB."""
 
-    def __init__(self, status, told, seconds, memory):
+    def __init__(self, status: int, told: str, seconds: float, memory: int) -> None:
         self.status, self.told, self.seconds, self.memory = status, told, seconds, memory
 
 
-def run(program, words, limits):
+def run(program: str, words: Sequence[str], limits: Limits) -> Ran:
     """Runs the program, or raises Fault where it gives no answer: by status 7 or 8, a signal, or since it couldn't be run."""
     timer = shutil.which("time")
     if timer is None:
@@ -49,7 +53,7 @@ def run(program, words, limits):
     return Ran(ran.returncode, ran.stdout.decode("utf-8", "replace").rstrip("\n"), float(user) + float(system), int(memory))
 
 
-def why(ran):
+def why(ran: subprocess.CompletedProcess[bytes]) -> str:
     """Says what a run died of."""
     told = ran.stdout.decode("utf-8", "replace").strip()
     return told or WHY.get(ran.returncode, "it was killed" if ran.returncode > 128 or ran.returncode < 0 else "it couldn't be run")

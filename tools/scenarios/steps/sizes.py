@@ -1,18 +1,21 @@
 """What the proof of a scenario says of one aircraft less and of one more, fleet by fleet. Nothing is solved."""
 
+from __future__ import annotations
+
 import os
 import re
+from typing import Dict, List, Sequence, Tuple
 
 from fleetplan.forms import MOST_AIRCRAFT
 from fleetplan.records import records_of
-from steps.running import run
+from steps.running import Limits, run
 from steps.solving import ANSWER, answer_or_fault, read_json, write_json
 
 CHANGES = {"less": -1, "more": 1}
 BOUND = re.compile(r"whatif \S+ \d+: (?:bound (-?\d+)|(infeasible))")
 
 
-def ask(program, solved, place, limits, is_last):
+def ask(program: str, solved: str, place: str, limits: Limits, is_last: bool) -> None:
     """Asks the proof that stands in a folder, and notes what it says."""
     answer = read_json(os.path.join(solved, ANSWER))
     asked = {}
@@ -21,9 +24,9 @@ def ask(program, solved, place, limits, is_last):
     write_json(place, asked)
 
 
-def asked_of(program, solved, reading, limits):
+def asked_of(program: str, solved: str, reading: Sequence[str], limits: Limits) -> List[List[object]]:
     """Returns, fleet by fleet in their order, what the program says of each number of aircraft that it may have."""
-    asked = []
+    asked: List[List[object]] = []
     for fleet, aircraft in fleets_of(solved):
         told = {}
         for name, change in CHANGES.items():
@@ -33,13 +36,13 @@ def asked_of(program, solved, reading, limits):
     return asked
 
 
-def fleets_of(folder):
+def fleets_of(folder: str) -> List[Tuple[str, int]]:
     """Returns each fleet of a folder with its number of aircraft."""
     rows = [it.texts for it in records_of(os.path.join(folder, "fleets.csv")) if it.number > 1]
     return [(fleet, int(aircraft)) for fleet, aircraft, _ in rows]
 
 
-def bound_in(told):
+def bound_in(told: str) -> str:
     """Returns the bound that was told, or `infeasible`; nothing where the proof says nothing of that number."""
     found = BOUND.fullmatch(told)
     return (found[1] or found[2]) if found else ""

@@ -1,11 +1,14 @@
 """The solution of a scenario, the check of it in a process of its own, and its picture."""
 
+from __future__ import annotations
+
 import hashlib
 import json
 import os
 import shutil
 import subprocess
 import sys
+from typing import Any, Callable, Dict, Optional, Sequence
 
 from fleetplan.files import remove, write
 from fleetplan.program import TOP
@@ -13,9 +16,11 @@ from fleetplan.tables import TABLES
 from fleetplan.words import Call
 from steps.flagged import FLAGGED, tables_in
 from steps.laying import FAULT, REFUSED
-from steps.running import Fault, run
+from steps.running import Fault, Limits, run
 from steps.whole import folder
 
+# What a file of an answer holds.
+Answer = Dict[str, Any]
 ANSWER = "answer.json"
 # Beside the folder of the solution: what is written of it.
 CHECK, SIZES, DRAWN = "check.json", "sizes.json", "drawn"
@@ -24,7 +29,7 @@ CLAIMED = (*TABLES, *FLAGGED.values(), "plan.csv", "proof.txt")
 PROVED = (0, 3, 4, 5)
 
 
-def solve(program, tables, words, place, limits, is_last):
+def solve(program: str, tables: str, words: Sequence[str], place: str, limits: Limits, is_last: bool) -> None:
     """Makes the folder of the solution: the tables, what `solve` writes, and its answer, which may be a fault at the last try. What was
     written of an earlier solution goes, also where it isn't wanted any more."""
     for it in (CHECK, SIZES, DRAWN):
@@ -36,7 +41,7 @@ def solve(program, tables, words, place, limits, is_last):
         write_json(os.path.join(beside, ANSWER), answer)
 
 
-def refusal_of(tables):
+def refusal_of(tables: str) -> Optional[Answer]:
     """Returns the answer where tables can't be solved, or None."""
     fault, refusal = (text_in(os.path.join(tables, it)) for it in (FAULT, REFUSED))
     if fault:
@@ -44,7 +49,7 @@ def refusal_of(tables):
     return {"told": refusal, "seconds": 0, "memory": 0} if refusal else None
 
 
-def text_in(path):
+def text_in(path: str) -> Optional[str]:
     """Returns the text of a file, or None where none stands there."""
     if not os.path.exists(path):
         return None
@@ -52,7 +57,7 @@ def text_in(path):
         return it.read()
 
 
-def answer_of(program, place, words, limits):
+def answer_of(program: str, place: str, words: Sequence[str], limits: Limits) -> Answer:
     """Returns the answer of `solve` in a folder, with the words by which its tables are read."""
     call = Call(["solve", place, *words])
     as_json = [] if "json" in call.given else ["--json"]
@@ -64,7 +69,7 @@ def answer_of(program, place, words, limits):
     return answer
 
 
-def check(program, solved, place, limits, is_last):
+def check(program: str, solved: str, place: str, limits: Limits, is_last: bool) -> None:
     """Has the program check the proof that stands in a folder, and notes what it says, and of which files."""
     answer = read_json(os.path.join(solved, ANSWER))
     checked = {}
@@ -73,13 +78,14 @@ def check(program, solved, place, limits, is_last):
     write_json(place, checked)
 
 
-def checked_of(program, solved, reading, limits):
+def checked_of(program: str, solved: str, reading: Sequence[str], limits: Limits) -> Answer:
+    """Returns what a check of a folder's proof says, and of which files."""
     sums = sums_of(solved)
     ran = run(program, ["check", *reading, solved], limits)
     return {"told": ran.told, "seconds": ran.seconds, "memory": ran.memory, "sums": sums}
 
 
-def answer_or_fault(call, is_last):
+def answer_or_fault(call: Callable[[], Answer], is_last: bool) -> Answer:
     """Returns what a call answers. At the last try a fault is an answer."""
     try:
         return call()
@@ -89,7 +95,7 @@ def answer_or_fault(call, is_last):
         return {"fault": str(error)}
 
 
-def sums_of(place):
+def sums_of(place: str) -> Dict[str, str]:
     """Returns the sums of the files that a check reads, of those that stand there."""
     found = {}
     for name in CLAIMED:
@@ -100,7 +106,7 @@ def sums_of(place):
     return found
 
 
-def draw(solved, name, place, is_last):
+def draw(solved: str, name: str, place: str, is_last: bool) -> None:
     """Makes the folder of the picture, which stays empty where there is no plan."""
     answer = read_json(os.path.join(solved, ANSWER))
     with folder(place) as beside:
@@ -122,10 +128,13 @@ def draw(solved, name, place, is_last):
         shutil.rmtree(own)
 
 
-def read_json(path):
+def read_json(path: str) -> Answer:
+    """Returns the answer that a file holds."""
     with open(path, encoding="utf-8") as it:
-        return json.load(it)
+        answer: Answer = json.load(it)
+        return answer
 
 
-def write_json(path, value):
+def write_json(path: str, value: Answer) -> None:
+    """Writes an answer."""
     write(path, json.dumps(value, sort_keys=True) + "\n")

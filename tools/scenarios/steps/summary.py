@@ -1,8 +1,11 @@
 """The summary of all scenarios, of which those that aren't proved come first."""
 
+from __future__ import annotations
+
 import os
 import sys
 from collections import Counter
+from typing import Any, List, Mapping, Optional, Sequence
 
 from fleetplan.files import remove, write
 from fleetplan.records import text_of as table_text
@@ -11,14 +14,14 @@ from steps.laying import FAULT
 from steps.page import page
 from steps.rows import UNPROVED, UNSOLVED, Row, asked_of, columns_of
 from steps.sizes import CHANGES
-from steps.solving import ANSWER, CHECK, DRAWN, SIZES, read_json, sums_of, text_in
+from steps.solving import ANSWER, CHECK, DRAWN, SIZES, Answer, read_json, sums_of, text_in
 
 REFUSED = "refused"
 RULE = "*" * 78
 MOST_TOLD = 20
 
 
-def row_of(name, folder):
+def row_of(name: str, folder: str) -> Row:
     """Returns the row of a scenario by what stands in its folder."""
     solved = os.path.join(folder, "solved")
     answer = answer_in(os.path.join(solved, ANSWER))
@@ -43,7 +46,7 @@ def row_of(name, folder):
     return row
 
 
-def add_asked(row, path):
+def add_asked(row: Row, path: str) -> None:
     """Notes what the proof of a scenario says of other numbers of aircraft, where it was asked."""
     answer = read_json(path) if os.path.exists(path) else {}
     row.asked = dict(answer.get("asked", []))
@@ -51,12 +54,12 @@ def add_asked(row, path):
         row.add_fault(f"other numbers of aircraft weren't asked: {answer['fault']}")
 
 
-def answer_in(path):
+def answer_in(path: str) -> Answer:
     """Returns the answer that stands in a file, or a fault where there is none."""
     return read_json(path) if os.path.exists(path) else {"fault": "a step failed: the log says which and why"}
 
 
-def wrong_with(solved, check, folder):
+def wrong_with(solved: Mapping[str, Any], check: Answer, folder: str) -> Optional[str]:
     """Returns why an answer isn't proved, or None."""
     if "fault" in check:
         return f"it wasn't checked: {check['fault']}"
@@ -69,7 +72,7 @@ def wrong_with(solved, check, folder):
     return f"changed after the check: {', '.join(changed)} of {folder}" if changed else None
 
 
-def claim(solved):
+def claim(solved: Mapping[str, Any]) -> str:
     """Returns what a check has to say of an answer."""
     if solved["outcome"] == "infeasible":
         return "holds: infeasible"
@@ -77,7 +80,7 @@ def claim(solved):
     return f"holds: {cost}bound {solved['bound']}"
 
 
-def text_of(rows):
+def text_of(rows: Sequence[Row]) -> str:
     """Returns the summary as a table."""
     names = columns_of(rows)
     asked = [(change, fleet) for fleet in asked_of(rows) for change in CHANGES]
@@ -87,13 +90,13 @@ def text_of(rows):
     for it in rows:
         numbers = [it.numbers.get(name) for name in names]
         bounds = [it.bound_with(change, fleet) for change, fleet in asked]
-        took = ["", ""] if it.seconds is None else [f"{it.seconds:.2f}", f"{it.memory / 1000:.1f}"]
+        took = ["", ""] if it.seconds is None or it.memory is None else [f"{it.seconds:.2f}", f"{it.memory / 1000:.1f}"]
         shown = ("" if at is None else at for at in numbers)
         records.append([it.name, it.outcome, *shown, *bounds, it.rotations, it.check, it.told, *took])
     return table_text(tuple(head), records)
 
 
-def summarize(names, folder):
+def summarize(names: Sequence[str], folder: str) -> bool:
     """Writes the summary of the scenarios, and returns whether each was solved, each proof holds, and no step failed."""
     rows = [row_of(it, os.path.join(folder, it)) for it in names]
     rows.sort(key=lambda it: it.is_sound)
@@ -109,7 +112,7 @@ def summarize(names, folder):
     return not unsound and not partial
 
 
-def forget_faults(folder):
+def forget_faults(folder: str) -> None:
     """Takes away what a fault has left, so that the next run does it again. Where there is no solution nothing of it may stay: the
     engine looks for the last outputs alone."""
     has_fault = {"tables": has_text, "solved": has_no_answer, CHECK: is_fault, SIZES: is_fault, DRAWN: has_text}
@@ -119,25 +122,28 @@ def forget_faults(folder):
         remove(places[name])
 
 
-def has_text(folder):
+def has_text(folder: str) -> bool:
+    """Returns whether a folder tells a fault."""
     return os.path.exists(os.path.join(folder, FAULT))
 
 
-def has_no_answer(folder):
+def has_no_answer(folder: str) -> bool:
+    """Returns whether the answer in a folder is a fault."""
     return is_fault(os.path.join(folder, ANSWER))
 
 
-def is_fault(path):
+def is_fault(path: str) -> bool:
+    """Returns whether the answer in a file is a fault."""
     return "fault" in answer_in(path)
 
 
-def warning(unsound):
+def warning(unsound: Sequence[Row]) -> str:
     """Returns what can't be overlooked."""
     told = listed(unsound)
     return "\n".join([RULE, f"DON'T RELY ON {len(unsound)} OF THE SCENARIOS:", *told, "They stand first in summary.csv.", RULE])
 
 
-def listed(rows):
+def listed(rows: Sequence[Row]) -> List[str]:
     """Returns a line of each scenario, of the first ones where there are many."""
     told = [f"  {it.name}: {it.outcome}, {it.told}{f' ({it.check})' if it.check else ''}" for it in rows[:MOST_TOLD]]
     return [*told, f"  and {len(rows) - MOST_TOLD} more"] if len(rows) > MOST_TOLD else told
