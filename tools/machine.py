@@ -1,4 +1,4 @@
-"""What the machine has for a call: processors, and memory that is free."""
+"""What the machine has for a call: processors, and memory that is free, and what rt is told of it."""
 
 import contextlib
 import os
@@ -32,3 +32,10 @@ def free_gigabytes() -> float:
         limit = int(MEMORY_LIMIT.read_text(encoding="utf-8"))
         free = min(free, limit - numbers_in(MEMORY_HELD)["anon"])
     return free / 1e9
+
+
+def give_lanes(gigabytes: float) -> None:
+    """Sets RT_JOBS to the number of processors where so much memory is free for each of them, so that rt keeps all of them busy. One that is
+    set stays."""
+    if processors() * gigabytes <= free_gigabytes():
+        os.environ.setdefault("RT_JOBS", str(processors()))

@@ -8,7 +8,7 @@ from typing import Dict, NamedTuple, Tuple
 from gate_tests.scratch import TOP, Ended, lay, lay_command, run, scratch
 from gate_tests.tally import Tally
 
-SCRIPTS = ("promises", "documents", "gate", "examples", "terminal", "ssim", "scenarios")
+SCRIPTS = ("promises", "documents", "gate", "release", "examples", "terminal", "ssim", "scenarios")
 LEAST = "# what is wanted\n" + "".join(f"{name} 3\n" for name in ("rt", *SCRIPTS))
 SUM = f"{4 + 3 * len(SCRIPTS)} passed, 0 failed"
 # A command that ends by a signal.
@@ -57,15 +57,15 @@ LEASTS = {
     "lacks a part": LEAST.replace("ssim 3\n", ""),
     "names one part more": f"{LEAST}more 3\n",
     "has no number": LEAST.replace("ssim 3", "ssim"),
-    "wants nothing": LEAST.replace("ssim 3", "ssim 0"),
+    "has a number below 0": LEAST.replace("ssim 3", "ssim -1"),
     "is empty": "",
 }
 
 
 def lay_out(top: Path) -> None:
     """Lays a repository in which each part passes."""
-    lay(top, {".ci/least": LEAST})
-    (top / "tools").mkdir()
+    lay(top, {".ci/least": LEAST, "crates.txt": "fleetplan:\n"})
+    shutil.copytree(TOP / "tools" / "fleetplan", top / "tools" / "fleetplan", ignore=shutil.ignore_patterns("__pycache__"))
     for file in (".ci/run", ".ci/parts", "tools/machine.py"):
         shutil.copy2(TOP / file, top / file)
     lay_part(top, "rt", says("NAME4 passed, 0 failed"))
@@ -150,9 +150,9 @@ def try_places(tally: Tally, top: Path) -> None:
     called(top)
     # No file can be written, as on a full disk: what is counted doesn't hang on one.
     lay_command(top / ".ci" / "ssim", f"#!/bin/sh\n{says('ssim: 9 passed, 2 failed')}\n")
-    for name in ("rt", "promises", "documents", "gate", "examples", "terminal", "scenarios"):
-        file = top / "bin" / "rt" if name == "rt" else top / ".ci" / name
-        lay_command(file, f"#!/bin/sh\n{says('4 passed, 0 failed' if name == 'rt' else f'{name}: 3 passed, 0 failed')}\n")
+    lay_command(top / "bin" / "rt", f"#!/bin/sh\n{says('4 passed, 0 failed')}\n")
+    for name in (it for it in SCRIPTS if it != "ssim"):
+        lay_command(top / ".ci" / name, f"#!/bin/sh\n{says(f'{name}: 3 passed, 0 failed')}\n")
     ended = run(top, "sh", "-c", "ulimit -f 0; .ci/run | cat; exit 0", PATH=path)
     tally.equal(".ci/run with a full disk", f"{ALL_BUT_ONE + 9} passed, 2 failed", end_of(ended)[0])
     ended = run(top, "sh", "-c", "ulimit -f 0; .ci/run > /dev/null", PATH=path)
@@ -172,10 +172,11 @@ def try_words(tally: Tally, top: Path) -> None:
 
 def try_jobs(tally: Tally, top: Path) -> None:
     """Wants RT_JOBS to be the number of the processors where there is memory for each, and else to be left to rt. One that is set stays."""
-    machine = "def processors():\n    return 3\n\n\ndef free_gigabytes():\n    return {}\n"
+    machine = (TOP / "tools" / "machine.py").read_text(encoding="utf-8")
+    has = "\n\ndef processors():\n    return 3\n\n\ndef free_gigabytes():\n    return {}\n"
     environment = {name: value for name, value in os.environ.items() if name != "RT_JOBS"}
     for free, given, wanted in ((16.5, None, "3"), (16.4, None, ""), (16.5, "2", "2"), (16.4, "2", "2")):
-        lay(top, {"tools/machine.py": machine.format(free)})
+        lay(top, {"tools/machine.py": machine + has.format(free)})
         names = {**environment, "PATH": f"{top / 'bin'}{os.pathsep}{os.environ['PATH']}"}
         words = ["env", "-u", "RT_JOBS", *([f"RT_JOBS={given}"] if given else []), ".ci/run"]
         run(top, *words, **names)
