@@ -2,7 +2,7 @@ ghost use Rattle.std.specs.Int.{IsInRange};
 ghost use Rattle.jiff_core.specs.Calendar.{IsYear, days_in_month};
 
 /// A date of the calendar, of the years -9999 to 9999.
-#[derive(Clone, Copy, Debug, PartialEq, Eq)]
+#[derive(Clone, Copy)]
 pub struct Date {
     pub year: i16,
     pub month: u8,

@@ -1,1 +1,17 @@
+pub mod AfterDashes
+pub mod Entered
+pub mod Fails
+pub mod Flags
+pub mod GivenRows
+pub mod Match
 pub mod Numbers
+pub mod OtherWords
+pub mod OwnOptions
+pub mod Parts
+pub mod PlainDue
+pub mod PlainFolder
+pub mod PlainMake
+pub mod PlainTails
+pub mod PlainWhatIf
+pub mod PlainWords
+pub mod Twice

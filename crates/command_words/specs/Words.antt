@@ -6,7 +6,7 @@ use Rattle.fleet_model.specs.Limits.{AreSettings}
 use Rattle.fleet_model.specs.declared.limits.TheConstants.{MAX_AIRCRAFT}
 use Rattle.fleet_model.specs.declared.options.TableOptions.{TableOptions}
 use Rattle.command_words.specs.Arguments.{AreDates, AreOptions, AreRotationLimits, AskedDates, CanBeAsked, aircraft_in, dates_in, dir_in, fleet_in, legs_in, number_in, options_in, reading_in, rotations_in}
-use Rattle.command_line.specs.Found.{found}
+use Rattle.command_words.specs.Found.{found}
 use Rattle.command_words.specs.declared.command.Command.{Command}
 use Rattle.command_words.specs.declared.command.Command.TheVariants as command
 use Rattle.command_words.specs.declared.command.Dates.{Dates}

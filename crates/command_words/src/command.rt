@@ -1,6 +1,6 @@
+use calendar_dates::Date;
 use fleet_model::limits::MINUTES_PER_DAY;
 use fleet_model::{Settings, TableOptions};
-use jiff::civil::Date;
 
 /// The clock minute at which the day starts where no option sets it: 03:00.
 pub const DEFAULT_DAY_START: u16 = 180;
@@ -60,7 +60,7 @@ pub const MAX_NUMBER: u32 = 2_147_483_647;
 pub const MAX_MADE_LEGS: u32 = 1000;
 
 /// How much a search may do.
-#[derive(Clone, Copy, Debug, PartialEq, Eq)]
+#[derive(Clone, Copy)]
 pub struct SearchLimits {
     /// The most splits of its tree.
     pub nodes: u64,
@@ -69,7 +69,7 @@ pub struct SearchLimits {
 }
 
 /// What a fleet's rotation has to keep, and how long one is searched for.
-#[derive(Clone, Copy, Debug, PartialEq, Eq)]
+#[derive(Clone, Copy)]
 pub struct RotationLimits {
     /// The most days after which an aircraft comes to maintenance.
     pub days: u32,
@@ -78,7 +78,7 @@ pub struct RotationLimits {
 }
 
 /// How a plan is searched for, and how its summary is printed.
-#[derive(Clone, Copy, Debug, PartialEq, Eq)]
+#[derive(Clone, Copy)]
 pub struct SolveOptions {
     /// How much the search for the plan may do.
     pub search: SearchLimits,
@@ -113,7 +113,7 @@ pub const DEFAULT_OPTIONS: SolveOptions = SolveOptions {
 };
 
 /// Dates one after the other.
-#[derive(Clone, Copy, Debug, PartialEq, Eq)]
+#[derive(Clone, Copy)]
 pub struct Dates {
     /// The first of them.
     pub first: Date,
@@ -122,7 +122,7 @@ pub struct Dates {
 }
 
 /// What a call asks for. The folder's name is one of the words.
-#[derive(Clone, Copy, Debug, PartialEq, Eq)]
+#[derive(Clone, Copy)]
 pub enum Command<'a> {
     /// Judge the plan of a folder.
     Judge {

@@ -1,8 +1,9 @@
-//! What the words of a call ask for, by what `command_line` finds for them.
+//! What the words of a call ask for, by what `clap` finds for them on the program's command line.
 #![tactic(auto)]
 
 mod arguments;
 mod command;
+mod command_line;
 pub mod laws;
 mod values;
 mod words;

@@ -8,8 +8,8 @@ use crate::arguments::{
     value_of,
 };
 use crate::command::Command;
+use crate::command_line::matched;
 use clap::ArgMatches;
-use command_line::matched;
 use entries::NoMemory;
 use std::alloc::Global;
 

@@ -11,11 +11,10 @@ ghost use Rattle.lines_of_flying.specs.Lines.{BeginsAfterStart};
 ghost use Rattle.rotation_report.specs.Tails.{AreLinesOf, lines_by};
 ghost use Rattle.tail_dates.specs.Placing.{IsPlaced};
 
-use calendar_dates::dates_from;
+use calendar_dates::{Date, dates_from};
 use entries::{Entries, NoMemory};
 use euler_rotation::{FleetRotation, Rotation};
 use fleet_model::{Assignment, Tables};
-use jiff::civil::Date;
 use rotation_report::FleetLines;
 use rotation_report::tails::{flights_text, line_from, lines_by, push_no_tour};
 use rotation_report::text_lines::push_line;

@@ -5,7 +5,7 @@ mod choices;
 pub mod faults;
 pub mod laws;
 pub mod reading;
-pub mod record_writer;
+mod record_writer;
 pub mod writing;
 
 pub use faults::{PlanError, PlanFault};

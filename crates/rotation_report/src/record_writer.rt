@@ -1,12 +1,11 @@
-//! Records of a round: five fields each.
-ghost use Rattle.std.specs.Prelude.{[], ◌∷◌, OnOk};
+//! Records of a round: five fields each, written to memory by the default writer of `csv`.
+ghost use Rattle.std.specs.Prelude.{[], ◌∷◌, OnOk, map};
 ghost use Rattle.std.specs.Fmt.{decimal};
-ghost use Rattle.plan_text.specs.CsvText.{IsBetweenRecords};
+ghost use Rattle.plan_text.specs.CsvText.{HasWritten, IsBetweenRecords};
 ghost use Rattle.rotation_report.specs.RoundRows.{HasRows};
 
 use csv::Writer;
 use entries::NoMemory;
-use plan_text::record_writer::put_record;
 use std::alloc::Global;
 
 /// A round of a fleet, as its records begin.
@@ -16,6 +15,17 @@ pub struct Round<'a> {
     pub name: &'a [u8],
     /// The number of the round.
     pub number: &'a [u8],
+}
+
+/// Writes a record. Of a writer to memory whose records have as many fields each, an error is want of memory.
+pub fn put_record(writer: &mut Writer<Vec<u8>>, fields: &[&[u8]]) -> Result<(), NoMemory>
+    requires { IsBetweenRecords writer.old }
+    ensures { OnOk result (HasWritten writer.old writer.new (map (λ field. field.now) fields.now ∷ [])) }
+{
+    match writer.write_fields(fields) {
+        Ok(()) => Ok(()),
+        Err(_) => Err(NoMemory),
+    }
 }
 
 /// Writes what a record says of a round: a kind, and two fields.

@@ -6,13 +6,12 @@ ghost use Rattle.rotation_report.specs.RoundRows.{HasRows};
 ghost use Rattle.rotation_report.specs.RotationRecords.{apart_rows, fleet_records, listed_row, pair_row, rotation_header, rotation_records, rotation_rows, rotation_text, second_round, spent_rows};
 ghost use Rattle.euler_rotation.specs.FleetRotations.{AreConnections, AreListed, AreRotations, IsFleetRotation, IsOfLegs};
 
-use crate::record_writer::{Round, put_numbers, put_row};
+use crate::record_writer::{Round, put_numbers, put_record, put_row};
 use crate::tour_records::put_tour;
 use csv::{Writer, WriterBuilder};
 use entries::NoMemory;
 use euler_rotation::{FleetRotation, Rotation};
 use fleet_model::{Connection, Tables};
-use plan_text::record_writer::{put_record, want_of_memory};
 use std::alloc::Global;
 
 /// The text of rotations, as `rotation.csv` holds it, where the search had so many visits: the header, and of each fleet
@@ -40,7 +39,7 @@ pub fn rotation_csv(
     put_fleets(alloc, &mut writer, tables, rotations, visits)?;
     match writer.into_inner() {
         Ok(text) => Ok(text),
-        Err(error) => Err(want_of_memory(error.into_error())),
+        Err(_) => Err(NoMemory),
     }
 }
 

@@ -12,11 +12,10 @@ ghost use Rattle.rotation_report.specs.Tails.{AreLinesOf, dated_line, day_lines,
 use crate::flying::FleetLines;
 use crate::text_lines::push_line;
 use crate::words::rotation_words;
-use calendar_dates::dates_from;
+use calendar_dates::{Date, dates_from};
 use entries::NoMemory;
 use euler_rotation::{FleetRotation, Rotation};
 use fleet_model::{Assignment, Tables};
-use jiff::civil::Date;
 use lines_of_flying::lines;
 use plan_judge::used;
 use std::alloc::Global;

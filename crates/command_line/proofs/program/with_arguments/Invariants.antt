@@ -1,6 +1,0 @@
-use Rattle.std.proofs.Common.{take}
-use Rattle.command_line.specs.Program.{BuildsArguments}
-use Rattle.command_line.proofs.program.with_arguments.Given as goal
-
-abbrev pub invariant-loop-argument : goal.invariant-loop-argument
-invariant-loop-argument l = BuildsArguments l.initial.command (take l.argument-index l.arguments) l.command
