@@ -1,14 +1,12 @@
 //! The desks and the sinks, call by call: those in memory, and those over real files and the real output.
 use crate::assertions::{assert_holds, assert_same, assert_same_at};
-use plan_desk::{
-    Desk, DeskError, DeskFile, FailingCall, FileDesk, MemoryDesk, MemorySink, Sink, SinkError,
-    StdSink,
-};
+use plan_desk::{Desk, DeskError, DeskFile, FileDesk, Sink, SinkError, StdSink};
 use std::alloc::Global;
 use std::fs::{self, File};
 use std::io::Write;
 use std::process::Abort;
 use std::test::Fail;
+use test_desks::{FailingCall, MemoryDesk, MemorySink};
 
 /// A call of a desk.
 #[derive(Clone, Copy)]

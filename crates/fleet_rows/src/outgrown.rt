@@ -12,10 +12,10 @@ use crate::searches::{is_known, run_quietly};
 use crate::searching::NO_NODES;
 use crate::statuses::{DONE, UNSETTLED};
 use plan_desk::DeskFile::{Costs, Fleets, Legs, Stations};
-use plan_desk::MemoryDesk;
 use std::alloc::Global;
 use std::process::Abort;
 use std::test::Fail;
+use test_desks::MemoryDesk;
 
 /// A part of stations, fleets, legs and costs.
 type Part = (&'static [u8], &'static [u8], &'static [u8], &'static [u8]);

@@ -8,10 +8,10 @@ use crate::statuses::{BAD_INPUT, DONE, FAULT};
 use crate::tables::{PLAN, PRICED_PROOF, ROTATION};
 use crate::tails::TAILS;
 use plan_desk::DeskFile::{Legs, Plan, Proof, Rotation};
-use plan_desk::{MemoryDesk, MemorySink};
 use std::alloc::Global;
 use std::process::Abort;
 use std::test::Fail;
+use test_desks::{MemoryDesk, MemorySink};
 
 // A plan of an earlier run, which is no plan of these tables.
 const OLD: Laid<'static> = Laid::Bytes(Plan, b"flight,fleet\nX1,F9\n");

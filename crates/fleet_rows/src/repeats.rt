@@ -7,10 +7,11 @@ use crate::searches::Known::{self, Begin, Whole};
 use crate::searches::{is_known, run_quietly};
 use crate::statuses::{DONE, UNSETTLED};
 use plan_desk::DeskFile::{Costs, Fleets, Legs, Stations};
-use plan_desk::{MemoryDesk, MemorySink, Sink};
+use plan_desk::Sink;
 use std::alloc::Global;
 use std::process::Abort;
 use std::test::Fail;
+use test_desks::{MemoryDesk, MemorySink};
 
 /// What is laid over the files of the first run, the line, its status and what is known of what it puts; and lines that
 /// are run over what stands then, with what they put.

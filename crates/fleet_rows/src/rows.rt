@@ -3,10 +3,11 @@ use crate::assertions::{assert_holds, assert_same_at};
 use crate::statuses::{DONE, FAULT};
 use crate::tables::{FIRST_RUN, LEGAL};
 use fleet_cli::run;
-use plan_desk::{Desk, DeskFile, FailingCall, MemoryDesk, MemorySink, Sink};
+use plan_desk::{Desk, DeskFile, Sink};
 use std::alloc::Global;
 use std::process::Abort;
 use std::test::Fail;
+use test_desks::{FailingCall, MemoryDesk, MemorySink};
 
 /// A file on the desk.
 #[derive(Clone, Copy)]

@@ -2,10 +2,10 @@
 use crate::assertions::{assert_holds, assert_same_at};
 use crate::rows::{CHECK, Laid, files, split, status_of};
 use crate::statuses::DONE;
-use plan_desk::{MemoryDesk, MemorySink};
 use std::alloc::Global;
 use std::process::Abort;
 use std::test::Fail;
+use test_desks::{MemoryDesk, MemorySink};
 
 /// What is known beforehand of a text.
 #[derive(Clone, Copy)]

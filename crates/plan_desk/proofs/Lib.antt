@@ -1,2 +1,1 @@
-pub mod FilesLemmas
 pub mod Fronts

@@ -6,15 +6,15 @@ use crate::counts::count_up;
 use crate::{DeskError, DeskFile};
 
 /// How many faults a desk has counted, and the file of the last.
-#[derive(Debug, Drop)]
-pub(crate) struct FaultCount {
-    pub(crate) count: u64,
-    pub(crate) blamed: Option<DeskFile>,
+#[derive(Drop)]
+pub struct FaultCount {
+    pub count: u64,
+    pub blamed: Option<DeskFile>,
 }
 
 impl FaultCount {
     /// No fault so far.
-    pub(crate) fn new() -> FaultCount
+    pub fn new() -> FaultCount
         ensures count { result.count ≡ 0 }
         ensures blamed { result.blamed ≡ None }
     {
@@ -25,7 +25,7 @@ impl FaultCount {
     }
 
     /// Counts a fault of a call on the file, and gives the answer for it.
-    pub(crate) fn blame(&mut self, file: DeskFile) -> DeskError
+    pub fn blame(&mut self, file: DeskFile) -> DeskError
         ensures failed { result ≡ DeskError.Failed }
         ensures count { self.new.count ≡ counted self.old.count 1 }
         ensures never_falls { self.old.count ≤ self.new.count }
@@ -37,11 +37,7 @@ impl FaultCount {
     }
 
     /// Counts a fault of a call on the file where its answer is `Failed`.
-    pub(crate) fn note<T>(
-        &mut self,
-        file: DeskFile,
-        answer: Result<T, DeskError>,
-    ) -> Result<T, DeskError>
+    pub fn note<T>(&mut self, file: DeskFile, answer: Result<T, DeskError>) -> Result<T, DeskError>
         ensures answer { result ≡ answer }
         ensures count { MatchFailed result (self.new.count ≡ counted self.old.count 1) (self.new.count ≡ self.old.count) }
         ensures never_falls { self.old.count ≤ self.new.count }

@@ -47,7 +47,7 @@ impl DeskFile {
 }
 
 /// The name under which a desk holds a file of the folder: the folder, a slash and the file's name.
-pub(crate) fn path(alloc: Global, dir: &str, file: DeskFile) -> Result<String, AllocError>
+pub fn path(alloc: Global, dir: &str, file: DeskFile) -> Result<String, AllocError>
     ensures { IfOk result (λ path. string_bytes path ≡ path_of dir.now file) }
 {
     let mut path = String::from_str(alloc, dir)?;

@@ -3,15 +3,13 @@ ghost use Rattle.std.proofs.Common.{rules};
 ghost use Rattle.plan_desk.specs.DeskFile.{path_of};
 ghost use Rattle.plan_desk.specs.Counts.{counted, RoseBy};
 ghost use Rattle.plan_desk.specs.Desk.{Files, with_file, held_with, ChangesOnly, MatchAnswer, MatchFailed, OnFailed, OnNoMemory, OnTooLong, IsFailed, IsNotFailed};
-ghost use Rattle.plan_desk.specs.Failing.{IsListed};
-ghost use Rattle.plan_desk.specs.Memory.{files_in, laid_down, files_of, calls_of, failing_of, faults_of, blamed_of, taken_of, had_no_memory, IsToFail, IsCutWrite};
+ghost use Rattle.test_desks.specs.Failing.{IsListed};
+ghost use Rattle.test_desks.specs.Memory.{files_in, laid_down, files_of, calls_of, failing_of, faults_of, blamed_of, taken_of, had_no_memory, IsToFail, IsCutWrite};
 
-use crate::counts::count_up;
+use crate::FailingCall;
 use crate::failing::{CallPlan, first_bytes};
-use crate::faults::FaultCount;
-use crate::file::path;
-use crate::{Desk, DeskError, DeskFile, FailingCall};
 use entries::NoMemory;
+use plan_desk::{Desk, DeskError, DeskFile, FaultCount, count_up, path};
 use std::alloc::{AllocError, Global};
 use std::collections::BTreeMap;
 
@@ -20,7 +18,7 @@ use std::collections::BTreeMap;
 /// Calls are counted from 1, reads and writes together. A read that is to fail does nothing else; a write that is to
 /// fail leaves its first bytes under the name, as many as the list says. A read of a name under which nothing stands is
 /// a counted fault.
-#[derive(Debug, Drop)]
+#[derive(Drop)]
 pub struct MemoryDesk {
     files: BTreeMap<String, Vec<u8>>,
     plan: CallPlan,

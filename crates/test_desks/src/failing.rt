@@ -1,9 +1,9 @@
 ghost use Rattle.std.specs.Prelude.{◌≡◌, take};
 ghost use Rattle.plan_desk.specs.Counts.{counted};
-ghost use Rattle.plan_desk.specs.Failing.{bytes_left};
+ghost use Rattle.test_desks.specs.Failing.{bytes_left};
 
 /// A call of a desk or a sink in memory that is to fail.
-#[derive(Clone, Copy, Debug, PartialEq, Eq)]
+#[derive(Clone, Copy)]
 pub struct FailingCall {
     /// The number of the call. The first has the number 1, and from 2^64 - 1 on all have that number.
     pub call: u64,
@@ -30,7 +30,7 @@ impl FailingCall {
 }
 
 /// How many calls were made, and which are to fail.
-#[derive(Debug, Drop)]
+#[derive(Drop)]
 pub(crate) struct CallPlan {
     made: u64,
     failing: Vec<FailingCall>,

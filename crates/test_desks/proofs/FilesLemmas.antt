@@ -9,7 +9,7 @@ use Rattle.std.specs.BTreeMap.{BTreeMap, UpdatesBy, get_by_text}
 use Rattle.std.proofs.lemmas.Map.Text.{btree_map_updates_text}
 use Rattle.std.proofs.lemmas.Slice.Eq.{bytes_eq-Decides}
 use Rattle.plan_desk.specs.Desk.{Files, with_file, ChangesOnly}
-use Rattle.plan_desk.specs.Memory.{files_in}
+use Rattle.test_desks.specs.Memory.{files_in}
 
 -- the bytes of a choice are the choice of the bytes
 option_map-cond : (b : Bool) (new : Vec ℕ Global) (old : Option (Vec ℕ Global)) → option_map (λ v. v.items) (cond b (Some new) old) ≡ cond b (Some new.items) (option_map (λ v. v.items) old)

@@ -1,7 +1,7 @@
 -- Which calls are to fail, and what they leave.
 use Rattle.std.specs.Prelude.{◌==◌, ℕ, List, Option, option_map, IsSome}
 use Rattle.std.specs.List.{find}
-use Rattle.plan_desk.specs.declared.failing.FailingCall.{FailingCall}
+use Rattle.test_desks.specs.declared.failing.FailingCall.{FailingCall}
 
 -- how many first bytes the call of this number leaves, by its first entry in the list
 abbrev pub bytes_left : ℕ → List FailingCall → Option ℕ

@@ -1,6 +1,6 @@
 use Rattle.std.proofs.Common.{◌≡◌}
-use Rattle.plan_desk.specs.Memory.{files_in, laid_down}
-use Rattle.plan_desk.proofs.memory_desk.MemoryDesk.new.Given as goal
+use Rattle.test_desks.specs.Memory.{files_in, laid_down}
+use Rattle.test_desks.proofs.memory_desk.MemoryDesk.new.Given as goal
 
 -- the map holds the entries so far
 abbrev pub invariant-loop-name : goal.invariant-loop-name

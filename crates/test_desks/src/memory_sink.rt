@@ -1,18 +1,18 @@
 ghost use Rattle.std.specs.Prelude.{◌≡◌, ◌+◌, ◌≤◌, ◌↔◌, ℕ, false, List, [], ◌++◌, Option, Some, length, OnOk, OnErr, ⊤};
 ghost use Rattle.plan_desk.specs.Counts.{counted};
 ghost use Rattle.plan_desk.specs.Sink.{output_with, AppendsPrefix, MatchPutFailed, OnPutFailed, OnPutNoMemory, IsPutFailed, IsPutNotFailed};
-ghost use Rattle.plan_desk.specs.Failing.{IsListed};
-ghost use Rattle.plan_desk.specs.Memory.{put_bytes_of, puts_of, handed_of, failing_puts_of, put_faults_of, put_had_no_memory, IsPutToFail, IsCutPut};
+ghost use Rattle.test_desks.specs.Failing.{IsListed};
+ghost use Rattle.test_desks.specs.Memory.{put_bytes_of, puts_of, handed_of, failing_puts_of, put_faults_of, put_had_no_memory, IsPutToFail, IsCutPut};
 
-use crate::counts::count_up;
+use crate::FailingCall;
 use crate::failing::{CallPlan, first_bytes};
-use crate::{FailingCall, Sink, SinkError};
+use plan_desk::{Sink, SinkError, count_up};
 
 /// A sink that keeps the output in memory. It tells what was put, and puts of its own choice fail, for tests.
 ///
 /// Puts are counted from 1, and so are the bytes that they are handed. A put that is to fail appends its first bytes, as
 /// many as the list says.
-#[derive(Debug, Drop)]
+#[derive(Drop)]
 pub struct MemorySink {
     output: Vec<u8>,
     plan: CallPlan,

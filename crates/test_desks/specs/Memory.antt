@@ -4,11 +4,11 @@ use Rattle.std.specs.declared.alloc.Global.{Global}
 use Rattle.std.specs.BTreeMap.{BTreeMap, get_by_text}
 use Rattle.plan_desk.specs.Desk.{Files, no_files, with_file}
 use Rattle.plan_desk.specs.Counts.{counted}
-use Rattle.plan_desk.specs.Failing.{bytes_left, IsListed}
+use Rattle.test_desks.specs.Failing.{bytes_left, IsListed}
 use Rattle.plan_desk.specs.declared.file.DeskFile.{DeskFile}
-use Rattle.plan_desk.specs.declared.failing.FailingCall.{FailingCall}
-use Rattle.plan_desk.specs.declared.memory_desk.MemoryDesk.{MemoryDesk}
-use Rattle.plan_desk.specs.declared.memory_sink.MemorySink.{MemorySink}
+use Rattle.test_desks.specs.declared.failing.FailingCall.{FailingCall}
+use Rattle.test_desks.specs.declared.memory_desk.MemoryDesk.{MemoryDesk}
+use Rattle.test_desks.specs.declared.memory_sink.MemorySink.{MemorySink}
 
 -- what stands under each name of a map
 abbrev pub files_in : BTreeMap (String Global) (Vec ℕ Global) → Files
