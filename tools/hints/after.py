@@ -106,6 +106,6 @@ def tell_preview(hint: Hint, command: str, call: Call) -> None:
 
         usage.explain(hint, command, call)
         return
-    hint.say("the program isn't built yet, or is older than its code. For an answer before it is, not proved, on a copy of the folder,")
+    hint.say("the program isn't built yet, or is of other sources. For an answer before it is, not proved, on a copy of the folder,")
     hint.say("call in another terminal:")
     hint.show(typed([os.path.join(os.path.dirname(command), "tools", "preview"), *call.all]))
