@@ -1,0 +1,1 @@
+"""The rows of .ci/rows: how they are written, and how they are run."""
