@@ -1,17 +1,9 @@
-#!/usr/bin/env python3
-"""Prints the lines of a schedule's fleet assignment for the program `run_lines`.
+"""The lines of a schedule's fleet assignment, without the program.
 
-usage: lines.py NUMBER LEGS PIVOTS
-       lines.py FOLDER PIVOTS
-
-A schedule of NUMBER is that of `fleetplan make`: LEGS legs, flown out of one hub and back by two fleets, drawn
-from NUMBER. One of a FOLDER has its day start at 03:00, and all fleets may fly each leg; where legs have a day it repeats after the
+A schedule is that of a folder. Its day starts at 03:00, and all fleets may fly each leg; where legs have a day it repeats after the
 last of these. Its lines are those of fleet assignment: each leg is flown once, aircraft that come to a node of the time line leave
 it again, and a fleet uses no more aircraft than it has.
 """
-
-import sys
-import tempfile
 
 import schedules
 from shared import DAY_START, rows
@@ -19,13 +11,6 @@ from shared import DAY_START, rows
 from fleetplan.times import DAY, minute_of
 
 START = minute_of(DAY_START)
-
-
-def schedule(number, legs):
-    """Fleets, legs and number of stations of a made schedule (`read`)."""
-    with tempfile.TemporaryDirectory() as folder:
-        schedules.make(folder, number, legs)
-        return read(folder)
 
 
 def read(folder):
@@ -114,18 +99,3 @@ def lines_of(fleets, legs, stations, goes=lambda nodes, node, departures, readie
         lines.append(line)
     costs = [pair[7] for pair in pairs] + [0] * (columns - len(pairs))
     return lines, costs
-
-
-def main():
-    if len(sys.argv) == 3:
-        lines, costs = lines_of(*read(sys.argv[1]), period=DAY * schedules.period_of(sys.argv[1]))
-    else:
-        lines, costs = lines_of(*schedule(*map(int, sys.argv[1:3])))
-    print(sys.argv[-1])
-    print(*costs)
-    for line in lines:
-        print(*line)
-
-
-if __name__ == "__main__":
-    main()

@@ -7,8 +7,6 @@ use end_search::DualSimplex;
 use entries::NoMemory;
 use fleet_model::{Kept, LoadError, Tables};
 use lp_rows::Program;
-use row_store::{Dense, RowStore};
-use simplex_frac::{Outcome, solve};
 use std::alloc::Global;
 use std::process::Abort;
 use std::test::Fail;
@@ -112,33 +110,6 @@ fn nothing_is_found_by_a_step_less(rt: HostRuntime) -> Result<(), Fail> {
     for (files, least, _) in FOUND {
         let found = found_in(rt.alloc(), files, *least - 1)?;
         assert_same(&rt, found, "none");
-    }
-    Ok(())
-}
-
-/// Overlapping trips, and the pivots of the prescribed run over them: the search takes 6 after its start.
-const PRESCRIBED: &[(Files, u64)] = &[(OVERLAPPING_TRIPS, 31), (TWO_FLEETS, 13)];
-
-/// The pivots by which the prescribed run ends at a cheapest point of overlapping trips.
-fn prescribed_pivots(alloc: Global, files: &Files) -> Result<u64, LoadError> {
-    let tables = read(alloc, files)?;
-    Ok(pivots_in(alloc, &tables)?)
-}
-
-fn pivots_in(alloc: Global, tables: &Tables) -> Result<u64, NoMemory> {
-    let program = Program::new(alloc, tables, &Kept::all(tables))?;
-    let mut store = Dense::start(alloc, &program.rows)?;
-    match solve(alloc, &mut store, program.rows.columns, 1_000)? {
-        Outcome::Best { made, .. } => Ok(made),
-        _ => Ok(0),
-    }
-}
-
-#[test]
-fn overlapping_trips_take_fewer_steps_than_the_prescribed_run(rt: HostRuntime) -> Result<(), Fail> {
-    for (files, wanted) in PRESCRIBED {
-        let pivots = prescribed_pivots(rt.alloc(), files)?;
-        assert_same(&rt, pivots, *wanted);
     }
     Ok(())
 }

@@ -1,21 +1,16 @@
-//! Prices and fractional assignments from ends that are found and checked, and by outlines from the prescribed run.
-ghost use Rattle.std.specs.Prelude.{ℕ, Option, IfOk, IfSome};
+//! Prices and fractional assignments from ends that are found and checked.
+ghost use Rattle.std.specs.Prelude.{IfOk, IfSome};
 ghost use Rattle.dual_bound.specs.Prices.{ArePrices};
 ghost use Rattle.fleet_model.specs.Kept.{kept_by};
 ghost use Rattle.row_store.specs.Problem.{IsProblem};
 ghost use Rattle.lp_rows.specs.Outline.{IsOutline};
 ghost use Rattle.lp_rows.specs.Points.{AreLinesOf};
-ghost use Rattle.node_bounding.specs.Runs.{HasEnded};
 
 use end_check::{EndFinder, Hint, PointHint, RefusalHint, is_end, refuses};
 use end_search::DualSimplex;
 use fleet_model::{Kept, Tables};
-use lp_rows::{Outline, Program};
-use price_lift::{
-    LiftError, Lifted, lift_best_with, lift_end, lift_refusal_with, lift_refusing_end,
-};
-use row_store::{Dense, RowStore};
-use simplex_frac::{Outcome, solve};
+use lp_rows::Program;
+use price_lift::{LiftError, Lifted, lift_end, lift_refusing_end};
 use std::alloc::Global;
 
 /// What a hint over a subproblem's lines gives; nothing where none is found, or where it is no end.
@@ -72,39 +67,4 @@ pub fn lifted_refusal(
         return Ok(Some(lifted));
     }
     Ok(None)
-}
-
-/// What the prescribed run gives, by the outline of the subproblem; nothing where it is spent or has grown too large.
-pub fn lifted_with(alloc: Global, tables: &Tables, kept: &Kept) -> Result<Option<Lifted>, LiftError>
-    ensures { IfOk result (λ found. IfSome found (λ lifted. ArePrices tables.now lifted.prices)) }
-{
-    let program = Program::new(alloc, tables, kept)?;
-    let mut table = Dense::start(alloc, &program.rows)?;
-    let outcome = solve(alloc, &mut table, program.rows.columns, 1_000)?;
-    lifted_from_prescribed(alloc, &table, &outcome, tables, kept, &program.outline)
-}
-
-/// What the end of a prescribed run gives.
-fn lifted_from_prescribed<R: RowStore>(
-    alloc: Global,
-    table: &R,
-    outcome: &Outcome,
-    tables: &Tables,
-    kept: &Kept,
-    outline: &Outline,
-) -> Result<Option<Lifted>, LiftError>
-    requires outline { IsOutline tables.now (kept_by kept.now) outline.now }
-    requires ended { (pivots : Option ℕ) × HasEnded tables.now (kept_by kept.now) pivots (R.content table.now) outcome.now }
-    ensures { IfOk result (λ found. IfSome found (λ lifted. ArePrices tables.now lifted.prices)) }
-{
-    let lifted = match outcome {
-        Outcome::Best { basis, .. } => {
-            lift_best_with(alloc, table, basis.as_slice(), tables, kept, outline)?
-        }
-        Outcome::NoPoint { basis, .. } => {
-            lift_refusal_with(alloc, table, basis.as_slice(), tables, kept, outline)?
-        }
-        _ => return Ok(None),
-    };
-    Ok(Some(lifted))
 }

@@ -1,21 +1,11 @@
 //! Trips that need every aircraft, so that stations are empty at known minutes and prices that rise over ground arcs there
 //! are paid back.
-ghost use Rattle.dual_bound.specs.OfTables.{IsOfTables};
-
-use crate::assertions::assert_same;
 use crate::lifts::{Way, assert_worth, lifted_by};
-use crate::network::shape_of;
-use branch_bound::solve;
-use cert_check::{Checked, check};
-use dual_bound::{Prices, Tree};
-use end_search::DualSimplex;
-use entries::NoMemory;
+use dual_bound::Prices;
 use fleet_model::{Kept, Tables};
-use plan_judge::{Verdict, judge};
 use std::alloc::Global;
 use std::process::Abort;
 use std::test::Fail;
-use worked_tables::plans::assignment;
 use worked_tables::schedules::{Files, ROUND_TRIP, read};
 
 /// Six legs that three aircraft can fly, and two can't. Each station is empty at some minutes, as BBB from 08:00, when L1
@@ -29,9 +19,6 @@ const NONE_TO_SPARE: Files = Files {
 
 const LEAST_COST: i128 = 425;
 
-/// The fleets of the cheapest legal assignment.
-const CHEAPEST: &[u32] = &[0, 0, 1, 1, 0, 0];
-
 /// The minute after 08:00, in which no node of the network starts: a price changes there only where it is paid back.
 const AFTER_THE_IDLE_MINUTE: u16 = 481;
 
@@ -43,15 +30,6 @@ fn is_paid_back(prices: &Prices) -> bool {
         }
     }
     false
-}
-
-/// Of the four arcs of each fleet one stays: that of BBB over the day start, where an aircraft waits at each minute.
-#[test]
-fn arcs_that_have_an_idle_minute_go(rt: HostRuntime) -> Result<(), Fail> {
-    let tables = read(rt.alloc(), &NONE_TO_SPARE)?;
-    let shape = shape_of(rt.alloc(), &tables, &Kept::all(&tables))?;
-    assert_same(&rt, shape, (16, 16));
-    Ok(())
 }
 
 /// Whether prices are paid back, which are worth what the cheapest assignment costs.
@@ -73,45 +51,5 @@ fn prices_that_are_paid_back_are_worth_as_much(rt: HostRuntime) -> Result<(), Fa
     let tables = read(rt.alloc(), &NONE_TO_SPARE)?;
     is_least_cost_paid_back(&rt, &tables, Way::Prescribed)?;
     assert!(rt; is_least_cost_paid_back(&rt, &tables, Way::ByHint)?);
-    Ok(())
-}
-
-/// Whether a tree is a leaf with prices that are paid back.
-fn is_paid_back_leaf(tree: &Tree) -> bool {
-    match tree {
-        Tree::Priced(prices) => is_paid_back(prices),
-        _ => false,
-    }
-}
-
-/// What the checker says of a tree that comes with the cheapest assignment.
-fn checked_with_cheapest(tables: &Tables, tree: &Tree) -> Option<Checked>
-    requires { IsOfTables tables.now tree.now }
-{
-    let plan = assignment(tables, CHEAPEST)?;
-    match judge(tables, &plan) {
-        Verdict::Legal { .. } => Some(check(tables, Some(&plan), tree)),
-        _ => None,
-    }
-}
-
-/// What the checker says of the tree of a solution without splits; nothing where it isn't a leaf that is paid back.
-fn checked_solution(alloc: Global, tables: &Tables) -> Result<Option<Checked>, NoMemory> {
-    let solved = solve::<DualSimplex>(alloc, tables, 0, Some(1_000))?;
-    let tree = solved.tree();
-    if is_paid_back_leaf(tree) {
-        Ok(checked_with_cheapest(tables, tree))
-    } else {
-        Ok(None)
-    }
-}
-
-#[test]
-fn a_proof_with_prices_that_are_paid_back_holds(rt: HostRuntime) -> Result<(), Fail> {
-    let tables = read(rt.alloc(), &NONE_TO_SPARE)?;
-    let wanted = Checked::Holds {
-        bound: Some(LEAST_COST),
-    };
-    assert_same(&rt, checked_solution(rt.alloc(), &tables)?, Some(wanted));
     Ok(())
 }

@@ -1,5 +1,5 @@
-//! Calls of the libraries that find bounds and plans, from the network to the tree, on worked sets of tables: each public call
-//! once, with the answer that is wanted. There is no code here but that of the tests.
+//! Calls of the libraries that find bounds, of which no run of the program tells the answer: runs and ends over lines by hand,
+//! lifts just at their limits, and the steps that suffice. There is no code here but that of the tests.
 #![tactic(auto)]
 
 #[cfg(test)]
@@ -23,12 +23,6 @@ mod lifts;
 #[cfg(test)]
 mod lines;
 #[cfg(test)]
-mod network;
-#[cfg(test)]
 mod pivoting;
 #[cfg(test)]
-mod presolving;
-#[cfg(test)]
 mod run_duals;
-#[cfg(test)]
-mod solving;

@@ -1,5 +1,5 @@
-//! Calls of the libraries of turns, islands and rotations on worked sets of tables: each public call once, with the
-//! answer that is wanted. There is no code here but that of the tests.
+//! Calls of the libraries of turns, islands and made tables, of which no run of the program tells the answer. There is no code
+//! here but that of the tests.
 #![tactic(auto)]
 
 #[cfg(test)]
@@ -7,20 +7,8 @@ mod assertions;
 #[cfg(test)]
 mod islands;
 #[cfg(test)]
-mod joins;
-#[cfg(test)]
-mod placing;
-#[cfg(test)]
-mod rotations;
+mod made;
 #[cfg(test)]
 mod segments;
 #[cfg(test)]
 mod standing;
-#[cfg(test)]
-mod succeeding;
-#[cfg(test)]
-mod tail_tables;
-#[cfg(test)]
-mod throughs;
-#[cfg(test)]
-mod turns;

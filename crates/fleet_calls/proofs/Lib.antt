@@ -1,2 +1,0 @@
-pub mod StepPrices
-pub mod EachTested

@@ -1,7 +1,0 @@
-use Rattle.std.proofs.Common.{◌≡◌}
-use Rattle.sums.specs.Places.{list_below}
-use Rattle.ground_turns.specs.Maps.{turn_after}
-use Rattle.turn_calls.proofs.turns.turns_round.Given as goal
-
-abbrev pub invariant-loop-place : goal.invariant-loop-place
-invariant-loop-place l = l.turns.items ≡ list_below (turn_after l.legs) l.place
