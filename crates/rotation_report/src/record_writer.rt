@@ -4,7 +4,7 @@ ghost use Rattle.std.specs.Fmt.{decimal};
 ghost use Rattle.plan_text.specs.CsvText.{HasWritten, IsBetweenRecords};
 ghost use Rattle.rotation_report.specs.RoundRows.{HasRows};
 
-use csv::Writer;
+use csv::{Error, Writer};
 use entries::NoMemory;
 use std::alloc::Global;
 
@@ -17,15 +17,20 @@ pub struct Round<'a> {
     pub number: &'a [u8],
 }
 
-/// Writes a record. Of a writer to memory whose records have as many fields each, an error is want of memory.
+/// Writes a record.
 pub fn put_record(writer: &mut Writer<Vec<u8>>, fields: &[&[u8]]) -> Result<(), NoMemory>
     requires { IsBetweenRecords writer.old }
     ensures { OnOk result (HasWritten writer.old writer.new (map (λ field. field.now) fields.now ∷ [])) }
 {
     match writer.write_fields(fields) {
         Ok(()) => Ok(()),
-        Err(_) => Err(NoMemory),
+        Err(error) => Err(want_of_memory(error)),
     }
+}
+
+/// Of a writer to memory whose records have as many fields each, an error is want of memory.
+pub fn want_of_memory(_: Error) -> NoMemory {
+    NoMemory
 }
 
 /// Writes what a record says of a round: a kind, and two fields.

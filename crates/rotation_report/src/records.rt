@@ -6,7 +6,7 @@ ghost use Rattle.rotation_report.specs.RoundRows.{HasRows};
 ghost use Rattle.rotation_report.specs.RotationRecords.{apart_rows, fleet_records, listed_row, pair_row, rotation_header, rotation_records, rotation_rows, rotation_text, second_round, spent_rows};
 ghost use Rattle.euler_rotation.specs.FleetRotations.{AreConnections, AreListed, AreRotations, IsFleetRotation, IsOfLegs};
 
-use crate::record_writer::{Round, put_numbers, put_record, put_row};
+use crate::record_writer::{Round, put_numbers, put_record, put_row, want_of_memory};
 use crate::tour_records::put_tour;
 use csv::{Writer, WriterBuilder};
 use entries::NoMemory;
@@ -39,7 +39,7 @@ pub fn rotation_csv(
     put_fleets(alloc, &mut writer, tables, rotations, visits)?;
     match writer.into_inner() {
         Ok(text) => Ok(text),
-        Err(_) => Err(NoMemory),
+        Err(error) => Err(want_of_memory(error.into_error())),
     }
 }
 
