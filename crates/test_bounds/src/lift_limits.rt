@@ -14,7 +14,7 @@ use price_lift::{LiftError, Lifted};
 use std::alloc::Global;
 use std::process::Abort;
 use std::test::Fail;
-use worked_tables::schedules::{Files, NO_LEGS, ROUND_TRIP, read};
+use test_tables::schedules::{Files, NO_LEGS, ROUND_TRIP, read};
 
 /// What becomes of an end by hand.
 #[derive(Clone, Copy, Debug, PartialEq, Eq)]

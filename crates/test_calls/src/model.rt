@@ -3,7 +3,7 @@ use crate::assertions::assert_same;
 use fleet_model::{Assignment, Costs, PairCost, Tables, busy, laps, nights, ready};
 use std::alloc::Global;
 use std::test::Fail;
-use worked_tables::schedules::{
+use test_tables::schedules::{
     BACK_BY_NIGHT, Files, OVERLAPPING_TRIPS, ROUND_TRIP, THROUGH_THE_HUB, read,
 };
 

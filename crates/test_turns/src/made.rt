@@ -7,7 +7,7 @@ use sched_read::load;
 use std::alloc::Global;
 use std::test::Fail;
 use table_maker::make_tables;
-use worked_tables::schedules::{Files, OVER_THE_DAY_START, starting};
+use test_tables::schedules::{Files, OVER_THE_DAY_START, starting};
 
 /// The files of number 1 without a leg: a hub with its one spoke, and two fleets without an aircraft.
 const WITHOUT_LEGS: Files = Files {

@@ -6,7 +6,7 @@ use fleet_model::{Kept, Tables};
 use std::alloc::Global;
 use std::process::Abort;
 use std::test::Fail;
-use worked_tables::schedules::{Files, ROUND_TRIP, read};
+use test_tables::schedules::{Files, ROUND_TRIP, read};
 
 /// Six legs that three aircraft can fly, and two can't. Each station is empty at some minutes, as BBB from 08:00, when L1
 /// has left, to 09:29. The cheapest legal one of all 64 assignments costs 425 (found by trying each).

@@ -1,7 +1,7 @@
 use Rattle.std.proofs.Common.{◌≡◌, ◌<◌, ℕ, length}
 use Rattle.fleet_model.specs.Counts.{choice_at}
 use Rattle.fleet_model.specs.Schedule.{fleets_in}
-use Rattle.worked_tables.proofs.plans.assignment.Given as goal
+use Rattle.test_tables.proofs.plans.assignment.Given as goal
 
 abbrev pub invariant-loop-fleet : goal.invariant-loop-fleet
 invariant-loop-fleet l = record {

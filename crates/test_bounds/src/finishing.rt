@@ -11,7 +11,7 @@ use row_store::{Dense, RowStore, Rows, Sparse, is_problem};
 use simplex_frac::{Outcome, are_right_sides_at_least_0, bases, finish, solve};
 use std::alloc::Global;
 use std::test::Fail;
-use worked_tables::schedules::{Files, OVERLAPPING_TRIPS, TWO_FLEETS, read};
+use test_tables::schedules::{Files, OVERLAPPING_TRIPS, TWO_FLEETS, read};
 
 /// Lines, and the end that is wanted.
 #[derive(Clone, Copy)]

@@ -2,7 +2,7 @@ use Rattle.std.proofs.Common.{rules, ◌≡◌, length, arith}
 use Rattle.fleet_model.specs.Counts.{choice_at}
 use Rattle.fleet_model.specs.Schedule.{legs_in}
 use Rattle.fleet_model.proofs.PlainTables.{fleet_chooses}
-use Rattle.worked_tables.proofs.plans.assignment.Goals as goal
+use Rattle.test_tables.proofs.plans.assignment.Goals as goal
 
 pub returns : goal.returns
 returns c =

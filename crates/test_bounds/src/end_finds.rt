@@ -10,7 +10,7 @@ use lp_rows::Program;
 use std::alloc::Global;
 use std::process::Abort;
 use std::test::Fail;
-use worked_tables::schedules::{
+use test_tables::schedules::{
     BACK_BY_NIGHT, FOUR_AIRCRAFT, Files, MEETING_TRIPS, NO_LEGS, OVER_THE_DAY_START,
     OVERLAPPING_TRIPS, ROUND_TRIP, THROUGH_THE_HUB, TWO_FLEETS, TWO_NIGHTS_ALOFT, read,
 };

@@ -5,8 +5,8 @@ use island_cut::{have_pairs, spare, zero_minutes};
 use std::alloc::Global;
 use std::process::Abort;
 use std::test::Fail;
-use worked_tables::plans::assignment;
-use worked_tables::schedules::{
+use test_tables::plans::assignment;
+use test_tables::schedules::{
     BACK_AT_ONCE, BACK_BY_NIGHT, BACK_IN_NO_TIME, FOUR_AIRCRAFT, Files, NO_LEGS, OVERLAPPING_TRIPS,
     ROUND_TRIP, THROUGH_THE_HUB, TWO_FLEETS, TWO_NIGHTS_ALOFT, read,
 };

@@ -4,7 +4,7 @@ use entries::Entries;
 use fleet_model::{Departure, Leg, LoadError, Pair, Shift, Shifts, Tables, departures_of};
 use std::alloc::Global;
 use std::test::Fail;
-use worked_tables::schedules::{ROUND_TRIP, read};
+use test_tables::schedules::{ROUND_TRIP, read};
 
 /// A leg's own time, and one that is earlier and one that is later.
 const OWN: Shift = Shift {

@@ -6,7 +6,7 @@ use fleet_model::limits::{MAX_CHOICES, MAX_LEGS};
 use fleet_model::{Assignment, Kept, LoadError, Step, Tables};
 use std::alloc::Global;
 use std::test::Fail;
-use worked_tables::schedules::{Files, ROUND_TRIP, read};
+use test_tables::schedules::{Files, ROUND_TRIP, read};
 
 /// Which pairs of two legs with two choices are kept, by leg, then choice.
 type Pairs = [[bool; 2]; 2];

@@ -7,10 +7,10 @@ use node_aggregate::{days_at, idle_minutes, moments, nodes};
 use std::alloc::Global;
 use std::process::Abort;
 use std::test::Fail;
-use timeline_net::events;
-use worked_tables::schedules::{
+use test_tables::schedules::{
     FOUR_AIRCRAFT, Files, NO_LEGS, ROUND_TRIP, THROUGH_THE_HUB, TWO_FLEETS, read,
 };
+use timeline_net::events;
 
 /// The round trip, with the one aircraft that it needs.
 const ONE_AIRCRAFT: Files = Files {
