@@ -5,24 +5,30 @@ usage: by_highs.py MODEL      (the text of plan_by_cbc.program)
 
 It wants scipy, which has HiGHS in it; Debian's python3-scipy is for /usr/bin/python3.
 """
+
+from __future__ import annotations
+
 import re
 import sys
 from pathlib import Path
+from typing import Dict, List, Tuple
 
 import numpy
 from scipy.optimize import Bounds, LinearConstraint, milp
 from scipy.sparse import csr_array
 
+# The names of a sum, each with its number.
+Terms = List[Tuple[str, int]]
 TERM = re.compile(r"([+-]?) ?(\d*) ?([a-z]\d+)")
 ENDS = {"=": (0, 0), "<=": (-numpy.inf, 0)}
 
 
-def terms_of(text):
+def terms_of(text: str) -> Terms:
     """The names of a sum, each with its number."""
     return [(name, (-1 if sign == "-" else 1) * int(number or 1)) for sign, number, name in TERM.findall(text)]
 
 
-def read(text):
+def read(text: str) -> Tuple[Terms, List[Tuple[Terms, str, int]], List[str]]:
     """The cost terms, the constraints as (terms, relation, right side), and the names of the binaries."""
     lines = text.splitlines()
     begins, binaries = lines.index("Subject To"), lines.index("Binaries")
@@ -30,9 +36,10 @@ def read(text):
     return terms_of(lines[1].split(":")[1]), [(terms_of(left), relation, int(right)) for left, relation, right in made], lines[binaries + 1].split()
 
 
-def main():
+def main() -> None:
+    """Prints the least cost of the model that the word names."""
     costs, lines, binaries = read(Path(sys.argv[1]).read_text())
-    place = {}
+    place: Dict[str, int] = {}
     entries = [(row, place.setdefault(name, len(place)), number) for row, (terms, _, _) in enumerate(lines) for name, number in terms]
     rows, columns, numbers = zip(*entries)
     cost, most, whole = numpy.zeros(len(place)), numpy.full(len(place), numpy.inf), numpy.zeros(len(place))

@@ -1,8 +1,12 @@
 """Schedules of folders with the five tables, as schedule files of made airlines: tools/ssim is to make the same tables of them."""
 
+from __future__ import annotations
+
 import re
+from typing import Any, Callable, Dict, List, Mapping, Optional, Sequence, Tuple
 
 import shared  # noqa: F401
+from pathlib import Path
 from schedule_lines import EVERY_DAY, leg, text, whole, zone
 
 from fleetplan.records import rows_of
@@ -12,11 +16,12 @@ DATE = "2026-11-30"
 ZONES = (60, 0, -210, 345, -480, 720, 120)
 
 
-def shift(days):
+def shift(days: int) -> str:
+    """Returns a date variation."""
     return "A" if days < 0 else str(days)
 
 
-def record(number, row, kind, zones, is_local):
+def record(number: int, row: Sequence[str], kind: str, zones: Mapping[str, int], is_local: bool) -> str:
     """A leg's record: its date of operation is that of its departure in local time. One of a week goes on one day of it, from Monday."""
     _, *day, origin, dep, destination, arr = row
     departs, arrives = minute_of(dep), minute_of(arr)
@@ -29,13 +34,13 @@ def record(number, row, kind, zones, is_local):
     return leg("ZZ", number, way, kind, operates, shifts=f"0{shift(days)}")
 
 
-def differs(folder, scratch, mode, ssim):
+def differs(folder: Path, scratch: Path, mode: str, ssim: Callable[..., Tuple[int, str]]) -> Optional[str]:
     """Returns which table of a schedule isn't the same after its way through a file, or None. `ssim` calls tools/ssim with words, and
     returns its status and what it told."""
     stations, fleets, legs = (rows_of(str(folder), f"{it}.csv") for it in ("stations", "fleets", "legs"))
     zones = {it[0]: ZONES[at % len(ZONES)] for at, it in enumerate(stations)}
     codes = {it[0]: it[0] if re.fullmatch(".{3}", it[0]) else f"Q{at:02}" for at, it in enumerate(fleets)}
-    filed = {}
+    filed: Dict[str, str] = {}
     for flight, fleet, _ in rows_of(str(folder), "costs.csv"):
         filed.setdefault(flight, codes[fleet])
     records = [record(at, row, filed[row[0]], zones, mode == "L") for at, row in enumerate(legs, 1)]
@@ -51,13 +56,14 @@ def differs(folder, scratch, mode, ssim):
     came = [[names[it[0]], *it[1:]] for it in rows_of(str(scratch / "day"), "legs.csv")]
     plan = [(names[flight], kind) for flight, kind in rows_of(str(scratch / "day"), "plan.csv")]
     flown = {code for row in legs for code in (row[-4], row[-2])}
-    for name, before, after in (
+    compared: Tuple[Tuple[str, List[Any], List[Any]], ...] = (
         ("legs", sorted(legs), sorted(came)),
         ("stations", [it for it in stations if it[0] in flown], rows_of(str(scratch / "day"), "stations.csv")),
         ("fleets", own, rows_of(str(scratch / "day"), "fleets.csv")),
         ("plan", sorted(filed.items()), sorted(plan)),
         ("order of legs", sorted(came, key=lambda it: (it[1] if is_week else "", it[-3])), came),
-    ):
+    )
+    for name, before, after in compared:
         if before != after:
             return f"{name}: {[it for it in before if it not in after][:3]} became {[it for it in after if it not in before][:3]}"
     return None

@@ -8,9 +8,13 @@ A leg has a demand that changes over the day. A fleet may fly it if it has the r
 that it leaves behind. Each tour goes to a fleet that may fly all of it, at least cost and at times another one, and a fleet has
 the aircraft of its tours and some more: so there is a legal plan. With MOST the costs are drawn from 1 to MOST in place of that.
 """
-import random
 
-from shared import put, write_by_words
+from __future__ import annotations
+
+import random
+from typing import Dict, List, Optional, Sequence, Tuple
+
+from shared import Place, put, write_by_words
 
 from fleetplan.times import DAY, clock
 
@@ -23,25 +27,34 @@ KINDS = (
 )
 
 
-def name(place, hubs):
+def name(place: int, hubs: int) -> str:
+    """The code of a station, by its place."""
     return f"HU{chr(65 + place)}" if place < hubs else f"S{chr(65 + (place - hubs) // 26)}{chr(65 + (place - hubs) % 26)}"
+
+
+# Seats, turn, range and cost of a minute of a kind of aircraft; a leg as (from, departure, to, block, demand).
+Kind = Tuple[int, int, int, int]
+Leg = Tuple[int, int, int, int, int]
+Tour = List[Leg]
 
 
 class Network:
     """Stations, of which the first are hubs, with how often tours go there, and the blocks between hubs and all others."""
 
-    def __init__(self, draw, stations, hubs):
-        self.stations, self.hubs, self.block = stations, hubs, {}
+    def __init__(self, draw: random.Random, stations: int, hubs: int) -> None:
+        self.stations, self.hubs = stations, hubs
+        self.block: Dict[Tuple[int, int], int] = {}
         for hub in range(hubs):
             for other in range(stations):
                 self.block[hub, other] = self.block[other, hub] = 5 * draw.randrange(9, 27 if other < hubs else 46)
         self.weight = [draw.choice((1, 1, 2, 3, 5)) for _ in range(stations)]
 
-    def tour(self, draw):
+    def tour(self, draw: random.Random) -> Tour:
         """A tour of legs (from, departure, to, block, demand), or none where it took too long."""
         stations, hubs, block, weight = self.stations, self.hubs, self.block, self.weight
         at = home = draw.choices(range(stations), weight)[0]
-        minute, tour = START + 5 * draw.randrange(24, 70), []
+        minute = START + 5 * draw.randrange(24, 70)
+        tour: Tour = []
         while True:
             to = draw.choices(range(hubs, stations), weight[hubs:])[0] if at < hubs and draw.random() < 0.9 else draw.randrange(hubs)
             if to == at:
@@ -61,7 +74,7 @@ class Network:
         return tour if minute <= START + DAY + 200 else []
 
 
-def tours_of(draw, legs, stations, hubs):
+def tours_of(draw: random.Random, legs: int, stations: int, hubs: int) -> List[Tour]:
     """Tours of so many legs, or a few more."""
     network, tours, flown = Network(draw, stations, hubs), [], 0
     while flown < legs:
@@ -72,14 +85,20 @@ def tours_of(draw, legs, stations, hubs):
     return tours
 
 
-def cost(leg, kind):
+def cost(leg: Leg, kind: Kind) -> Optional[int]:
     """What a kind of aircraft costs on a leg; none where it is out of its range."""
     _, _, _, block, demand = leg
     seats, _, reach, minute = kind
     return block * minute + 30 * seats + 190 * max(0, demand - seats) if block <= reach else None
 
 
-def kinds_of(fleets):
+def sums_of(tour: Tour, kinds: Sequence[Kind]) -> List[Tuple[int, int]]:
+    """What a tour costs with each kind that may fly all of it, with the kind's place."""
+    costs = ([cost(leg, kind) for leg in tour] for kind in kinds)
+    return [(sum(it or 0 for it in own), place) for place, own in enumerate(costs) if None not in own]
+
+
+def kinds_of(fleets: int) -> Sequence[Kind]:
     """The kinds of so many fleets: those above, and for more than eight some with a few seats more."""
     if fleets > len(KINDS):
         more = [(seats + step, turn + step, reach + 2 * step, minute + step // 2) for step in (10, 5) for seats, turn, reach, minute in KINDS]
@@ -89,29 +108,30 @@ def kinds_of(fleets):
     return KINDS[:2] + KINDS[-(fleets - 2) :] if fleets > 4 else KINDS[1 : fleets + 1]
 
 
-def sizes_of(legs):
+def sizes_of(legs: int) -> Tuple[int, int]:
     """How many stations a day of so many legs has, and how many hubs."""
     return max(6, legs // LEGS_A_STATION), 2 if legs < 150 else 3
 
 
-def places(stations, hubs):
+def places(stations: int, hubs: int) -> List[Tuple[str, int, str]]:
     """The records of the stations."""
     return [(name(s, hubs), 5 if s < hubs else 0, "yes" if s % 3 == 0 else "no") for s in range(stations)]
 
 
-def write(folder, legs, fleets, number=1, most=None):
+def write(folder: Place, legs: int, fleets: int, number: int = 1, most: Optional[int] = None) -> None:
+    """Writes the tables of a number."""
     draw = random.Random(number)
     (stations, hubs), kinds = sizes_of(legs), kinds_of(fleets)
     tours, aircraft = tours_of(draw, legs, stations, hubs), [2] * fleets
     kept = []
     for tour in tours:
-        sums = [(sum(costs), place) for place, kind in enumerate(kinds) if None not in (costs := [cost(leg, kind) for leg in tour])]
+        sums = sums_of(tour, kinds)
         if sums:
             kept.append(tour)
             aircraft[min(sums)[1] if draw.random() < 0.7 else draw.choice(sums)[1]] += 1 if draw.random() < 0.7 else 2
     flown = [leg for tour in kept for leg in tour]
     pairs = [(f"L{at}", f"F{kind[0]}", paid) for at, leg in enumerate(flown) for kind in kinds if (paid := cost(leg, kind)) is not None]
-    tables = {
+    tables: Dict[str, Sequence[Sequence[object]]] = {
         "stations.csv": places(stations, hubs),
         "fleets.csv": [(f"F{kind[0]}", count, kind[1]) for kind, count in zip(kinds, aircraft)],
         "legs.csv": [

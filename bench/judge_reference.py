@@ -6,10 +6,14 @@ usage: judge_reference.py DIR HH:MM [P] [--windows] [--optional]      (without a
 It takes tables that read, and stops with an error where they don't. It counts aircraft at every minute of the period,
 and stops with an error where flights under way and aircraft on the ground don't sum to the aircraft used.
 """
+
+from __future__ import annotations
+
 import csv
 import re
 import sys
 from pathlib import Path
+from typing import Any, Dict, Iterable, List, Mapping, Optional, Tuple
 
 DAY = 1440
 MOST_COST = 10**12
@@ -32,16 +36,21 @@ FILES = {
     "optional.csv": {"flight": NAME, "skip": WHOLE},
     "plan.csv": {"flight": NAME, "fleet": NAME},
 }
+Rows = List[List[str]]
+# A fleet, or LEFT_OUT, and a shift; and of each flight its choice.
+Choice = Tuple[str, int]
+Plan = Dict[str, Choice]
 
 
-def wanted(holds, what):
+def wanted(holds: object, what: str) -> None:
+    """Ends where something doesn't hold."""
     if not holds:
         sys.exit(f"judge_reference: {what}")
 
 
-def records(folder, name, period=1, forms=None):
-    """The records of a file below its header, each field in its form, by the file's forms where none are given. Where the period is a day legs may have none, and stations may
-    have no limits."""
+def records(folder: Path, name: str, period: int = 1, forms: Optional[Mapping[str, str]] = None) -> Rows:
+    """The records of a file below its header, each field in its form, by the file's forms where none are given. Where the period is a day
+    legs may have none, and stations may have no limits."""
     if name == "throughs.csv" and (folder / name).stat().st_size == 0:
         return []
     with open(folder / name, newline="", encoding="utf-8-sig") as file:
@@ -61,7 +70,7 @@ def records(folder, name, period=1, forms=None):
     return rows
 
 
-def table(rows, keys, most, what):
+def table(rows: Rows, keys: int, most: int, what: str) -> Dict[Any, List[str]]:
     """What stands under the first fields of each record, which differ from one another."""
     found = {tuple(row[:keys]) if keys > 1 else row[0]: row[keys:] for row in rows}
     wanted(len(found) == len(rows), f"{what}: a name or a pair stands twice")
@@ -69,17 +78,21 @@ def table(rows, keys, most, what):
     return found
 
 
-def number(text, least, most):
+def number(text: str, least: int, most: int) -> int:
+    """Returns a number, and ends where it isn't within bounds."""
     wanted(least <= int(text) <= most, f"{text} is not from {least} to {most}")
     return int(text)
 
 
-def minute(text):
+def minute(text: str) -> int:
+    """Returns the minute of the day that HH:MM tells."""
     return 60 * int(text[:2]) + int(text[3:])
 
 
 class Tables:
-    def __init__(self, folder, day_start, period=1, windows=False, optional=False):
+    """The tables of a folder, within all limits, in minutes from the day start of the first day."""
+
+    def __init__(self, folder: Path, day_start: int, period: int = 1, windows: bool = False, optional: bool = False) -> None:
         self.minutes, self.windows, self.optional = DAY * period, windows, optional
         stations = table(records(folder, "stations.csv"), 1, 200, "stations.csv")
         fleets = table(records(folder, "fleets.csv"), 1, 20, "fleets.csv")
@@ -109,7 +122,8 @@ class Tables:
         wanted(all(flight in legs for flight in skips), "optional.csv: an unknown flight")
         self.skips = {flight: number(row[0], -MOST_COST, MOST_COST) for flight, row in skips.items()}
 
-    def read_windows(self, rows):
+    def read_windows(self, rows: Rows) -> None:
+        """Reads other times of legs."""
         for flight, text, extra in rows:
             shift = number(text, -MOST_SHIFT, MOST_SHIFT)
             wanted(flight in self.legs and shift not in self.extras[flight], "windows.csv: an unknown flight, or a shift that it has")
@@ -119,19 +133,19 @@ class Tables:
         triples = sum(len(self.extras[flight]) for flight, _ in self.costs)
         wanted(not rows or triples <= MOST_TRIPLES, "windows.csv: flights with a fleet at a time are too many")
 
-    def price(self, flight, fleet, shift):
+    def price(self, flight: str, fleet: str, shift: int) -> Optional[int]:
         """What it costs to fly a leg so, or to leave it out; none where that may not be."""
         if fleet == LEFT_OUT:
             return self.skips.get(flight)
         cost = self.costs.get((flight, fleet))
         return None if cost is None else cost + self.extras[flight][shift]
 
-    def choices(self, flight):
+    def choices(self, flight: str) -> List[Choice]:
         """The fleets and shifts by which a leg may be flown, and that it is left out, where it may be."""
         flown = [(fleet, shift) for fleet in self.aircraft if (flight, fleet) in self.costs for shift in self.extras[flight]]
         return flown + [(LEFT_OUT, 0)] * (flight in self.skips)
 
-    def plan(self, folder):
+    def plan(self, folder: Path) -> Plan:
         """The fleet and the shift of each flight by the plan of a folder."""
         forms = {"flight": NAME, "fleet": f"{LEFT_OUT}|{NAME}", **({"shift": WHOLE} if self.windows else {})}
         rows = records(folder, "plan.csv", forms=forms)
@@ -146,7 +160,7 @@ class Tables:
 class Movements:
     """What the aircraft of one fleet do through the period: its flights, by some minutes later where shifts say so."""
 
-    def __init__(self, tables, flights, fleet, shifts={}):
+    def __init__(self, tables: Tables, flights: Iterable[str], fleet: str, shifts: Mapping[str, int] = {}) -> None:
         self.minutes = minutes = tables.minutes
         self.out = {code: [0] * minutes for code in tables.extra}
         self.ready = {code: [0] * minutes for code in tables.extra}
@@ -166,25 +180,27 @@ class Movements:
         self.used = sum(self.need.values()) + self.laps
         self.add_up()
 
-    def least_stock(self, code):
+    def least_stock(self, code: str) -> int:
+        """Returns how many aircraft have to be at a station at first."""
         stock = lowest = 0
         for ready, out in zip(self.ready[code], self.out[code]):
             stock += ready - out
             lowest = min(lowest, stock)
         return -lowest
 
-    def stands(self, code, end):
+    def stands(self, code: str, end: int) -> int:
         """How many aircraft are on the ground before the minute at which a day ends."""
         return self.need[code] + sum(self.ready[code][:end]) - sum(self.out[code][:end])
 
-    def add_up(self):
+    def add_up(self) -> None:
+        """Ends where aircraft on the ground and under way don't sum to those that are used."""
         ground = sum(self.need.values())
         for now in range(self.minutes):
             ground += sum(self.ready[code][now] - self.out[code][now] for code in self.need)
             wanted(ground + self.under_way[now] == self.used, f"at minute {now} the aircraft don't add up")
 
 
-def verdict(tables, plan):
+def verdict(tables: Tables, plan: Plan) -> Tuple[List[str], int]:
     """The lines to print, and the status."""
     prices = {flight: tables.price(flight, *choice) for flight, choice in plan.items()}
     for flight, price in prices.items():
@@ -207,13 +223,14 @@ def verdict(tables, plan):
             parked = sum(move.stands(code, end) for move in moves.values())
             if parked > limit:
                 return [f"crowded: {code} day {end // DAY} parked {parked} of {limit}"], 9
-    lines = [f"legal: cost {sum(prices.values())}"]
+    lines = [f"legal: cost {sum(it for it in prices.values() if it is not None)}"]
     for fleet, move in moves.items():
         lines.append(f"fleet {fleet}: used {move.used} of {tables.aircraft[fleet]}")
     return lines, 0
 
 
-def main():
+def main() -> None:
+    """Prints the verdict on the plan of the words' folder."""
     flags = [it for it in ("--windows", "--optional") if it in sys.argv]
     words = [it for it in sys.argv[1:] if it not in flags]
     if len(words) not in (2, 3) or not re.fullmatch(TIME, words[1]) or not re.fullmatch("[1-7]", (words[2:] or "1")[0]):

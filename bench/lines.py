@@ -5,15 +5,23 @@ last of these. Its lines are those of fleet assignment: each leg is flown once, 
 it again, and a fleet uses no more aircraft than it has.
 """
 
+from __future__ import annotations
+
+from typing import Callable, Dict, List, Sequence, Tuple
+
 import schedules
-from shared import DAY_START, rows
+from shared import DAY_START, Place, rows
 
 from fleetplan.times import DAY, minute_of
 
 START = minute_of(DAY_START)
+# A leg (from, departure, to, minutes without the turn, costs by fleet), and what is read of tables.
+Leg = Tuple[int, int, int, int, List[int]]
+Read = Tuple[List[Tuple[int, int]], List[Leg], int]
+Goes = Callable[[List[int], int, List[int], List[int], int], bool]
 
 
-def read(folder):
+def read(folder: Place) -> Read:
     """The fleets (aircraft, turn), the legs (from, departure, to, minutes without the turn, costs by fleet), each of which all
     fleets may fly, and the number of stations of a folder's tables. The schedule repeats after `schedules.period_of` days."""
     period = DAY * schedules.period_of(folder)
@@ -21,7 +29,7 @@ def read(folder):
         rows(folder, name) for name in ("stations.csv", "fleets.csv", "legs.csv", "costs.csv")
     )
     place = {row["code"]: at for at, row in enumerate(stations)}
-    costs = {row["flight"]: [] for row in flights}
+    costs: Dict[str, List[int]] = {row["flight"]: [] for row in flights}
     for pair in pairs:
         costs[pair["flight"]].append(int(pair["cost"]))
     made = [
@@ -37,7 +45,7 @@ def read(folder):
     return [(int(row["aircraft"]), int(row["turn"])) for row in fleets], made, len(stations)
 
 
-def nodes_of(departures, readies):
+def nodes_of(departures: Sequence[int], readies: Sequence[int]) -> List[int]:
     """The first minutes of a time line's nodes."""
     if not departures and not readies:
         return []
@@ -48,11 +56,22 @@ def nodes_of(departures, readies):
     return starts
 
 
-def node_at(starts, minute):
+def node_at(starts: Sequence[int], minute: int) -> int:
+    """The node in which a minute lies."""
     return max(k for k, start in enumerate(starts) if start <= minute)
 
 
-def lines_of(fleets, legs, stations, goes=lambda nodes, node, departures, readies, station: False, period=DAY):
+def lines_of(
+    fleets: Sequence[Tuple[int, int]],
+    legs: Sequence[Leg],
+    stations: int,
+    goes: Goes = lambda nodes,
+    node,
+    departures,
+    readies,
+    station: False,
+    period: int = DAY,
+) -> Tuple[List[List[int]], List[int]]:
     """The lines, each with its right side last, and the costs; without the ground arcs that go. `period` is in minutes."""
     pairs = []
     for leg, (origin, departure, target, block, costs) in enumerate(legs):

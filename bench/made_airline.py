@@ -8,8 +8,12 @@ From a hub four aircraft types fly 60 legs on each day from Monday to Friday and
 over midnight on its way, flights to stations at -0330 and +0545, one every second week, one that another airline flies, one that it
 may fly with another's aircraft, and a bus.
 """
+
+from __future__ import annotations
+
 import sys
 from pathlib import Path
+from typing import Dict, Iterator
 
 from schedule_lines import leg, segment, text, whole, zone
 
@@ -35,14 +39,14 @@ WINDOWS = "flight,shift,extra\n*,-15,100\n*,15,100\n"
 OPTIONAL = "flight,skip\nZZ324,2000\nZZ325,2000\n"
 
 
-def way(origin, departs, destination, arrives):
+def way(origin: str, departs: int, destination: str, arrives: int) -> str:
     """The way of a leg: stations with minutes in local time."""
     there, back = ((code, SPOKES.get(code, (HUB_ZONE,))[0]) for code in (origin, destination))
     clock = [f"{it // 60:02}{it % 60:02}" for it in (departs, arrives)]
     return f"{there[0]} {clock[0]} {zone(there[1])} {back[0]} {clock[1]} {zone(back[1])}"
 
 
-def trips():
+def trips() -> Iterator[str]:
     """The legs between the hub and its spokes. A spoke's n-th trip of a day has the same flight numbers on all days."""
     found = []
     for variation, (days, tours) in enumerate(DAYS.items(), 1):
@@ -58,13 +62,13 @@ def trips():
                 found.append((number, variation, kind, days, way(HUB, minute, code, there)))
                 found.append((number + 1, variation, kind, days, way(code, back, HUB, home)))
                 minute = home + TURN
-    numbers = {}
+    numbers: Dict[int, int] = {}
     for number, _, kind, days, path in sorted(found):
         numbers[number] = numbers.get(number, 0) + 1
         yield leg(AIRLINE, number, path, kind, days, variation=numbers[number])
 
 
-def others():
+def others() -> Iterator[str]:
     """The legs that are something of their own."""
     far = leg(AIRLINE, 90, "ZRH 2155 +0100 KTM 1110 +0545", "333", shifts="01")
     yield far
@@ -82,7 +86,7 @@ def others():
     yield leg(AIRLINE, 251, "TFS 1445 +0000 ZRH 2010 +0100", "320", "1", b36="2", period=("26OCT26", "22MAR27"))
 
 
-def elsewhere():
+def elsewhere() -> Iterator[str]:
     """The legs that the airline's own aircraft don't fly."""
     shared = leg(AIRLINE, 4801, "ZRH 0950 +0100 JFK 1310 -0500", "77W")
     yield shared
@@ -92,7 +96,8 @@ def elsewhere():
     yield leg(AIRLINE, 8002, "BSL 2000 +0100 ZRH 2130 +0100", "BUS", service="U")
 
 
-def main():
+def main() -> None:
+    """Writes the files of the airline."""
     if len(sys.argv) != 2:
         sys.exit(__doc__)
     folder = Path(sys.argv[1])

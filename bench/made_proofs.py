@@ -4,21 +4,28 @@ The first fleet has an aircraft for each round trip, the others have none. Each 
 a trim, whose `yes` child is refuted by prices: a rent of 1, and at all stations a price of 1 up to the leg's departure
 and of 0 after it. What is left is one assignment, that of the first fleet. No turn passes the day start.
 """
-from pathlib import Path
 
-from shared import put
+from __future__ import annotations
+
+from pathlib import Path
+from typing import Callable, Iterable, Iterator, Optional, Sequence, Tuple
+
+from shared import Place, put
 
 from fleetplan.times import DAY, clock
 
 TURN = 30
 BLOCK = 60
+# A flight, from, departure, to.
+Leg = Tuple[str, int, int, int]
 
 
-def code(station):
+def code(station: int) -> str:
+    """The code of a station."""
     return "S" + chr(65 + station // 26) + chr(65 + station % 26)
 
 
-def legs_of(trips, stations):
+def legs_of(trips: int, stations: int) -> Iterator[Leg]:
     """Two legs a round trip: flight, from, departure, to."""
     for trip in range(trips):
         out = 300 + 7 * trip % 400
@@ -28,11 +35,13 @@ def legs_of(trips, stations):
         yield f"B{trip}", away, out + 200, home
 
 
-def cost_of(leg, fleet):
+def cost_of(leg: int, fleet: int) -> int:
+    """What a leg costs with a fleet."""
     return 1000 + (leg * 37 + fleet * 101) % 500
 
 
-def refuted(fleet, departure, stations):
+def refuted(fleet: int, departure: int, stations: int) -> Iterator[str]:
+    """The lines of prices that refute a pair."""
     yield "refuted"
     yield "scale 1"
     yield f"rent F{fleet + 1} 1"
@@ -41,7 +50,8 @@ def refuted(fleet, departure, stations):
         yield f"at F{fleet + 1} {code(station)} {departure + 1} 0"
 
 
-def proof_of(legs, fleets, stations):
+def proof_of(legs: Sequence[Leg], fleets: int, stations: int) -> Iterator[str]:
+    """The lines of the proof that trims all pairs but those of the first fleet."""
     yield "fleet proof 2"
     yield "plan yes"
     for flight, _, departure, _ in legs:
@@ -52,7 +62,7 @@ def proof_of(legs, fleets, stations):
     yield "end"
 
 
-def stepped(fleets, stations):
+def stepped(fleets: int, stations: int) -> Iterator[str]:
     """A proof of one open leaf, whose prices fall by 1 at each minute, of each fleet at each station."""
     yield "fleet proof 2"
     yield "plan yes"
@@ -65,7 +75,14 @@ def stepped(fleets, stations):
     yield "end"
 
 
-def write(folder, trips, fleets, stations, proof=None, cost=cost_of):
+def write(
+    folder: Place,
+    trips: int,
+    fleets: int,
+    stations: int,
+    proof: Optional[Iterable[str]] = None,
+    cost: Callable[[int, int], int] = cost_of,
+) -> Tuple[int, int]:
     """Writes tables, plan and proof, and answers the nodes of the tree and the plan's cost.
 
     The proof is the one of trims, or the lines that are given. A pair costs what `cost` says of its leg and its fleet."""

@@ -1,31 +1,36 @@
 """Times `fleetplan judge` beside a Python process whose csv module merely reads the same files."""
+
+from __future__ import annotations
+
 import shutil
 import subprocess
 import sys
 import tempfile
 import time
 from pathlib import Path
+from typing import Any, Dict, NoReturn, Sequence, Tuple
 
 import make_tables
-from shared import BENCH, DAY_START, program_of, run
+from shared import BENCH, DAY_START, Place, program_of, run
 
 RUNS = 9
 
 
-def seconds_of(words):
+def seconds_of(words: Sequence[str]) -> float:
+    """The seconds of a run by the clock."""
     start = time.perf_counter()
     subprocess.run(words, stdin=subprocess.DEVNULL, stdout=subprocess.DEVNULL, check=True)
     return time.perf_counter() - start
 
 
-def peak_of(words):
+def peak_of(words: Sequence[str]) -> float:
     """The most memory that a run held, in MB: by GNU time, since a child's count of our own begins at our own size."""
     with tempfile.NamedTemporaryFile() as note:
         subprocess.run(["time", "-f", "%M", "-o", note.name, *words], stdin=subprocess.DEVNULL, stdout=subprocess.DEVNULL, check=True)
         return int(note.read()) * 1024 / 1e6
 
 
-def compare(title, program, folder, files, flags):
+def compare(title: str, program: Path, folder: Place, files: Sequence[Path], flags: Sequence[str]) -> bool:
     """Prints the best time of several runs, taken in turn, and the peak memory. Answers whether the program's time is no more."""
     sides = {
         "fleetplan judge": [str(program), "judge", str(folder), "--day-start", DAY_START, *flags],
@@ -41,21 +46,26 @@ def compare(title, program, folder, files, flags):
     return best["fleetplan judge"] <= best["Python csv"]
 
 
-def same_answer(program, folder, flags):
+def same_answer(program: Path, folder: Place, flags: Sequence[str]) -> bool:
     """Whether the program prints what the reference prints."""
     ours = run(program, "judge", folder, "--day-start", DAY_START, *flags)
     theirs = run(sys.executable, BENCH / "judge_reference.py", folder, DAY_START, *flags)
     return (ours.returncode, ours.stdout) == (theirs.returncode, theirs.stdout) and ours.returncode == 0
 
 
-def main(filled):
-    """Measures on the largest tables, in both orders of costs, and on those with windows and optional legs. Its status is 0 where the program took no more time."""
+def main(filled: bool) -> NoReturn:
+    """Measures on the largest tables, in both orders of costs, and on those with windows and optional legs. Its status is 0 where the program
+    took no more time."""
     program = program_of(*sys.argv[1:2])
     if not shutil.which("time"):
         sys.exit("GNU time is not on the PATH, by which memory is measured")
     print(f"best of {RUNS} runs, and the most memory held")
     no_more = True
-    kinds = (("costs by leg and fleet", {}), ("costs in another order", {"shuffled": True}), ("windows and optional legs", {"timed": True}))
+    kinds: Tuple[Tuple[str, Dict[str, Any]], ...] = (
+        ("costs by leg and fleet", {}),
+        ("costs in another order", {"shuffled": True}),
+        ("windows and optional legs", {"timed": True}),
+    )
     for title, kind in kinds:
         flags = ["--windows", "--optional"] if "timed" in kind else []
         with tempfile.TemporaryDirectory() as scratch:

@@ -1,15 +1,21 @@
 """Other solvers beside the program: cbc, glpsol and HiGHS, on the same integer program. HiGHS is called by scipy."""
+
+from __future__ import annotations
+
 import os
 import re
 import shutil
 import subprocess
 from pathlib import Path
+from typing import Dict, Optional, Tuple
 
 import plan_by_cbc
-from shared import BENCH
+from shared import BENCH, Place
 
 from fleetplan.times import minute_of
 
+# The seconds of each solver, and the cost where it was found.
+Found = Dict[str, Tuple[float, Optional[int]]]
 SECONDS = 120
 # Debian's scipy is for this one.
 PYTHON = "/usr/bin/python3"
@@ -22,19 +28,19 @@ SOLVERS = {
 }
 
 
-def is_there(name):
+def is_there(name: str) -> bool:
     """Whether a solver is on this machine."""
     if name == "highs":
         return shutil.which(PYTHON) is not None and subprocess.run([PYTHON, "-c", "import scipy.optimize"], capture_output=True).returncode == 0
     return shutil.which(name) is not None
 
 
-def solved(folder, day_start="03:00"):
+def solved(folder: Place, day_start: str = "03:00") -> Found:
     """The seconds of the processor and the cost of each solver that is there, on the tables of a folder. After two minutes by the
     clock they are ended, and have no cost."""
     model, _ = plan_by_cbc.program(*plan_by_cbc.pairs_of(folder, minute_of(day_start)))
     Path(folder, "model.lp").write_text(model)
-    found = {}
+    found: Found = {}
     for name, (words, cost) in SOLVERS.items():
         if is_there(name):
             before = os.times()
@@ -49,6 +55,6 @@ def solved(folder, day_start="03:00"):
     return found
 
 
-def told(found):
+def told(found: Found) -> str:
     """What they took, in words."""
     return "".join(f" {name} {seconds:.2f} s{'' if cost is not None else ' (ended)'}" for name, (seconds, cost) in found.items())

@@ -9,20 +9,28 @@ written as DIR/plan.csv, and its cost is printed. Each fleet has a time line at 
 which are some that become ready and then some that depart, to the next one, and from the last to the first. Where a station has a
 limit, a node lies within a day.
 """
+
+from __future__ import annotations
+
 import subprocess
 import sys
 import tempfile
 from collections import defaultdict
 from pathlib import Path
+from typing import Dict, List, Mapping, Optional, Sequence, Set, Tuple
 
 from schedules import flags_of, period_of
-from shared import FLAGGED, put, rows
+from shared import FLAGGED, Place, put, rows
 
 from fleetplan.tables import NO_FLEET, NO_LIMIT, SHIFTED
 from fleetplan.times import DAY, minute_of
+# A leg's place, a fleet and a shift; of each its departure, ready minute, laps and cost; and what happens in a minute: that and its term.
+Key = Tuple[int, str, int]
+Pairs = Dict[Key, Tuple[Optional[int], Optional[int], int, int]]
+Event = Tuple[int, int, str]
 
 
-def pairs_of(folder, start):
+def pairs_of(folder: Place, start: int) -> Tuple[List[Dict[str, str]], List[Tuple[str, int, int]], Pairs, Dict[str, int]]:
     """The legs, the fleets, and of each way to fly a leg, by its fleet and shift, its departure, ready minute, laps and cost. A leg that may
     be left out has a way without fleet that has its cost alone. Last come the limits of stations that have one."""
     stations = rows(folder, "stations.csv")
@@ -32,7 +40,8 @@ def pairs_of(folder, start):
     legs, period = rows(folder, "legs.csv"), DAY * period_of(folder)
     place = {leg["flight"]: number for number, leg in enumerate(legs)}
     turns = {name: turn for name, _, turn in fleets}
-    flags, shifts, pairs = flags_of(folder), {it: [(0, 0)] for it in place}, {}
+    flags, shifts = flags_of(folder), {it: [(0, 0)] for it in place}
+    pairs: Pairs = {}
     for row in rows(folder, FLAGGED["--windows"]) if "--windows" in flags else ():
         shifts[row["flight"]].append((int(row["shift"]), int(row["extra"])))
     for row in rows(folder, "costs.csv"):
@@ -47,7 +56,9 @@ def pairs_of(folder, start):
     return legs, fleets, pairs, limits
 
 
-def program(legs, fleets, pairs, limits):
+def program(
+    legs: Sequence[Mapping[str, str]], fleets: Sequence[Tuple[str, int, int]], pairs: Pairs, limits: Mapping[str, int]
+) -> Tuple[str, Dict[Key, str]]:
     """The text of the integer program, in the form that cbc reads."""
     name = {key: f"x{number}" for number, key in enumerate(pairs)}
     lines = ["Minimize", " cost: " + " + ".join(f"{pairs[key][3]} {name[key]}" for key in pairs).replace("+ -", "- "), "Subject To"]
@@ -55,7 +66,7 @@ def program(legs, fleets, pairs, limits):
     for key, (departs, ready, crossed, _) in pairs.items():
         leg, fleet, _ = key
         cover[leg].append(name[key])
-        if fleet == NO_FLEET:
+        if departs is None or ready is None:
             continue
         events[fleet, legs[leg]["from"]].append((departs, 1, name[key]))
         events[fleet, legs[leg]["to"]].append((ready, 0, name[key]))
@@ -82,9 +93,10 @@ def program(legs, fleets, pairs, limits):
     return "\n".join(lines + ["Binaries", " " + " ".join(name.values()), "End", ""]), name
 
 
-def nodes_of(events, ends_with_day):
+def nodes_of(events: Sequence[Event], ends_with_day: bool) -> List[Tuple[int, List[str]]]:
     """The nodes of a time line, each as its first minute and the terms of what becomes ready there and then departs, in order of time."""
-    nodes, has_left, today = [], False, None
+    nodes: List[Tuple[int, List[str]]] = []
+    has_left, today = 0, -1
     for at, leaves, term in sorted(events):
         day = at // DAY if ends_with_day else 0
         if has_left and not leaves or day != today:
@@ -94,7 +106,7 @@ def nodes_of(events, ends_with_day):
     return nodes
 
 
-def solve(text):
+def solve(text: str) -> Set[str]:
     """The names of the binaries that cbc sets to 1."""
     with tempfile.TemporaryDirectory() as folder:
         model, found = Path(folder, "model.lp"), Path(folder, "found")
@@ -104,7 +116,7 @@ def solve(text):
     return {words[1] for words in map(str.split, lines[1:]) if words[1].startswith("x") and float(words[2]) > 0.5}
 
 
-def write(folder, day_start):
+def write(folder: Place, day_start: str) -> int:
     """Writes the plan of a folder, and gives its cost."""
     legs, fleets, pairs, limits = pairs_of(folder, minute_of(day_start))
     text, name = program(legs, fleets, pairs, limits)
@@ -115,7 +127,8 @@ def write(folder, day_start):
     return sum(pairs[key][3] for key, it in name.items() if it in chosen)
 
 
-def main():
+def main() -> None:
+    """Writes the plan of the words' folder, and prints its cost."""
     print(write(sys.argv[1], sys.argv[2] if len(sys.argv) > 2 else "03:00"))
 
 

@@ -4,18 +4,21 @@ A ring has a hub and two fleets of its own with one aircraft each, which could f
 dearer fleet, which serves all rings, flies a trip or more. The linear relaxation sees nothing of that: it flies each trip by
 halves. So each ring wants splits of its own, and rings side by side want each with each. Costs are drawn from a number.
 """
-import random
 
-from shared import put
+from __future__ import annotations
+
+import random
+from shared import Place, put
 
 from fleetplan.times import DAY, clock
 
 
-def code(number):
+def code(number: int) -> str:
+    """The code of a station."""
     return "".join(chr(ord("A") + number // 26**place % 26) for place in (2, 1, 0))
 
 
-def write(folder, rings, trips, number):
+def write(folder: Place, rings: int, trips: int, number: int) -> None:
     """Writes so many rings of so many round trips each, with the costs of a number. A day starts at 00:00."""
     draws = random.Random(number)
     stations, fleets, legs, costs = [], [("DEAR", rings * trips, 0)], [], []

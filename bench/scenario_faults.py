@@ -1,21 +1,26 @@
 """Faults of the machine, and slips of a planner's, in runs of tools/scenarios."""
 
+from __future__ import annotations
+
 import contextlib
 import os
 import re
 import shutil
 import subprocess
+from typing import Iterator
 
 import hubs
 import slurm_here
-from scenario_runs import BUILT, HUB_DAY, Run, is_root, wrapped
+from pathlib import Path
+from scenario_runs import BUILT, HUB_DAY, Run, Tries, is_root, wrapped
 
 NOBODY = 65534
 AS_IS = ("as-is", "", "", "")
 THREE = [AS_IS, ("less", "", "", "aircraft A320 -1"), ("dearer", "", "", "cost E190 *1.1")]
 
 
-def faults(tries, scratch, _):
+def faults(tries: Tries, scratch: Path, _: int) -> None:
+    """Tries all faults."""
     sound = Run(scratch / "sound", HUB_DAY, THREE)
     tries("three scenarios", sound.on(2) == 0)
     slips(tries, scratch)
@@ -30,14 +35,15 @@ def faults(tries, scratch, _):
         tries.without("a full disk, and a folder that may not be written", "root, who mounts a disk and gives folders away")
 
 
-def slips(tries, scratch):
+def slips(tries: Tries, scratch: Path) -> None:
     """Tables that don't read and changes that can't be are rows of the summary, and no fault of the run."""
     bad = scratch / "slips" / "bad"
     bad.mkdir(parents=True)
     lines = (HUB_DAY / "costs.csv").read_text(encoding="utf-8").splitlines()
     (bad / "costs.csv").write_text("\n".join([*lines[:3], "FP999,A320,1", *lines[3:]]) + "\n", encoding="utf-8")
     rows = [AS_IS, ("bad", "", "bad", ""), ("many", "", "", "aircraft A320 -7"), ("who", "", "", "cost B747 *1.1")]
-    rows += [("words", "--days 31", "", ""), ("week", "--period 7", "", ""), ("day", "", "", "only-day 3"), ("where", "", "", "parking ZZZ 2"), ("none", "", "", "aircraft A320 0; aircraft A220 0; aircraft E190 0")]
+    rows += [("words", "--days 31", "", ""), ("week", "--period 7", "", ""), ("day", "", "", "only-day 3"), ("where", "", "", "parking ZZZ 2")]
+    rows += [("none", "", "", "aircraft A320 0; aircraft A220 0; aircraft E190 0")]
     run = Run(scratch / "slips", HUB_DAY, rows)
     tries("slips are rows, and the run ends well", run.on(2) == 0)
     told = {it["scenario"]: (it["outcome"], it["told"]) for it in run.summary()}
@@ -51,11 +57,11 @@ def slips(tries, scratch):
     tries("no aircraft at all", told["none"] == ("infeasible", "") and run.row("none")["check"] == "holds: infeasible")
     for change in ("parking ZRH +2", "aircraft A320", "cost A320 1.1", "turn A320 +5", "only-day 8"):
         other = Run(scratch / "slips", HUB_DAY, [AS_IS, ("new", "", "", change)])
-        status, told = other.on(1), (other.folder / "engine").read_text(encoding="utf-8").rsplit("WorkflowError", 1)[-1]
-        tries(f"a change that doesn't read ends the run before it begins: {change}", status != 0 and change.split()[0] in told)
+        status, said = other.on(1), (other.folder / "engine").read_text(encoding="utf-8").rsplit("WorkflowError", 1)[-1]
+        tries(f"a change that doesn't read ends the run before it begins: {change}", status != 0 and change.split()[0] in said)
 
 
-def too_little_memory(tries, scratch):
+def too_little_memory(tries: Tries, scratch: Path) -> None:
     """Each further try has twice the memory. Of 400 legs a solve takes more than 6 MB, and less than 12. Where its stack can't grow it
     is killed."""
     base, rows = scratch / "hub400", [AS_IS, ("dearer", "", "", "cost F220 *1.1")]
@@ -70,7 +76,7 @@ def too_little_memory(tries, scratch):
     tries("too little memory at first, and twice as much is enough", is_told and is_same, ", ".join(ends))
 
 
-def never_enough(tries, scratch):
+def never_enough(tries: Tries, scratch: Path) -> None:
     """A solve, and a question, that have too little memory at each try are told. With enough of it the next call does them alone."""
     short = scratch / "short"
     starved = wrapped(scratch / "starved", f'[ ! -e {short} ] || case "$*" in solve*/less/* | whatif*/dearer/*) exit 8 ;; esac')
@@ -80,17 +86,19 @@ def never_enough(tries, scratch):
     unasked = "other numbers of aircraft weren't asked"
     wanted = {"less": ("NOT SOLVED", "solve ended with 8"), "as-is": ("optimal", ""), "dearer": ("optimal", unasked)}
     is_blank = not run.row("dearer")["one less A320"] and run.row("as-is")["one less A320"]
-    tries("memory that never suffices to solve, or to ask", status != 0 and came == wanted and is_blank, "; ".join(it for _, it in came.values() if it))
+    told = "; ".join(it for _, it in came.values() if it)
+    tries("memory that never suffices to solve, or to ask", status != 0 and came == wanted and is_blank, told)
     short.unlink()
     standing = run.done()
     status, after = run.on(2), run.done()
     ample = Run(scratch / "enough", HUB_DAY, THREE, pictures="false")
     is_same = ample.on(2) == 0 and run.summary() == ample.summary()
     again = [it for it, mark in standing.items() if after.get(it) != mark]
-    tries("with enough of it the same summary, and what stood isn't done again", status == 0 and is_same and len(again) <= 1, f"{len(again)} of {len(standing)} were")
+    is_right = status == 0 and is_same and len(again) <= 1
+    tries("with enough of it the same summary, and what stood isn't done again", is_right, f"{len(again)} of {len(standing)} were")
 
 
-def failing_steps(tries, scratch):
+def failing_steps(tries: Tries, scratch: Path) -> None:
     """Tables that can't be judged and a plan that can't be drawn are told, and the others of a job of the cluster aren't lost."""
     spoil = f'{BUILT} "$@"; status=$?; for it; do [ ! -e "$it/rotation.csv" ] || echo x > "$it/rotation.csv"; done; exit $status'
     failing = wrapped(scratch / "failing", f'case "$*" in judge*/dearer/*) exit 8 ;; solve*/less/*) {spoil} ;; esac')
@@ -99,14 +107,17 @@ def failing_steps(tries, scratch):
             tries.without("steps that fail, by Slurm", slurm_here.lacks())
             continue
         run = Run(scratch / f"failing-{name}", HUB_DAY, THREE, program=failing)
-        with slurm_here.Slurm() if name == "slurm" else contextlib.nullcontext() as slurm:
-            status = run.go(name, environment=slurm.environment) if slurm else run.on(2)
+        if name == "slurm":
+            with slurm_here.Slurm() as slurm:
+                status = run.go(name, environment=slurm.environment)
+        else:
+            status = run.on(2)
         came = {it["scenario"]: (it["outcome"], it["told"].split(":")[0]) for it in run.summary()}
         wanted = {"dearer": ("NOT SOLVED", "judge ended with 8"), "as-is": ("optimal", ""), "less": ("optimal", "it wasn't drawn")}
         tries(f"steps that fail at each try, by {name}", status != 0 and came == wanted, "; ".join(it for _, it in came.values() if it))
 
 
-def changed_proofs(tries, scratch, sound):
+def changed_proofs(tries: Tries, scratch: Path, sound: Run) -> None:
     """A proof that was changed by hand is told first, whether it was changed before its check or after."""
     for name, is_checked in (("before its check", False), ("after its check", True)):
         run = Run(scratch / f"proof-{is_checked}", HUB_DAY, THREE)
@@ -125,7 +136,7 @@ def changed_proofs(tries, scratch, sound):
 
 
 @contextlib.contextmanager
-def mounted(place, options):
+def mounted(place: Path, options: str) -> Iterator[None]:
     """Gives a folder a disk of its own."""
     place.mkdir(parents=True)
     subprocess.run(["mount", "-t", "tmpfs", "-o", options, "none", place], check=True)
@@ -135,7 +146,8 @@ def mounted(place, options):
         subprocess.run(["umount", place], check=True)
 
 
-def full_disk(tries, scratch, sound):
+def full_disk(tries: Tries, scratch: Path, sound: Run) -> None:
+    """A run whose disk is full ends, and goes on with more room."""
     with mounted(scratch / "disk", "size=200k"):
         run = Run(scratch / "disk" / "run", HUB_DAY, THREE)
         status = run.on(2)
@@ -145,7 +157,7 @@ def full_disk(tries, scratch, sound):
         tries("with more room: the same summary", run.on(2) == 0 and run.summary() == sound.summary())
 
 
-def no_writing(tries, scratch, sound):
+def no_writing(tries: Tries, scratch: Path, sound: Run) -> None:
     """One scenario's folder belongs to somebody else. Root may write everywhere, so nobody runs it."""
     run = Run(scratch / "closed", HUB_DAY, THREE)
     own = run.place("less")
@@ -155,7 +167,7 @@ def no_writing(tries, scratch, sound):
         os.chown(it, NOBODY, NOBODY)
     as_nobody = ["setpriv", f"--reuid={NOBODY}", f"--regid={NOBODY}", "--clear-groups"]
     run.before = [*as_nobody, "env", f"HOME={run.folder}", f"XDG_CACHE_HOME={run.folder}", f"TMPDIR={run.folder}"]
-    status, outcomes = run.on(2), [(it["scenario"], it["outcome"]) for it in run.summary() or []]
+    status, outcomes = run.on(2), [(it["scenario"], it["outcome"]) for it in run.summary()]
     wanted = [("less", "NOT SOLVED"), ("as-is", "optimal"), ("dearer", "optimal")]
     tries("a folder that may not be written", status != 0 and outcomes == wanted, f"{outcomes[:1]}")
     shutil.rmtree(own, ignore_errors=True)

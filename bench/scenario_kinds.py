@@ -1,17 +1,21 @@
 """Scenarios with days, room at night, windows and optional legs, in runs of tools/scenarios."""
 
+from __future__ import annotations
+
 import json
 import random
 import shutil
 import sys
+from typing import Dict, Iterator, List, Mapping, Sequence, Tuple, Union
 
-from scenario_runs import HUB_DAY, Run
+from pathlib import Path
+from scenario_runs import HUB_DAY, Record, Run, Tries
 from shared import BENCH, EXAMPLES, TABLES, put, rows, run as ran
 
 WEEK, BOTH = "--period 7 --days 4", "--windows --optional"
 SIZES = {"less": "-1", "more": "+1"}
 # Scenarios of examples: the example, the words, the tables that are read beside the five, changes, and the least cost, or how it ends.
-KNOWN = {
+KNOWN: Dict[str, Tuple[str, str, List[str], str, Union[int, str]]] = {
     "windows": ("re-timing", "--windows", ["windows.csv"], "", 15000),
     "windows-by-changes": ("re-timing", "", [], "window FP2 -5 100; window FP3 5 100", 15000),
     "no-windows": ("re-timing", "", [], "", "infeasible"),
@@ -35,19 +39,21 @@ KNOWN = {
 COUNTS = {"windows": ("2", ""), "windows-by-changes": ("2", ""), "ferries": ("", "1"), "charter": ("", "2"), "week": ("", "")}
 
 
-def kinds(tries, scratch, _):
+def kinds(tries: Tries, scratch: Path, _: int) -> None:
+    """Tries scenarios with all that tables can have."""
     known(tries, scratch)
     sizes(tries, scratch)
 
 
-def lay(place, base, more=()):
+def lay(place: Path, base: Path, more: Sequence[str] = ()) -> None:
     """Copies the tables of a folder, and those of its others that are named."""
     place.mkdir(parents=True)
     for it in (*TABLES, *more):
         shutil.copyfile(base / it, place / it)
 
 
-def known(tries, scratch):
+def known(tries: Tries, scratch: Path) -> None:
+    """Scenarios of examples come out as the examples say."""
     run = Run(scratch / "known", HUB_DAY, laid(scratch / "known"))
     tries("scenarios of examples with days, room at night, windows and optional legs", run.on(2) == 0)
     found = {it["scenario"]: it for it in run.summary()}
@@ -59,14 +65,14 @@ def known(tries, scratch):
     tries("each plan is judged by the reference", not wrong_plans(run))
 
 
-def laid(folder):
+def laid(folder: Path) -> List[Record]:
     """Lays the tables of the known scenarios into folders, and returns their records."""
     for name, (example, _, more, _, _) in KNOWN.items():
         lay(folder / name, EXAMPLES / example, more)
     return [(name, words, name, changes) for name, (_, words, _, changes, _) in KNOWN.items()]
 
 
-def schedules(scratch):
+def schedules(scratch: Path) -> Iterator[Tuple[Path, str, str]]:
     """Yields schedules whose fleets are changed, with their words and a change: a week, and a week and a day with windows, optional legs
     and less room at night."""
     yield EXAMPLES / "week", WEEK, ""
@@ -76,9 +82,10 @@ def schedules(scratch):
         yield scratch / name, f"{words} {BOTH}".strip(), change
 
 
-def widen(folder):
+def widen(folder: Path) -> None:
     """Adds windows and optional legs to a schedule, drawn from a number."""
-    draw, costs = random.Random(1), {}
+    draw = random.Random(1)
+    costs: Dict[str, List[int]] = {}
     for it in rows(folder, "costs.csv"):
         costs.setdefault(it["flight"], []).append(int(it["cost"]))
     windows = [(it, shift, draw.randrange(-100, 300)) for it in costs for shift in (-15, 10) if draw.random() < 0.5]
@@ -86,7 +93,7 @@ def widen(folder):
     put(folder, {"windows.csv": windows, "optional.csv": optional})
 
 
-def sizes(tries, scratch):
+def sizes(tries: Tries, scratch: Path) -> None:
     """What a proof says of one aircraft less or more is no more than what a solve with so many finds."""
     for base, words, change in schedules(scratch):
         fleets = [it["fleet"] for it in rows(base, "fleets.csv")]
@@ -101,14 +108,15 @@ def sizes(tries, scratch):
         tries(f"{base.name}: each plan is judged by the reference", not wrong_plans(run))
 
 
-def bounds(text, row):
+def bounds(text: str, row: Mapping[str, str]) -> bool:
     """Returns whether a bound that was told holds for the scenario of that size."""
     if text == "infeasible" or row["outcome"] == "infeasible":
         return row["outcome"] == "infeasible"
     return bool(text) and int(text) <= int(row["cost"])
 
 
-def told(base_row, run, changed):
+def told(base_row: Mapping[str, str], run: Run, changed: Mapping[Tuple[str, str], str]) -> str:
+    """Returns the bounds of a proof beside what solves found."""
     cells = []
     for (fleet, size), name in changed.items():
         row = run.row(name)
@@ -117,7 +125,7 @@ def told(base_row, run, changed):
     return ", ".join([*cells, *([moved] if moved else [])])
 
 
-def wrong_plans(run):
+def wrong_plans(run: Run) -> List[str]:
     """Returns the scenarios whose plan, by the reference, isn't legal at its cost."""
     wrong = []
     for row in run.summary():
@@ -126,7 +134,7 @@ def wrong_plans(run):
     return wrong
 
 
-def judged(folder):
+def judged(folder: Path) -> str:
     """Returns what the reference says of the plan of a scenario."""
     reading = json.loads((folder / "answer.json").read_text(encoding="utf-8"))["reading"]
     value = {name: word for name, word in zip(reading, reading[1:]) if not word.startswith("--")}

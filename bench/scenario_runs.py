@@ -1,5 +1,7 @@
 """Runs of tools/scenarios in scratch folders, and what stands there afterwards."""
 
+from __future__ import annotations
+
 import contextlib
 import os
 import random
@@ -10,8 +12,9 @@ import subprocess
 import sys
 import time
 from pathlib import Path
+from typing import Callable, Dict, Iterable, List, Mapping, Optional, Sequence, Tuple, TypeVar
 
-from shared import BUILT, EXAMPLES, TOP, rows as records
+from shared import BUILT, EXAMPLES, TOP, Engine, rows as records
 
 from fleetplan.files import write
 from fleetplan.records import text_of
@@ -20,14 +23,34 @@ PLACE = TOP / "tools" / "scenarios"
 HUB_DAY = EXAMPLES / "hub-day"
 # Columns of the summary that may differ from run to run.
 TAKEN = ("seconds", "memory MB")
+# A record of scenarios.csv, the environment of an engine, and what a call returns.
+Record = Tuple[str, str, str, str]
+Environment = Optional[Mapping[str, str]]
+Found = TypeVar("Found")
 
 
-def drawn(base, count, seed=1):
+class Tries:
+    """What was tried, and whether all of it is right."""
+
+    def __init__(self) -> None:
+        self.are_right = True
+
+    def __call__(self, what: str, is_right: object, more: str = "") -> None:
+        """Prints what was tried, and notes whether it is right."""
+        self.are_right &= bool(is_right)
+        print(f"{'ok   ' if is_right else 'WRONG'} {what}{f': {more}' if more else ''}", flush=True)
+
+    def without(self, what: str, why: Optional[str]) -> None:
+        """Prints what is left out, and why."""
+        print(f"out   {what}: there is no {why}", flush=True)
+
+
+def drawn(base: Path, count: int, seed: int = 1) -> List[Record]:
     """Returns so many scenarios of a schedule, drawn from a number: other costs, other numbers of aircraft, other times, legs that may
     be left out, less room at night, a leg or two not flown."""
     draw = random.Random(seed)
-    fleets = [it["fleet"] for it in records(base / "fleets.csv")]
-    legs = records(base / "legs.csv")
+    fleets = [it["fleet"] for it in records(base, "fleets.csv")]
+    legs = records(base, "legs.csv")
     rows = []
     for at in range(count):
         changes = [f"cost {draw.choice(fleets)} *{draw.randrange(80, 130) / 100:.2f}"]
@@ -41,7 +64,7 @@ def drawn(base, count, seed=1):
     return rows
 
 
-def drawn_more(draw, base, legs):
+def drawn_more(draw: random.Random, base: Path, legs: Sequence[Dict[str, str]]) -> List[str]:
     """Returns changes for other times, for legs that may be left out, and for less room at night, or none of these."""
     changes = []
     if draw.random() < 0.3:
@@ -50,31 +73,34 @@ def drawn_more(draw, base, legs):
     if draw.random() < 0.3:
         changes += [f"optional {it['flight']} {draw.randrange(1000, 9000)}" for it in draw.sample(legs, 4)]
     if draw.random() < 0.2:
-        changes.append(f"parking {draw.choice(records(base / 'stations.csv'))['code']} {draw.randrange(1, 8)}")
+        changes.append(f"parking {draw.choice(records(base, 'stations.csv'))['code']} {draw.randrange(1, 8)}")
     return changes
 
 
 class Run:
     """A run's folder, with the tables of a base and scenarios of it."""
 
-    def __init__(self, folder, base, rows, **config):
+    def __init__(self, folder: Path, base: Path, rows: Sequence[Record], **config: object) -> None:
         self.folder = Path(folder)
         self.folder.mkdir(parents=True, exist_ok=True)
-        lines = {"base": base, "program": BUILT, **config}
+        lines: Dict[str, object] = {"base": base, "program": BUILT, **config}
         (self.folder / "config.yaml").write_text("".join(f"{name}: {value}\n" for name, value in lines.items()), encoding="utf-8")
         write(str(self.folder / "scenarios.csv"), text_of(("scenario", "words", "folder", "changes"), rows))
-        self.count, self.before = len(rows), []
+        self.count = len(rows)
+        self.before: List[str] = []
 
-    def words(self, profile, *more):
-        return [*self.before, "snakemake", "-s", PLACE / "Snakefile", "--profile", PLACE / profile, "--directory", self.folder, *more]
+    def words(self, profile: str, *more: str) -> List[str]:
+        """Returns the words of a call of the engine."""
+        own = ["snakemake", "-s", PLACE / "Snakefile", "--profile", PLACE / profile, "--directory", self.folder]
+        return [*self.before, *map(str, own), *more]
 
-    def start(self, profile, *more, environment=None):
+    def start(self, profile: str, *more: str, environment: Environment = None) -> Engine:
         """Starts the engine, whose output stands in the file `engine` of the folder."""
         with open(self.folder / "engine", "ab") as out:
-            how = {"stdin": subprocess.DEVNULL, "stdout": out, "stderr": out, "env": environment, "start_new_session": True}
-            return subprocess.Popen(list(map(str, self.words(profile, *more))), **how)
+            words, nothing = self.words(profile, *more), subprocess.DEVNULL
+            return subprocess.Popen(words, stdin=nothing, stdout=out, stderr=out, env=environment, start_new_session=True)
 
-    def go(self, profile, *more, environment=None):
+    def go(self, profile: str, *more: str, environment: Environment = None) -> int:
         """Runs the engine to its end, and returns its status."""
         engine = self.start(profile, *more, environment=environment)
         try:
@@ -83,36 +109,40 @@ class Run:
             stop(engine)
             raise
 
-    def on(self, cores):
+    def on(self, cores: int) -> int:
+        """Runs the engine on so many cores, and returns its status."""
         return self.go("cores", "--cores", str(cores))
 
-    def unlock(self):
+    def unlock(self) -> int:
+        """Takes away the lock that a killed engine left."""
         return self.go("cores", "--cores", "1", "--unlock")
 
-    def summary(self):
-        """Returns the records of the summary without what differs from run to run, or None where there is none."""
+    def summary(self) -> List[Dict[str, str]]:
+        """Returns the records of the summary without what differs from run to run; none where there is no summary."""
         if not (self.folder / "summary.csv").exists():
-            return None
+            return []
         return [{name: text for name, text in it.items() if name not in TAKEN} for it in records(self.folder, "summary.csv")]
 
-    def row(self, name):
+    def row(self, name: str) -> Dict[str, str]:
+        """Returns the record of a scenario in the summary."""
         return next(it for it in self.summary() if it["scenario"] == name)
 
-    def place(self, name, file=""):
+    def place(self, name: str, file: str = "") -> Path:
+        """Returns the path of a scenario's folder, or of a file there."""
         return self.folder / "scenarios" / name / file
 
-    def done(self):
+    def done(self) -> Dict[Path, Tuple[int, int]]:
         """Returns of each output that stands there which file it is, and its time."""
         outputs = [it for name in ("tables", "solved", "check.json", "sizes.json", "drawn") for it in self.folder.glob(f"scenarios/*/{name}")]
         return {it: (it.stat().st_ino, (it / ".snakemake_timestamp" if it.is_dir() else it).stat().st_mtime_ns) for it in finished(outputs)}
 
-    def wait_until_done(self, number, engine, output="check.json"):
+    def wait_until_done(self, number: int, engine: Engine, output: str = "check.json") -> bool:
         """Waits until an output of so many scenarios stands there, and returns whether the engine is still at work then."""
         while engine.poll() is None and len(list(self.folder.glob(f"scenarios/*/{output}"))) < number:
             time.sleep(0.05)
         return engine.poll() is None
 
-    def kill_solve(self, engine):
+    def kill_solve(self, engine: Engine) -> bool:
         """Waits until the program solves a scenario, kills that process by its id, and returns whether there was one."""
         while engine.poll() is None:
             found = solves_in(self.folder)
@@ -122,14 +152,14 @@ class Run:
                 return True
         return False
 
-    def half_written(self):
+    def half_written(self) -> List[Path]:
         """Returns the folders that are neither absent nor complete."""
         solved = [it for it in self.folder.glob("scenarios/*/solved") if not (it / "answer.json").exists()]
         tables = [it for it in self.folder.glob("scenarios/*/tables") if len(list(it.glob("*.csv"))) < 5]
         return solved + tables
 
 
-def solves_in(folder):
+def solves_in(folder: Path) -> List[int]:
     """Returns the ids of the program's processes that solve at work in a folder."""
     found = []
     for it in Path("/proc").glob("[0-9]*"):
@@ -140,11 +170,12 @@ def solves_in(folder):
     return found
 
 
-def finished(outputs):
+def finished(outputs: Iterable[Path]) -> List[Path]:
+    """Returns those that are complete."""
     return [it for it in outputs if not it.is_dir() or (it / ".snakemake_timestamp").exists()]
 
 
-def timed(call):
+def timed(call: Callable[[], Found]) -> Tuple[Found, float, float]:
     """Returns what a call returns, the seconds that passed, and those of the processor of all that it ran."""
     before, start = resource.getrusage(resource.RUSAGE_CHILDREN), time.monotonic()
     answer = call()
@@ -153,7 +184,7 @@ def timed(call):
     return answer, time.monotonic() - start, used
 
 
-def without_engine(run):
+def without_engine(run: Run) -> None:
     """Does the steps of a run's scenarios one after another, with no engine."""
     sys.path[:0] = [str(PLACE), str(PLACE.parent)]
     from steps.listing import scenarios_of
@@ -170,29 +201,29 @@ def without_engine(run):
             ["sizes", BUILT, place / "sizes.json", *limits, "0", place / "solved"],
             ["draw", place / "drawn", "0", place / "solved", name],
         ):
-            subprocess.run([*step, *words], stdin=subprocess.DEVNULL, check=True)
+            subprocess.run([*map(str, step), *map(str, words)], stdin=subprocess.DEVNULL, check=True)
 
 
-def python_of_engine():
+def python_of_engine() -> str:
     """Returns the Python that the engine runs by, and so its steps."""
-    with open(shutil.which("snakemake"), encoding="utf-8") as it:
+    with open(shutil.which("snakemake") or "", encoding="utf-8") as it:
         return it.readline()[len("#!") :].strip()
 
 
-def wrapped(path, line):
+def wrapped(path: Path, line: str) -> Path:
     """Returns a program that does a line of shell before it is the real one."""
     path.write_text(f'#!/bin/sh\n{line}\nexec {BUILT} "$@"\n', encoding="utf-8")
     path.chmod(0o755)
     return path
 
 
-def kill(process):
+def kill(process: Engine) -> None:
     """Ends a process by its id, by a signal that it can't hear."""
     os.kill(process.pid, signal.SIGKILL)
     process.wait()
 
 
-def stop(engine):
+def stop(engine: Engine) -> None:
     """Ends the engine as Ctrl-C does, so that it cancels its jobs, and after a while with all that it has started."""
     engine.send_signal(signal.SIGINT)
     try:
@@ -202,5 +233,6 @@ def stop(engine):
         engine.wait()
 
 
-def is_root():
+def is_root() -> bool:
+    """Returns whether root calls, who may mount a disk."""
     return os.geteuid() == 0 and shutil.which("mount") is not None

@@ -7,6 +7,8 @@ Its configuration, its key and all that it writes lie in a folder that goes with
 touched. The command finds it by the environment's SLURM_CONF. At the end jobs are cancelled, and each daemon is ended by its id. The
 status is that of the command. Wants root, and Debian's slurm-wlm and munge."""
 
+from __future__ import annotations
+
 import os
 import secrets
 import shutil
@@ -17,6 +19,9 @@ import sys
 import tempfile
 import time
 from pathlib import Path
+from typing import Callable, Dict, List, Optional, Sequence
+
+from shared import Engine
 
 NEEDS = ("munged", "slurmctld", "slurmd", "sbatch", "scontrol", "scancel")
 NODES = ("here1", "here2")
@@ -54,7 +59,7 @@ PartitionName=here Nodes=ALL Default=YES MaxTime=INFINITE State=UP
 """
 
 
-def lacks():
+def lacks() -> Optional[str]:
     """Returns what is wanted and isn't there, or None."""
     path = f"{os.environ['PATH']}:/usr/sbin:/sbin"
     missing = [it for it in NEEDS if not shutil.which(it, path=path)]
@@ -63,7 +68,7 @@ def lacks():
     return None if os.geteuid() == 0 else "root, whom the daemons want"
 
 
-def free_ports(number):
+def free_ports(number: int) -> List[int]:
     """Returns ports of the loopback that nobody listens to."""
     taken = [socket.socket() for _ in range(number)]
     for it in taken:
@@ -77,11 +82,11 @@ def free_ports(number):
 class Slurm:
     """A Slurm of this machine, from its beginning to its end. `environment` is that of its commands."""
 
-    def __init__(self, cpus=2, memory=4000):
+    def __init__(self, cpus: int = 2, memory: int = 4000) -> None:
         self.cpus, self.memory = cpus, memory
-        self.daemons = {}
+        self.daemons: Dict[str, Engine] = {}
 
-    def __enter__(self):
+    def __enter__(self) -> Slurm:
         self.folder = Path(tempfile.mkdtemp(prefix="fleetplan-slurm-"))
         self.folder.chmod(0o755)
         configuration = self.folder / "slurm.conf"
@@ -97,7 +102,8 @@ class Slurm:
             raise
         return self
 
-    def start_all(self):
+    def start_all(self) -> None:
+        """Starts all daemons, and waits until they are there."""
         key = self.folder / "munge.key"
         key.write_bytes(secrets.token_bytes(128))
         key.chmod(0o400)
@@ -110,31 +116,35 @@ class Slurm:
             self.start_node(node)
         self.wait_for(lambda: self.said("sinfo", "-h", "-N", "-o", "%T").split() == ["idle"] * len(NODES))
 
-    def start_node(self, node):
+    def start_node(self, node: str) -> None:
+        """Starts the daemon of a node."""
         self.start(node, "slurmd", "-D", "-N", node)
 
-    def start(self, name, *words):
+    def start(self, name: str, *words: str) -> None:
+        """Starts a daemon."""
         with open(self.folder / f"{name}.out", "wb") as out:
-            how = {"stdin": subprocess.DEVNULL, "stdout": out, "stderr": out, "env": self.environment, "cwd": self.folder}
-            self.daemons[name] = subprocess.Popen(words, start_new_session=True, **how)
+            self.daemons[name] = subprocess.Popen(
+                words, stdin=subprocess.DEVNULL, stdout=out, stderr=out, env=self.environment, cwd=self.folder, start_new_session=True
+            )
 
-    def said(self, *words):
+    def said(self, *words: str) -> str:
         """Returns what a command of this Slurm prints."""
         ran = subprocess.run(words, env=self.environment, stdout=subprocess.PIPE, stderr=subprocess.STDOUT, check=False)
         return ran.stdout.decode(errors="replace")
 
-    def wait_for(self, is_so):
+    def wait_for(self, is_so: Callable[[], bool]) -> None:
+        """Waits until something is so, or raises RuntimeError."""
         until = time.monotonic() + SECONDS
         while not is_so():
             if time.monotonic() > until:
                 raise RuntimeError(f"Slurm didn't come up in {SECONDS} seconds: {self.told()}")
             time.sleep(0.2)
 
-    def told(self):
+    def told(self) -> str:
         """Returns the last lines of each daemon."""
         return "\n".join(f"{it.name}: {it.read_text(errors='replace')[-600:]}" for it in sorted(self.folder.glob("*.out")))
 
-    def end(self, name, *, at_once=False):
+    def end(self, name: str, *, at_once: bool = False) -> None:
         """Ends a daemon by its id, at once by a signal that it can't hear."""
         daemon = self.daemons.pop(name)
         daemon.kill() if at_once else daemon.terminate()
@@ -144,7 +154,7 @@ class Slurm:
             daemon.kill()
             daemon.wait()
 
-    def __exit__(self, *_):
+    def __exit__(self, *_: object) -> None:
         if "slurmctld" in self.daemons:
             self.said("scancel", "--partition=here")
             until = time.monotonic() + SECONDS
@@ -155,13 +165,14 @@ class Slurm:
         shutil.rmtree(self.folder, ignore_errors=True)
 
 
-def end_by_signals():
+def end_by_signals() -> None:
     """Has signals end this process by an exception, so that no daemon stays."""
     for it in (signal.SIGHUP, signal.SIGTERM):
         signal.signal(it, lambda number, _: sys.exit(128 + number))
 
 
-def main(words):
+def main(words: Sequence[str]) -> int:
+    """Runs the command, and returns its status."""
     end_by_signals()
     if not words:
         sys.exit(__doc__)

@@ -8,8 +8,12 @@ fleet, and writes them to TO. All legs are flown by as few aircraft as can be: t
 to tours, as many as a few swaps of connections can make. Each tour goes to a fleet (drawn from NUMBER), and a fleet has
 the aircraft of its tours. So a legal plan is left, and no aircraft is to spare.
 """
+
+from __future__ import annotations
+
 import random
 import sys
+from typing import Dict, List, Mapping, Sequence
 
 import schedules
 from shared import put
@@ -17,23 +21,25 @@ from shared import put
 from fleetplan.records import table_of
 from fleetplan.tables import TABLES, headers_of
 from fleetplan.times import DAY, minute_of
+# Of each leg the next one.
+Follows = Dict[int, int]
 
 
 class Flight:
     """A leg as the joined schedule flies it: its stations, its departure, and its minutes until it is ready again."""
 
-    def __init__(self, row, start, turn, extras):
+    def __init__(self, row: Sequence[str], start: int, turn: int, extras: Mapping[str, int]) -> None:
         _, self.origin, dep, self.target, arr = row
         self.dep = (minute_of(dep) - start) % DAY
         self.busy = ((minute_of(arr) - minute_of(dep)) % DAY or DAY) + turn + extras[self.target]
         self.ready = (self.dep + self.busy) % DAY
 
-    def wait_for(self, other):
+    def wait_for(self, other: Flight) -> int:
         """Minutes on the ground until the other departs."""
         return (other.dep - self.ready) % DAY
 
 
-def connections(flights):
+def connections(flights: Sequence[Flight]) -> Follows:
     """The next leg of each: at each station those that are ready first go first, from a moment on at which none stands there."""
     follows = {}
     for station in {it.origin for it in flights}:
@@ -48,7 +54,7 @@ def connections(flights):
     return follows
 
 
-def tours_of(follows):
+def tours_of(follows: Follows) -> List[List[int]]:
     """The cycles of connections."""
     left, tours = set(follows), []
     while left:
@@ -61,12 +67,12 @@ def tours_of(follows):
     return tours
 
 
-def days_of(flights, follows, tour):
+def days_of(flights: Sequence[Flight], follows: Follows, tour: Sequence[int]) -> int:
     """The aircraft that fly a tour."""
     return sum(flights[at].busy + flights[at].wait_for(flights[follows[at]]) for at in tour) // DAY
 
 
-def split(flights, follows):
+def split(flights: Sequence[Flight], follows: Follows) -> None:
     """Swaps connections of one tour at a station that take no longer together, as long as one parts the tour in two."""
     swapped = True
     while swapped:
@@ -77,7 +83,7 @@ def split(flights, follows):
             swapped = any(swap(flights, follows, one, other) for place, one in enumerate(tour) for other in tour[place + 1 :])
 
 
-def swap(flights, follows, one, other):
+def swap(flights: Sequence[Flight], follows: Follows, one: int, other: int) -> bool:
     """Swaps two connections at one station where all wait as long as before, and answers whether it did."""
     first, second = flights[one], flights[other]
     if first.target != second.target:
@@ -90,7 +96,8 @@ def swap(flights, follows, one, other):
     return True
 
 
-def write(folder, to, start, number):
+def write(folder: str, to: str, start: int, number: int) -> None:
+    """Writes the tables of a folder to another one, with no aircraft to spare."""
     read = {name: table_of(folder, name, headers_of(name)) for name in TABLES}
     tables = {name: rows for name, (_, rows) in read.items()}
     fleets, legs, costs = tables["fleets.csv"], tables["legs.csv"], tables["costs.csv"]
@@ -104,12 +111,13 @@ def write(folder, to, start, number):
         aircraft[draw.randrange(len(aircraft))] += days_of(flights, follows, tour)
     known = {(row[0], row[1]): row[2] for row in costs}
     most = {row[0]: max(int(cost) for (flight, _), cost in known.items() if flight == row[0]) for row in legs}
-    tables["fleets.csv"] = [[row[0], count, turn] for row, count in zip(fleets, aircraft)]
-    tables["costs.csv"] = [[leg[0], row[0], known.get((leg[0], row[0]), most[leg[0]])] for leg in legs for row in fleets]
+    tables["fleets.csv"] = [[row[0], str(count), str(turn)] for row, count in zip(fleets, aircraft)]
+    tables["costs.csv"] = [[leg[0], row[0], known.get((leg[0], row[0]), str(most[leg[0]]))] for leg in legs for row in fleets]
     put(to, tables, **{name.partition(".")[0]: header for name, (header, _) in read.items()})
 
 
-def main():
+def main() -> None:
+    """Writes what the words ask for."""
     if len(sys.argv) not in (4, 5):
         sys.exit(__doc__)
     folder, to, start = sys.argv[1:4]

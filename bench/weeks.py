@@ -9,13 +9,17 @@ its own, so that costs differ from day to day. A flight has a number and its day
 Each fleet has the aircraft with which the tours are a legal plan, as judge_reference.py counts them, and SPARE more, 1 where it isn't
 given; that plan is written too. Some flights that follow each other at a hub are through pairs.
 """
+
+from __future__ import annotations
+
 import random
 import tempfile
 from pathlib import Path
+from typing import Dict, Iterable, Iterator, List, Sequence, Tuple
 
 import judge_reference
-from hubs import START, Network, cost, kinds_of, name, places, sizes_of
-from shared import put, write_by_words
+from hubs import START, Kind, Network, Tour, cost, kinds_of, name, places, sizes_of, sums_of
+from shared import Place, put, write_by_words
 
 from fleetplan.forms import MOST_AIRCRAFT
 from fleetplan.tables import DATED
@@ -31,13 +35,14 @@ KEPT, LATER = 0.5, 24
 PAIRED, WAIT = 0.3, 100
 
 
-def fleets_for(tour, kinds):
+def fleets_for(tour: Tour, kinds: Sequence[Kind]) -> List[int]:
     """The kinds that may fly all of a tour, by their places, the cheapest first."""
-    sums = [(sum(costs), place) for place, kind in enumerate(kinds) if None not in (costs := [cost(leg, kind) for leg in tour])]
-    return [place for _, place in sorted(sums)]
+    return [place for _, place in sorted(sums_of(tour, kinds))]
 
 
-def timetable(draw, network, kinds, legs, begun=()):
+def timetable(
+    draw: random.Random, network: Network, kinds: Sequence[Kind], legs: int, begun: Iterable[Tour] = ()
+) -> List[Tuple[Tour, int]]:
     """Tours of just so many legs, each with its kind; some may be given. All departures lie within a day from 03:00 on."""
     given, tours = list(begun), []
     while legs:
@@ -49,7 +54,7 @@ def timetable(draw, network, kinds, legs, begun=()):
     return tours
 
 
-def at_weekend(draw, tours):
+def at_weekend(draw: random.Random, tours: Sequence[Tuple[Tour, int]]) -> Iterator[Tour]:
     """The tours of weekdays that go at the weekend, later in the day."""
     for tour, _ in tours:
         more = 5 * draw.randrange(LATER + 1)
@@ -60,11 +65,14 @@ def at_weekend(draw, tours):
 class Week:
     """The records of the tables, and of each flight its fleet by the tours."""
 
-    def __init__(self, draw, network, kinds):
+    def __init__(self, draw: random.Random, network: Network, kinds: Sequence[Kind]) -> None:
         self.draw, self.network, self.kinds = draw, network, kinds
-        self.legs, self.costs, self.throughs, self.plan = [], [], [], []
+        self.legs: List[Sequence[object]] = []
+        self.costs: List[Sequence[object]] = []
+        self.throughs: List[Sequence[object]] = []
+        self.plan: List[Tuple[str, str]] = []
 
-    def add(self, day, tours):
+    def add(self, day: int, tours: Sequence[Tuple[Tour, int]]) -> None:
         """Adds the flights of a day. Those after midnight are of the next date, and after Sunday's of the first one."""
         at = 0
         for tour, kind in tours:
@@ -81,13 +89,15 @@ class Week:
                     self.throughs.append((flight, f"L{at + 1}D{day}", 10 * self.draw.randrange(10, 40)))
                 at += 1
 
-    def code(self, place):
+    def code(self, place: int) -> str:
+        """The code of a station."""
         return name(place, self.network.hubs)
 
-    def fleet(self, place):
+    def fleet(self, place: int) -> str:
+        """The name of a fleet."""
         return f"F{self.kinds[place][0]}"
 
-    def tables(self, aircraft):
+    def tables(self, aircraft: Sequence[int]) -> Dict[str, Sequence[Sequence[object]]]:
         """The tables, where each kind has so many aircraft."""
         fleets = [(self.fleet(at), count, kind[1]) for at, (kind, count) in enumerate(zip(self.kinds, aircraft))]
         hubs = self.network.hubs
@@ -101,18 +111,19 @@ class Week:
             "plan.csv": self.plan,
         }
 
-    def used(self):
+    def used(self) -> List[int]:
         """How many aircraft of each kind the tours use."""
         with tempfile.TemporaryDirectory() as folder:
             put(folder, self.tables([MOST_AIRCRAFT] * len(self.kinds)), legs=DATED)
             tables = judge_reference.Tables(Path(folder), START, DAYS)
-        flown = {self.fleet(at): [] for at in range(len(self.kinds))}
+        flown: Dict[str, List[str]] = {self.fleet(at): [] for at in range(len(self.kinds))}
         for flight, fleet in self.plan:
             flown[fleet].append(flight)
         return [judge_reference.Movements(tables, flights, fleet).used for fleet, flights in flown.items()]
 
 
-def write(folder, legs, fleets, number=1, spare=1):
+def write(folder: Place, legs: int, fleets: int, number: int = 1, spare: int = 1) -> None:
+    """Writes the tables of a number."""
     draw, kinds = random.Random(number), kinds_of(fleets)
     network = Network(draw, *sizes_of(legs))
     weekdays = timetable(draw, network, kinds, legs)

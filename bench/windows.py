@@ -7,21 +7,26 @@ The tables are those of hubs.py. Beside them windows.csv gives each leg TIMES ti
 more minutes later and earlier, in turn, each dearer than the one before. Each fleet has so many aircraft FEWER, 0 where it isn't given,
 in percent of its own, rounded down.
 """
+
+from __future__ import annotations
+
 import random
+from typing import List
 
 import hubs
-from shared import put, rows, write_by_words
+from shared import Place, put, rows, write_by_words
 from skips import fewer_aircraft
 
 STEP = 5
 
 
-def shifts_of(times):
+def shifts_of(times: int) -> List[int]:
     """So many times of a leg but its own."""
     return [STEP * (at // 2 + 1) * (-1 if at % 2 else 1) for at in range(times - 1)]
 
 
-def write(folder, legs, fleets, number=1, times=4, fewer=0):
+def write(folder: Place, legs: int, fleets: int, number: int = 1, times: int = 4, fewer: int = 0) -> None:
+    """Writes the tables of a number."""
     hubs.write(folder, legs, fleets, number)
     draw = random.Random(f"windows {number}")
     flights = [row["flight"] for row in rows(folder, "legs.csv")]

@@ -1,5 +1,9 @@
 """Rows of texts in tools/scenarios: what goes in, and what has to come."""
 
+from __future__ import annotations
+
+from typing import Any, Dict, List, Optional, Tuple
+
 TABLES = {
     "stations.csv": "code,extra,maintenance\nAAA,0,yes\nBBB,0,no\n",
     "fleets.csv": "fleet,aircraft,turn\nF1,1,30\nF2,2,30\n",
@@ -43,7 +47,7 @@ REFUSED = {
 # Records of scenarios.csv with the tables of the folder `own`: the words of the call, and the files that its tables come from.
 FIVE = [f"tables/{it}" for it in TABLES]
 SEVERAL = {"windows.csv": "flight,shift,extra\nX2,10,5\n", "optional.csv": "flight,skip\nX1,4\n"}
-FLAGS = [
+FLAGS: List[Tuple[str, Dict[str, str], List[str], List[str]]] = [
     ("a,--days 4,,aircraft F1 -1", {}, ["--days", "4"], FIVE),
     ("a,,own,", SEVERAL, [], FIVE),
     ("a,--windows,own,", SEVERAL, ["--windows"], [*FIVE, "own/windows.csv"]),
@@ -78,17 +82,18 @@ UNREAD = {
 ENDED = {"outcome": "optimal", "cost": "70", "bound": "70", "splits": 0, "fleets": [{"name": "F1", "has": 2, "used": 1}], "rotations": ["unused"]}
 SOLVED = {"status": 0, "told": "", "seconds": 1.5, "memory": 2000, "reading": []}
 CHECKED = {"told": "holds: cost 70 bound 70", "seconds": 0.25, "memory": 1000}
-NO_PLAN = {"cost": None, "fleets": [], "rotations": []}
+NO_PLAN: Dict[str, Any] = {"cost": None, "fleets": [], "rotations": []}
 
 
-def ended(**other):
+def ended(**other: Any) -> Dict[str, Any]:
+    """Returns an answer of a solve."""
     return {"solved": {**ENDED, **other}}
 
 
 # Of each scenario what differs from that in the answer and in the check (None: there is none), and its record in the summary, whose
 # header is HEADER. A scenario without `solved` wasn't solved.
 HEADER = "scenario,outcome,cost,bound,gap,splits,used F1,rotations,check,told,seconds,memory MB"
-OUTCOMES = {
+OUTCOMES: Dict[str, Tuple[Dict[str, Any], Optional[Dict[str, Any]], str]] = {
     "optimal": (ended(), {}, "optimal,70,70,0,0,1,F1 unused,holds: cost 70 bound 70,,1.75,2.0"),
     "gap": (ended(outcome="gap", bound="60"), {"told": "holds: cost 70 bound 60"}, "gap,70,60,10,0,1,F1 unused,holds: cost 70 bound 60,,1.75,2.0"),
     "infeasible": (
@@ -128,7 +133,7 @@ OUTCOMES = {
 
 # Scenarios that are solved and checked: the words by which their tables are read, their plan, and what was asked of their proof.
 TIMED, LEFT = "flight,fleet,shift\nX1,F1,0\nX2,F1,-5\n", "flight,fleet\nX1,F1\nX2,-\n"
-ASKED = {
+ASKED: Dict[str, Tuple[List[str], str, Dict[str, Any]]] = {
     "timed": (["--windows"], TIMED, {"asked": [["F1", {"less": "whatif F1 1: bound 90", "more": "whatif F1 3: infeasible"}]]}),
     "left": (["--day-start", "04:00", "--optional"], LEFT, {"fault": "whatif ended with 8: memory ran out"}),
     "plain": ([], "flight,fleet\nX1,F1\nX2,F1\n", {"asked": [["F1", {"less": "fallen: node 0", "more": "whatif F1 3: bound -5"}]]}),

@@ -1,16 +1,21 @@
 """Other times and legs that may be left out beside the tables, legs that a planner adds or changes there, and a plan that brings a
 flight to one date twice."""
 
+from __future__ import annotations
+
+from typing import Dict, List, Optional, Tuple
+
+from pathlib import Path
 from schedule_lines import leg
 from ssim_tests.features import DATE, back, out
 from ssim_tests.plans import file_of, planned
-from ssim_tests.trying import call, records, scratch, standing
+from ssim_tests.trying import Tally, call, records, scratch, standing
 
 FLEETS = "fleet,aircraft,turn\n320,9,30\n"
 TWO = [out(), back(), out(7, "ZRH 0700 +0100 GVA 0745 +0100"), out(7, "GVA 0830 +0100 LIS 1010 +0000", sequence=2)]
 # Of each case the option of the dates, the caller's file of other times and of legs that may be left out, or None, and the records of
 # tables by file.
-GIVEN = {
+GIVEN: Dict[str, Tuple[str, Optional[str], Optional[str], Dict[str, List[str]]]] = {
     "other times of a leg": ("--date", "flight,shift,extra\nZZ2,-5,100\nZZ2,010,250\nZZ7B,5,-1\n", None, {
         "windows.csv": ["ZZ7B,5,-1", "ZZ2,-5,100", "ZZ2,010,250"],
         "plan.csv": ["ZZ7A,320,0", "ZZ1,320,0", "ZZ7B,320,0", "ZZ2,320,0"],
@@ -68,9 +73,9 @@ CHANGED = {
 }  # fmt: skip
 
 
-def given(folder, lines, option, windows, optional):
+def given(folder: Path, season: str, option: str, windows: Optional[str], optional: Optional[str]) -> Tuple[int, str]:
     """Calls `tables` with a caller's files, and returns its status and what was told."""
-    files = {"season": lines, "fleets": FLEETS, "windows": windows, "optional": optional}
+    files = {"season": season, "fleets": FLEETS, "windows": windows, "optional": optional}
     for name, data in files.items():
         (folder / name).write_text(data or "", encoding="ascii")
     words = [it for name in ("windows", "optional") if files[name] for it in (f"--{name}", folder / name)]
@@ -78,13 +83,13 @@ def given(folder, lines, option, windows, optional):
     return status, told.replace(f"{folder}/", "")
 
 
-def try_given(tally):
+def try_given(tally: Tally) -> None:
+    """Tables that options have read, by a caller's files."""
     season = "".join(f"{it}\n" for it in file_of(*TWO))
     for name, (option, windows, optional, wanted) in GIVEN.items():
         with scratch() as folder:
             status, told = given(folder, season, option, windows, optional)
-            came = {it: records(folder / "day", it) for it in wanted} if not status else told
-            tally.equal(name, wanted, came)
+            tally.equal(name, wanted, {it: records(folder / "day", it) for it in wanted} if not status else told)
             status, told = call("plan", folder / "season", folder / "day", folder / "new")
             is_same = not status and (folder / "new").read_bytes() == (folder / "season").read_bytes()
             tally.equal(f"{name}, as filed", (True, told), (is_same, told))
@@ -95,7 +100,7 @@ def try_given(tally):
             tally.equal(f"other times {line}", (6, f"ssim: {says} {line}\n", None), (*came, standing(folder / "day")))
 
 
-def try_told(tally):
+def try_told(tally: Tally) -> None:
     """What is told of such tables, and of those that stand there already."""
     season = "".join(f"{it}\n" for it in file_of(*TWO))
     with scratch() as folder:
@@ -120,7 +125,7 @@ def try_told(tally):
         tally.equal("too many times", (6, f"ssim: {folder}/windows: {line}\n", None), (status, told, standing(folder / "day")))
 
 
-def try_changed(tally):
+def try_changed(tally: Tally) -> None:
     """Legs that a planner adds to legs.csv or changes there."""
     for name, (changes, status, line) in CHANGED.items():
         with scratch() as folder:
@@ -135,7 +140,7 @@ def try_changed(tally):
             tally.equal(name, (status, f"ssim: {line}\n", status == 0), (came, told.replace(f"{folder}/", ""), is_written))
 
 
-def try_doubled(tally):
+def try_doubled(tally: Tally) -> None:
     """At 00:05 a leg arrives on the day before, over the date line. Twelve hours earlier no date variation says when it arrives, so its
     dates of operation are moved: to those of Mondays, where it has them."""
     line = "1 flights have a date of operation twice, which date variations can't say otherwise: ZZ 1 on 2026-11-30"
@@ -148,7 +153,8 @@ def try_doubled(tally):
             tally.equal(f"a flight twice on a date, of {days} {words}", wanted, came)
 
 
-def try_all(tally):
+def try_all(tally: Tally) -> None:
+    """Tries all cases."""
     try_given(tally)
     try_told(tally)
     try_changed(tally)

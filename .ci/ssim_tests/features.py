@@ -1,7 +1,12 @@
 """Each feature of `tables` as a small schedule, with the records that a person would write."""
 
+from __future__ import annotations
+
+from typing import Any, Dict, List, Mapping, Optional, Sequence, Tuple
+
+from pathlib import Path
 from schedule_lines import carrier, header, leg, numbered, segment, text, trailer, whole
-from ssim_tests.trying import call, records, scratch, standing
+from ssim_tests.trying import Tally, call, records, scratch, standing
 
 # A Monday.
 DATE = "2026-11-30"
@@ -10,21 +15,24 @@ SUNDAY = ("29NOV26", "29NOV26")
 TUESDAY = ("01DEC26", "01DEC26")
 
 
-def out(number=1, way="ZRH 0800 +0100 LHR 0950 +0000", kind="320", airline="ZZ", **more):
+def out(number: int = 1, way: str = "ZRH 0800 +0100 LHR 0950 +0000", kind: str = "320", airline: str = "ZZ", **more: Any) -> str:
+    """A leg from home."""
     return leg(airline, number, way, kind, **more)
 
 
-def back(number=2, way="LHR 1100 +0000 ZRH 1250 +0100", kind="320", **more):
+def back(number: int = 2, way: str = "LHR 1100 +0000 ZRH 1250 +0100", kind: str = "320", **more: Any) -> str:
+    """A leg back home."""
     return leg("ZZ", number, way, kind, **more)
 
 
-def with_segment(of, element):
+def with_segment(of: str, element: str) -> List[str]:
+    """A leg with its segment data."""
     return [of, segment(of, element, "XY 0018")]
 
 
 LOCAL = [out(), back()]
 # Of each case: its legs, the time mode, the options, and the records of tables by file.
-TABLES = {
+TABLES: Dict[str, Tuple[List[str], str, str, Dict[str, List[str]]]] = {
     "local time": (LOCAL, "L", "", {
         "legs.csv": ["ZZ1,ZRH,07:00,LHR,09:50", "ZZ2,LHR,11:00,ZRH,11:50"],
         "stations.csv": ["LHR,0,no", "ZRH,0,no"],
@@ -143,7 +151,7 @@ TABLES = {
     ),
 }  # fmt: skip
 # The same of a week, which begins on the Monday.
-WEEKS = {
+WEEKS: Dict[str, Tuple[List[str], Dict[str, List[str]]]] = {
     "two flights on some days of a week": ([out(days="14"), back(days="15")], {
         "legs.csv": ["ZZ1D1,1,ZRH,07:00,LHR,09:50", "ZZ2D1,1,LHR,11:00,ZRH,11:50", "ZZ1D4,4,ZRH,07:00,LHR,09:50", "ZZ2D5,5,LHR,11:00,ZRH,11:50"],
         "stations.csv": ["LHR,0,no", "ZRH,0,no"],
@@ -212,16 +220,16 @@ MOST_AIRCRAFT = "so fleets.csv has 500 of each: write how many there are, or giv
 FEWER = "no fleet may have more: ask for fewer legs, with --types, --stations-only or --service"
 
 
-def make(folder, lines, words, option="--date"):
+def make(folder: Path, lines: Sequence[str], words: str, option: str = "--date") -> Tuple[int, str]:
     """Calls `tables` on lines in a folder, where the caller's files stand too, for a date or a week."""
     (folder / "season").write_bytes(text(lines).encode("ascii"))
     for name, data in CALLERS.items():
         (folder / name).write_text(data, encoding="ascii")
-    words = [str(folder / it) if it in CALLERS else it for it in words.split()]
-    return call("tables", folder / "season", folder / "day", option, DATE, *words)
+    own = [str(folder / it) if it in CALLERS else it for it in words.split()]
+    return call("tables", folder / "season", folder / "day", option, DATE, *own)
 
 
-def wrong(folder, wanted, status, told, line):
+def wrong(folder: Path, wanted: Mapping[str, Sequence[str]], status: int, told: str, line: Optional[str]) -> Optional[str]:
     """Returns how tables differ from the wanted records, or None."""
     if status:
         return f"status {status}: {told}"
@@ -232,14 +240,15 @@ def wrong(folder, wanted, status, told, line):
     return None if line is None or f"ssim: {line}\n" in told else f"wanted:\n{line}\ncame:\n{told}"
 
 
-def by_season(winter, summer):
+def by_season(winter: Sequence[str], summer: Sequence[str]) -> List[str]:
     """A file of two carrier records, of a winter and a summer."""
     first = carrier("ZZ", "L", ("25OCT26", "29NOV26"))
     second = carrier("ZZ", "U", ("30NOV26", "30OCT27"), "S27")
     return numbered([header(), first, *winter, trailer("ZZ", "C"), second, *summer, trailer("ZZ")])
 
 
-def try_all(tally):
+def try_all(tally: Tally) -> None:
+    """Tries all cases."""
     weeks = {name: (legs, "L", "", wanted) for name, (legs, wanted) in WEEKS.items()}
     for name, (legs, mode, words, wanted) in {**TABLES, **weeks}.items():
         airline = legs[0][2:5].strip()
@@ -254,7 +263,7 @@ def try_all(tally):
     try_limits(tally)
 
 
-def try_limits(tally):
+def try_limits(tally: Tally) -> None:
     """Refuses one leg, station or aircraft type more than tables may have."""
     pairs = [chr(65 + it // 26) + chr(65 + it % 26) for it in range(334)]
     for name, legs, line in (

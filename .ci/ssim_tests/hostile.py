@@ -1,15 +1,19 @@
 """Lines changed at random: each file ends in a refusal by name with nothing written, or in tables that the program reads. Plans with
 shifts and legs left out that are drawn for these are refused by name, or written so that the legs depart then."""
 
+from __future__ import annotations
+
 import os
 import random
 import re
 import subprocess
 from collections import Counter
+from typing import List, Sequence, Set, Tuple
 
+from pathlib import Path
 from schedule_lines import leg, segment, text, whole
 from ssim_tests.shifts import Drawn, times_by
-from ssim_tests.trying import call, scratch, standing
+from ssim_tests.trying import Standing, Tally, call, scratch, standing
 
 LINES = 2000
 DATE = "2026-11-30"
@@ -29,7 +33,7 @@ TOLD = 10
 LETTERS = "ABZ019 +-?\x00\xe4\t"
 
 
-def base():
+def base() -> List[str]:
     """A small schedule with a flight of two legs, over midnight, shared flights and a bus."""
     far = leg("ZZ", 9, "ZRH 2155 +0100 KTM 1110 +0545", "333", shifts="01")
     legs = [
@@ -47,7 +51,7 @@ def base():
     return whole("ZZ", legs)
 
 
-def changed(chance, lines):
+def changed(chance: random.Random, lines: List[str]) -> int:
     """Changes one to three lines, and returns how many."""
     count = chance.randint(1, 3)
     for _ in range(count):
@@ -74,13 +78,16 @@ def changed(chance, lines):
 class Hostile:
     """The folder of the runs, the tables that the program has read, and what was wrong."""
 
-    def __init__(self, folder):
-        self.folder, self.known, self.wrong, self.refused, self.planned = folder, set(), [], 0, 0
+    def __init__(self, folder: Path) -> None:
+        self.folder, self.refused, self.planned = folder, 0, 0
+        self.known: Set[Tuple[object, ...]] = set()
+        self.wrong: List[str] = []
         self.chance = random.Random(50)
         fleets = "".join(f"{it},500,30\n" for it in TYPES)
         (folder / "fleets").write_text(f"fleet,aircraft,turn\n{fleets}", encoding="ascii")
 
-    def run(self, number, lines):
+    def run(self, number: int, lines: Sequence[str]) -> None:
+        """Makes tables of changed lines, and has a plan of them written back."""
         folder = self.folder
         data = text(lines).encode("latin-1")
         (folder / "season").write_bytes(data)
@@ -105,7 +112,7 @@ class Hostile:
         if beside:
             self.wrong.append(f"run {number} leaves {beside}")
 
-    def plan(self, number, option, words):
+    def plan(self, number: int, option: str, words: Sequence[object]) -> None:
         """Has a plan that is drawn written back, for some through the season. It looks when the legs of its dates depart that stay on
         these; through the season others may come to them."""
         folder = self.folder
@@ -125,7 +132,7 @@ class Hostile:
         if came is None or Counter(wanted) - Counter(came) or came != wanted and not is_whole_season:
             self.wrong.append(f"run {number}: a plan isn't what was planned, status {status}: {told}wanted {wanted}\ncame {came}")
 
-    def judge(self, number, held, period):
+    def judge(self, number: int, held: Standing, period: Sequence[str]) -> None:
         """Has the program read tables that it hasn't read yet."""
         tables = tuple(held[it] for it in sorted(held) if it != "names.csv")
         if tables in self.known:
@@ -138,7 +145,8 @@ class Hostile:
             self.wrong.append(f"run {number}: judge has status {ran.returncode}: {said}")
 
 
-def try_all(tally):
+def try_all(tally: Tally) -> None:
+    """Tries all cases."""
     with scratch() as folder:
         hostile, chance, done, number = Hostile(folder), random.Random(49), 0, 0
         lines = base()

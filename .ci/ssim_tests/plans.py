@@ -1,10 +1,14 @@
 """Plans written back: the records that they change, and that nothing else changes on any date."""
 
+from __future__ import annotations
+
 import datetime
 import random
+from typing import Dict, List, Mapping, Optional, Sequence, Tuple, Union
 
+from pathlib import Path
 from schedule_lines import ZEROS, carrier, header, leg, numbered, segment, text, trailer
-from ssim_tests.trying import EXAMPLE, call, records, scratch, standing
+from ssim_tests.trying import EXAMPLE, Tally, call, records, scratch, standing
 
 DATE = "2026-11-30"
 WAY = "ZRH 0800 +0100 LHR 0950 +0000"
@@ -14,19 +18,26 @@ DRAWS = 12
 NEAR = (-14, -8, -7, -2, -1, 0, 1, 2, 6, 7, 8, 14, 21, 28)
 
 
-def short(line):
+def short(line: str) -> str:
     """What a plan may change of a leg's line: flight, variation, leg, period, days and type; and of segment data the flight."""
     return line[5:13] + line[127] + " " + line[14:35].rstrip() + " " + line[72:75] if line[0] == "3" else f"{line[5:13]}{line[27]} {line[30:33]}"
 
 
-def plan_text(fleets, shifts=None):
+def plan_text(fleets: Mapping[str, str], shifts: Optional[Mapping[str, int]] = None) -> str:
     """A plan of fleets by flight, and of shifts, where they are given."""
     if shifts is None:
         return "flight,fleet\n" + "".join(f"{it},{to}\n" for it, to in fleets.items())
     return "flight,fleet,shift\n" + "".join(f"{it},{to},{shifts.get(it, 0)}\n" for it, to in fleets.items())
 
 
-def planned(folder, lines, changes, words=(), option="--date", shifts=None):
+def planned(
+    folder: Path,
+    lines: Sequence[str],
+    changes: Mapping[str, str],
+    words: Sequence[str] = (),
+    option: str = "--date",
+    shifts: Optional[Mapping[str, int]] = None,
+) -> List[str]:
     """Writes a plan of a date or a week with some fleets changed, and returns the lines of the new file."""
     (folder / "season").write_bytes(text(lines).encode("ascii"))
     fleets = "".join(f"{it},9,30\n" for it in sorted({it[72:75] for it in lines if it[0] == "3"}))
@@ -41,11 +52,13 @@ def planned(folder, lines, changes, words=(), option="--date", shifts=None):
     return (folder / "new").read_bytes().decode("ascii").split("\r\n")[:-1]
 
 
-def body(lines):
+def body(lines: Sequence[str]) -> List[str]:
+    """What a plan may change of all legs."""
     return [short(it) for it in lines if it[0] in "34"]
 
 
-def file_of(*legs):
+def file_of(*legs: str) -> List[str]:
+    """A file of these legs."""
     return numbered([header(), carrier("ZZ"), *legs, trailer("ZZ")])
 
 
@@ -57,8 +70,9 @@ THREE = [
     leg("ZZ", 7, "ZRH 2230 +0100 GVA 2315 +0100", "320"),
     leg("ZZ", 7, "GVA 0130 +0100 LIS 0310 +0000", "320", sequence=2, shifts="11"),
 ]
+Case = Tuple[List[str], Dict[str, str], Tuple[str, ...], List[str]]
 # Of each case the legs, the fleets of the plan, the options, and the records of the new file.
-CASES = {
+CASES: Dict[str, Case] = {
     "by date": ([ONE, TWO, LATER], {"ZZ1": "E90"}, (), [
         "00010101  25OCT2627NOV2612345 320", "00010201  30NOV2630NOV261 E90", "00010301  01DEC2627MAR2712345 320",
         "00020101  25OCT2627MAR2712345 320", "00010401  25OCT2627MAR27     67 320",
@@ -98,7 +112,7 @@ CASES = {
 }  # fmt: skip
 
 
-def every_day(changes):
+def every_day(changes: Mapping[Tuple[str, str], str]) -> Dict[str, str]:
     """The fleets of names of a week, each of which ends with its days."""
     return {f"{name}D{day}": fleet for (name, days), fleet in changes.items() for day in days}
 
@@ -140,7 +154,8 @@ WEEKS = {
 }  # fmt: skip
 
 
-def try_cases(tally):
+def try_cases(tally: Tally) -> None:
+    """Plans and the records that they change."""
     weeks = {name: (legs, every_day(changes), words, wanted) for name, (legs, changes, words, wanted) in WEEKS.items()}
     for name, (legs, changes, words, wanted) in {**CASES, **weeks}.items():
         with scratch() as folder:
@@ -150,7 +165,7 @@ def try_cases(tally):
             tally.equal(f"a plan: {name}, counted", numbered([f"{it[:194]}000000" for it in lines]), lines)
 
 
-def try_blocks(tally):
+def try_blocks(tally: Tally) -> None:
     """Where zeros fill the last block of five before a trailer they fill it again."""
     with scratch() as folder:
         lines = numbered([header(), carrier("ZZ"), ONE, leg("ZZ", 99, WAY, "E90", "7"), ZEROS, trailer("ZZ"), *[ZEROS] * 4])
@@ -160,7 +175,7 @@ def try_blocks(tally):
         tally.equal("a plan as filed leaves the file as it is", lines, same)
 
 
-def try_ends(tally):
+def try_ends(tally: Tally) -> None:
     """Lines end as they did, and so does the last one."""
     lines = file_of(ONE, TWO, leg("ZZ", 99, WAY, "E90", "7"))
     for end in ("\n", "\r\n"):
@@ -173,7 +188,7 @@ def try_ends(tally):
                 tally.equal(f"lines that end with {end!r}, the last with {last!r}", (0, end.join(new) + last), (status, came) if not status else told)
 
 
-def try_carriers(tally):
+def try_carriers(tally: Tally) -> None:
     """A second carrier record goes on with serial numbers as it did, from the first one's on or anew."""
     first, second = carrier("ZZ", "L", ("25OCT26", "29NOV26")), carrier("ZZ", "L", ("30NOV26", "27MAR27"))
     legs = [leg("ZZ", 1, WAY, "320", "12345", ("30NOV26", "27MAR27")), TWO, leg("ZZ", 99, WAY, "E90", "7")]
@@ -189,7 +204,7 @@ def try_carriers(tally):
             tally.equal(f"the carrier of the date is changed alone, {name}", wanted, kinds)
 
 
-def try_hundreds(tally):
+def try_hundreds(tally: Tally) -> None:
     """More than 99 variations of a flight: the hundreds stand in byte 128 as a letter."""
     starts = [datetime.date(2026, 10, 26) + datetime.timedelta(it) for it in range(150)]
     dates = [it.strftime("%d%b%y").upper() for it in starts]
@@ -202,7 +217,7 @@ def try_hundreds(tally):
         tally.equal("variations beyond 99", wanted, came)
 
 
-def tables_on(file, folder, day, fleets):
+def tables_on(file: Path, folder: Path, day: datetime.date, fleets: Path) -> Union[str, List[str]]:
     """Returns the legs and the plan of a day as texts, without their names."""
     status, told = call("tables", file, folder, "--date", day.isoformat(), "--fleets", fleets)
     if status:
@@ -211,7 +226,7 @@ def tables_on(file, folder, day, fleets):
     return sorted(f"{leg.split(',', 1)[1]},{fleet.split(',')[1]}" for leg, fleet in zip(legs, plan))
 
 
-def try_draws(tally):
+def try_draws(tally: Tally) -> None:
     """Plans of the example that are drawn: their tables have them again, and all other dates stay."""
     types = ["223", "320", "333", "E90"]
     with scratch() as folder:
@@ -224,8 +239,8 @@ def try_draws(tally):
             option, count = ("--week", 7) if draw % 4 > 1 else ("--date", 1)
             file, day, new = EXAMPLE / "season.ssim", folder / "day", folder / f"new{draw}"
             call("tables", file, day, option, first.isoformat(), "--fleets", fleets)
-            rows = [it.split(",") for it in records(day, "plan.csv")]
-            rows = [(it, chance.choice(types) if chance.random() < 0.4 else kind) for it, kind in rows]
+            filed = [it.split(",") for it in records(day, "plan.csv")]
+            rows = [(it, chance.choice(types) if chance.random() < 0.4 else kind) for it, kind in filed]
             plan = "flight,fleet\n" + "".join(f"{it},{kind}\n" for it, kind in rows)
             (day / "plan.csv").write_text(plan, encoding="ascii")
             status, told = call("plan", file, day, new, *words)
@@ -244,7 +259,7 @@ def try_draws(tally):
                 tally.equal(f"plan {draw} {option} {first} {words} is that of {later}", plan, came)
 
 
-def others(folder, file, new, first, count, is_whole_season, fleets):
+def others(folder: Path, file: Path, new: Path, first: datetime.date, count: int, is_whole_season: bool, fleets: Path) -> Optional[str]:
     """Returns on which near date the legs of two files differ that may not, or None."""
     for shift in NEAR:
         if shift in range(count) or is_whole_season and shift % 7 < count:
@@ -256,7 +271,7 @@ def others(folder, file, new, first, count, is_whole_season, fleets):
     return None
 
 
-def try_refusals(tally):
+def try_refusals(tally: Tally) -> None:
     """Files of DIR that don't belong together: one line, and no new file."""
     for name, line, put in (
         ("plan.csv", "plan.csv record 2: the flight is ZZ2, it should be ZZ1 as in names.csv", "flight,fleet\nZZ2,320\nZZ1,320\n"),
@@ -285,7 +300,8 @@ def try_refusals(tally):
     tally.equal("plan --week", (2, "ssim: --week is no option"), (status, told.splitlines()[0]))
 
 
-def try_all(tally):
+def try_all(tally: Tally) -> None:
+    """Tries all cases."""
     try_cases(tally)
     try_blocks(tally)
     try_ends(tally)

@@ -1,7 +1,12 @@
 """Each refusal: one line that says where and what, status 6, 7 or 2, and nothing written."""
 
+from __future__ import annotations
+
+from typing import Dict, List, Tuple
+
+from pathlib import Path
 from schedule_lines import ZEROS, carrier, header, leg, numbered, segment, text, trailer
-from ssim_tests.trying import call, scratch, standing
+from ssim_tests.trying import Tally, call, scratch, standing
 
 DATE = "2026-11-30"
 LEG = leg("ZZ", 1, "ZRH 0800 +0100 LHR 0950 +0000", "320")
@@ -63,7 +68,7 @@ CHANGES = (
     (8, 1, "3", 'record type is "3" (byte 1), it should be 5, the trailer, behind lines of zeros'),
 )
 # Of each case the lines, and what is told of which line.
-WHOLES = {
+WHOLES: Dict[str, Tuple[List[str], int, str]] = {
     "a short line": ([*LINES[:3], LINES[3][:-1], *LINES[4:]], 4, "the line has 199 bytes (bytes 1 to 199), it should be 200 bytes long"),
     "an empty line": ([*LINES, ""], 9, "the line has 0 bytes (bytes 1 to 0), it should be 200 bytes long"),
     "no trailer": (LINES[:7], 8, "the file ends (bytes 1 to 200), it should be 5, the trailer, behind lines of zeros"),
@@ -111,7 +116,7 @@ FILES = {
 }
 
 
-def refused(folder, data, words):
+def refused(folder: Path, data: bytes, words: str) -> Tuple[int, str, bool]:
     """Calls `tables` on a file, and returns the status, what was told, and whether nothing was written."""
     (folder / "season").write_bytes(data)
     for name, held in FILES.items():
@@ -121,7 +126,8 @@ def refused(folder, data, words):
     return status, told.replace(f"{folder}/", ""), standing(folder) == before
 
 
-def try_all(tally):
+def try_all(tally: Tally) -> None:
+    """Tries all cases."""
     with scratch() as folder:
         for number, at, put, why in CHANGES:
             lines = list(LINES)

@@ -1,13 +1,16 @@
 """Made seasons with plans that are drawn: on each date of the season the legs of the new file depart as planned, or as filed. What a file
 says is counted out here, apart from the tool."""
 
+from __future__ import annotations
+
 import datetime
 import random
 from collections import Counter
+from typing import Dict, List, Mapping, Optional, Sequence, Tuple
 
 from schedule_lines import EVERY_DAY, leg, numbered, segment, text, whole
 from ssim_tests.shifts import Drawn
-from ssim_tests.trying import call, records, scratch
+from ssim_tests.trying import Tally, call, records, scratch
 
 DAY = 1440
 SEASONS = 120
@@ -19,55 +22,63 @@ LAST = datetime.date(2027, 3, 1).toordinal()
 REFUSED = ("it should be within", "it should be 7 at most")
 
 
-def day_of(field):
+def day_of(field: str) -> int:
+    """Returns the day of DDMMMYY."""
     return LAST if field == "00XXX00" else datetime.datetime.strptime(field.title(), "%d%b%y").toordinal()
 
 
-def minutes(field):
+def minutes(field: str) -> int:
+    """Returns the minute of HHMM."""
     return 60 * int(field[:2]) + int(field[2:])
 
 
-def zone(field):
+def zone(field: str) -> int:
+    """Returns the minutes of a variation from UTC."""
     return minutes(field[1:]) * (-1 if field[0] == "-" else 1)
 
 
-def written(minute):
+def written(minute: int) -> str:
+    """Returns a minute of any day as HHMM."""
     return f"{minute % DAY // 60:02}{minute % 60:02}"
 
 
-def variation(days):
+def variation(days: int) -> str:
+    """Returns a date variation."""
     return "A" if days < 0 else str(days)
 
 
-def dates_of(line, last):
+def dates_of(line: str, last: int) -> List[int]:
     """Returns the dates of operation of a leg's line."""
     start, end = day_of(line[14:21]), min(day_of(line[21:28]), last)
     is_on = {it: line[28:35][(it - 1) % 7] != " " and not (line[35] == "2" and (it - start) // 7 % 2) for it in range(start, end + 1)}
     return [it for it in is_on if is_on[it]]
 
 
-def ends_of(line, date, is_local):
+def ends_of(line: str, date: int, is_local: bool) -> List[int]:
     """Returns the minutes in UTC at which a leg departs and arrives, by its line and a date of operation."""
     fields = (line[192], line[43:47], line[47:52]), (line[193], line[57:61], line[65:70])
     days = [-1 if it == "A" else int(it.strip() or 0) for it, _, _ in fields]
     return [DAY * (date + day) + minutes(time) - is_local * zone(own) for day, (_, time, own) in zip(days, fields)]
 
 
-def late(line, at, of):
+def late(line: str, at: int, of: int) -> Optional[int]:
     """Returns by how many minutes the passengers' time differs from the aircraft's, or None where it is blank."""
     return (minutes(line[at : at + 4]) - minutes(line[of : of + 4])) % DAY if line[at : at + 4].strip() else None
 
 
-def kept_of(lines, number):
+def kept_of(lines: Sequence[str], number: int) -> Tuple[object, ...]:
     """Returns what a plan may not change of a leg's line and its segment data."""
     line = lines[number - 1]
     data = tuple(it[28:194] for it in lines[number : number + 2] if it[0] == "4" and it[1:14] == line[1:14])
     return line[1:9], line[11:14], line[36:39], line[54:57], line[75:127], line[128:192], late(line, 39, 43), late(line, 61, 57), data
 
 
-def departures(lines, planned=None, is_whole_season=False):
+def departures(
+    lines: Sequence[str], planned: Optional[Mapping[Tuple[int, object], Tuple[str, int]]] = None, is_whole_season: bool = False
+) -> Counter[Tuple[object, ...]]:
     """Returns how often each leg departs, with all that a plan may not change; by a plan, where one is given."""
-    is_local, last, found = lines[5][1] == "L", day_of(lines[5][21:28]), Counter()
+    is_local, last = lines[5][1] == "L", day_of(lines[5][21:28])
+    found: Counter[Tuple[object, ...]] = Counter()
     kept = {number: kept_of(lines, number) for number, line in enumerate(lines, 1) if line[0] == "3"}
     for number, date in ((number, date) for number in kept for date in dates_of(lines[number - 1], last)):
         line = lines[number - 1]
@@ -79,7 +90,7 @@ def departures(lines, planned=None, is_whole_season=False):
     return found
 
 
-def itinerary(chance, flight, number, days, is_local):
+def itinerary(chance: random.Random, flight: int, number: int, days: str, is_local: bool) -> List[str]:
     """Returns the lines of an itinerary of one to three legs, or none where no date variations say when they depart."""
     start = FIRST + datetime.timedelta(chance.randint(0, 40))
     end = start + datetime.timedelta(chance.choice((6, 13, 20, 60, 100)))
@@ -92,7 +103,8 @@ def itinerary(chance, flight, number, days, is_local):
         if not -DAY <= min(ends) <= max(ends) < 8 * DAY:
             return []
         way = f"{origin} {written(ends[0])} {ZONES[origin]} {destination} {written(ends[1])} {ZONES[destination]}"
-        more = chance.choice(({}, {}, {"b40": "    "}, {"b62": "1234"}))
+        blank: Dict[str, str] = {}
+        more = chance.choice((blank, blank, {"b40": "    "}, {"b62": "1234"}))
         shifts = "".join(variation(it // DAY) for it in ends)
         one = leg("ZZ", flight, way, chance.choice(TYPES), days, period, number, sequence, shifts=shifts, b36=rate, **more)
         lines.extend([one, *(segment(one, it, "XY 1") for it in chance.choice(((), ("010",), ("010", "109"))))])
@@ -100,7 +112,7 @@ def itinerary(chance, flight, number, days, is_local):
     return lines
 
 
-def season(chance):
+def season(chance: random.Random) -> List[str]:
     """Returns the lines of a season of some flights, whose itineraries share the days of the week out among them."""
     is_local, legs = chance.random() < 0.7, []
     for flight, number in ((flight, number) for flight in range(1, 5) for number in (1, 2)):
@@ -109,7 +121,7 @@ def season(chance):
     return whole("ZZ", legs, "L" if is_local else "U")
 
 
-def try_season(tally, draw):
+def try_season(tally: Tally, draw: int) -> int:
     """Makes a season and a plan by a number, and compares what departs."""
     chance, words = random.Random(draw), ["--whole-season"] if draw % 2 else []
     option, first = ("--date", "--week")[draw % 4 > 1], FIRST + datetime.timedelta(chance.randint(0, 100))
@@ -130,6 +142,7 @@ def try_season(tally, draw):
         return len(records(day, "plan.csv"))
 
 
-def try_all(tally):
+def try_all(tally: Tally) -> None:
+    """Tries all cases."""
     planned = [try_season(tally, draw) for draw in range(SEASONS)]
     tally.note("legs of seasons are planned", None if sum(planned) > SEASONS else f"{sum(planned)} legs")

@@ -1,11 +1,15 @@
 """Plans with shifts and with legs left out, written back: the records that they change, and when all legs depart then."""
 
+from __future__ import annotations
+
 import datetime
 import random
+from typing import Any, Dict, List, Optional, Sequence, Tuple
 
+from pathlib import Path
 from schedule_lines import carrier, header, leg, numbered, segment, trailer, whole
 from ssim_tests.plans import DATE, LATER, ONE, THREE, TWO, WAY, file_of, plan_text, planned
-from ssim_tests.trying import EXAMPLE, call, records, scratch, standing
+from ssim_tests.trying import EXAMPLE, Tally, call, records, scratch, standing
 
 DAY = 1440
 # Plans that are drawn, each by a number.
@@ -26,7 +30,7 @@ OTHER = leg("ZZ", 99, WAY, "E90", "7")
 ODD = leg("ZZ", 1, WAY, "320", "1", MONDAY, b40="0755", b62="    ")
 
 
-def short(line):
+def short(line: str) -> str:
     """What a plan may change of a leg's line: flight, variation, leg, period, days, times, date variations and type."""
     if line[0] == "4":
         return f"{line[5:13]} {line[30:33]}"
@@ -53,7 +57,8 @@ CASES = {
         "00010101 25OCT2624NOV26 2 00050005 08350835 0A 320", "00010201 30NOV2630NOV261 12051205 20352035 0A 320",
         "00010301 08DEC2627MAR27 2 00050005 08350835 0A 320",
     ]),
-    "such a day through the season": ([leg("ZZ", 1, "AKL 0005 +1300 HNL 0835 -1000", "320", "23", ("25OCT26", "00XXX00"), shifts="0A")],
+    "such a day through the season": (
+        [leg("ZZ", 1, "AKL 0005 +1300 HNL 0835 -1000", "320", "23", ("25OCT26", "00XXX00"), shifts="0A")],
         {"ZZ1": ("320", -720)}, ("--whole-season",), [
         "00010101 25OCT2600XXX00  3 00050005 08350835 0A 320", "00010201 26OCT2626MAR271 12051205 20352035 0A 320",
     ]),
@@ -118,7 +123,8 @@ REFUSED = {
 }  # fmt: skip
 
 
-def try_cases(tally):
+def try_cases(tally: Tally) -> None:
+    """Plans and the records that they change."""
     weeks = {
         name: (legs, {f"{flight}D{day}": it for (flight, days), it in changes.items() for day in days}, words, wanted)
         for name, (legs, changes, words, wanted) in WEEKS.items()
@@ -126,7 +132,7 @@ def try_cases(tally):
     for name, (legs, changes, words, wanted) in {**CASES, **weeks}.items():
         option = "--week" if name in weeks else "--date"
         with scratch() as folder:
-            fleets, shifts = ({flight: it[at] for flight, it in changes.items()} for at in (0, 1))
+            fleets, shifts = {flight: it[0] for flight, it in changes.items()}, {flight: it[1] for flight, it in changes.items()}
             lines = planned(folder, file_of(*legs, OTHER), fleets, words, option, shifts)
             tally.equal(f"a plan: {name}", [*wanted, short(OTHER)], [short(it) for it in lines if it[0] in "34"])
             tally.equal(f"a plan: {name}, counted", numbered([f"{it[:194]}000000" for it in lines]), lines)
@@ -134,7 +140,7 @@ def try_cases(tally):
             tally.note(f"a plan: {name}, written again", why)
 
 
-def again(folder, new, option):
+def again(folder: Path, new: Path, option: str) -> Optional[str]:
     """Returns how the plan as filed changes a file, or None."""
     made = call("tables", new, folder / "again", option, DATE, "--fleets", folder / "fleets")
     status, told = call("plan", new, folder / "again", folder / "same")
@@ -143,7 +149,7 @@ def again(folder, new, option):
     return None if (folder / "same").read_bytes() == new.read_bytes() else "the file is another"
 
 
-def try_whole(tally):
+def try_whole(tally: Tally) -> None:
     """A carrier none of whose legs is flown, and what is told."""
     first = leg("ZZ", 1, WAY, "320", "1")
     lines = whole("ZZ", [first, segment(first, "010", "XY 1"), leg("ZZ", 2, "LHR 2350 +0000 ZRH 0240 +0100", "E90", "1", shifts="01")])
@@ -160,7 +166,7 @@ def try_whole(tally):
         tally.equal("what is told of shifts", TOLD, said)
 
 
-def try_modes(tally):
+def try_modes(tally: Tally) -> None:
     """Midnight is that of the file's time mode, and the day that of the departure in UTC."""
     for mode, minutes, wanted, over in (
         ("L", 20, "00010101 30NOV2630NOV261 00100010 01100110 11 320", ""),
@@ -188,7 +194,8 @@ ssim: onward flights (bytes 138 to 146), leg sequences and data of segments stay
 """
 
 
-def try_refusals(tally):
+def try_refusals(tally: Tally) -> None:
+    """Plans that can't be written back: one line, and no new file."""
     for row, line in REFUSED.items():
         with scratch() as folder:
             planned(folder, file_of(ONE, TWO), {}, shifts={})
@@ -202,8 +209,8 @@ def try_refusals(tally):
         lines = planned(folder, file_of(leg("ZZ", 1, WAY, "320", "1", MONDAY)), {}, shifts={"ZZ1": 10})
         status, told = call("plan", folder / "new", folder / "day", folder / "newer")
         line = "ZZ1 is ZRH 07:10 LHR 10:00 by line 3 of new, it should be ZRH 07:00 LHR 09:50 as in legs.csv, in the file that the tables are of"
-        came = status, told.replace(f"{folder}/", ""), (folder / "newer").exists(), short(lines[2])
-        tally.equal("plan: shifts twice", (6, f"ssim: day/names.csv record 2: {line}\n", False, "00010101 30NOV2630NOV261 08100810 10001000 00 320"), came)
+        twice = status, told.replace(f"{folder}/", ""), (folder / "newer").exists(), short(lines[2])
+        tally.equal("plan: shifts twice", (6, f"ssim: day/names.csv record 2: {line}\n", False, "00010101 30NOV2630NOV261 08100810 10001000 00 320"), twice)
     first = leg("ZZ", 1, "AKL 0005 +1300 HNL 0835 -1000", "320", period=("27OCT26", "00XXX00"), shifts="0A")
     then = leg("ZZ", 1, "HNL 0900 -1000 LAX 1600 -0800", "320", sequence=2, shifts="77")
     season = carrier("ZZ", "L", ("27OCT26", "27MAR27"))
@@ -215,11 +222,15 @@ def try_refusals(tally):
     ):  # fmt: skip
         with scratch() as folder:
             lines = numbered([header(), *legs, trailer("ZZ")])
-            came = planned(folder, lines, {}, ("--whole-season",), shifts={"ZZ1": -720, "ZZ1A": -720})
-            tally.equal(f"plan: {name}", (f"ssim: season {line}\n", False), (came[-1].replace(f"{folder}/", ""), (folder / "new").exists()))
+            said = planned(folder, lines, {}, ("--whole-season",), shifts={"ZZ1": -720, "ZZ1A": -720})
+            tally.equal(f"plan: {name}", (f"ssim: season {line}\n", False), (said[-1].replace(f"{folder}/", ""), (folder / "new").exists()))
 
 
-def weeks_of(folder, file, first, fleets, wanted=(-7, 0, 7)):
+# Of each leg's line and date of operation when it departs, its way, its block and its type; or what is told.
+World = Any
+
+
+def weeks_of(folder: Path, file: Path, first: datetime.date, fleets: Path, wanted: Sequence[int] = (-7, 0, 7)) -> World:
     """Returns what departs in weeks around a day: of each leg's line and date of operation its day and minute in UTC, its way, its
     block and its type; or what is told, where the file doesn't read."""
     found = {}
@@ -237,10 +248,14 @@ def weeks_of(folder, file, first, fleets, wanted=(-7, 0, 7)):
     return found
 
 
+# Of each leg's line and its date of operation, or the day of the week of that, its fleet and its shift.
+Planned = Dict[Tuple[int, Any], Tuple[str, int]]
+
+
 class Drawn:
     """A plan that is drawn for the tables of a folder. Where a draw is `calm` each leg departs on its day, and all are flown."""
 
-    def __init__(self, chance, day, types, is_calm):
+    def __init__(self, chance: random.Random, day: Path, types: Sequence[str], is_calm: bool) -> None:
         self.names = [it.split(",") for it in records(day, "names.csv")]
         departs = [it.split(",")[-3] for it in records(day, "legs.csv")]
         filed = [it.split(",")[1] for it in records(day, "plan.csv")]
@@ -253,14 +268,14 @@ class Drawn:
                 self.shifts[name] = shift if not is_calm or 0 <= minute + shift < DAY else 0
         (day / "plan.csv").write_text(plan_text(self.fleets, self.shifts), encoding="ascii")
 
-    def planned(self, is_whole_season):
+    def planned(self, is_whole_season: bool) -> Planned:
         """Returns the fleet and the shift by a leg's line and its date of operation, or the day of the week of that."""
         dates = [(int(it[6]), datetime.date.fromisoformat(it[7])) for it in self.names]
         keys = [(line, date.weekday() if is_whole_season else date) for line, date in dates]
         return {key: (self.fleets[it[0]], self.shifts.get(it[0], 0)) for key, it in zip(keys, self.names)}
 
 
-def departing(world, planned=None, is_whole_season=False):
+def departing(world: World, planned: Optional[Planned] = None, is_whole_season: bool = False) -> List[Tuple[Any, ...]]:
     """Returns the legs of a world in order, by a plan where one is given."""
     found = []
     for (line, date), (when, origin, destination, block, kind) in world.items():
@@ -270,12 +285,12 @@ def departing(world, planned=None, is_whole_season=False):
     return sorted(found)
 
 
-def between(legs, first, last):
+def between(legs: Sequence[Tuple[Any, ...]], first: datetime.date, last: datetime.date) -> List[Tuple[Any, ...]]:
     """Returns the legs that depart on some days."""
     return [it for it in legs if first.toordinal() * DAY <= it[0] < last.toordinal() * DAY]
 
 
-def times_by(folder, drawn=None):
+def times_by(folder: Path, drawn: Optional[Any] = None) -> List[Tuple[Any, ...]]:
     """Returns the legs of a folder's tables in order of departure, by a plan where one is given and as far as they depart on the days of
     the tables then: day and minute of departure, way, block and fleet."""
     found = []
@@ -289,7 +304,7 @@ def times_by(folder, drawn=None):
     return sorted(found)
 
 
-def try_draws(tally):
+def try_draws(tally: Tally) -> None:
     """Plans of the example that are drawn: all legs of three weeks depart as planned, and on all other dates as filed."""
     types = ["223", "320", "333", "E90"]
     with scratch() as folder:
@@ -314,7 +329,7 @@ def try_draws(tally):
                 tally.equal(f"{what} are settled", settled(day, drawn), tables_again(folder, option, first, fleets))
 
 
-def settled(day, drawn):
+def settled(day: Path, drawn: Drawn) -> Tuple[Dict[str, Tuple[object, ...]], List[str]]:
     """Returns the legs of a folder by name, each at its minute and with its fleet by the plan, and the through pairs."""
     found = {}
     for name, *at, origin, dep, destination, arr in (it.split(",") for it in records(day, "legs.csv")):
@@ -323,7 +338,7 @@ def settled(day, drawn):
     return found, sorted(records(day, "throughs.csv"))
 
 
-def tables_again(folder, option, first, fleets):
+def tables_again(folder: Path, option: str, first: datetime.date, fleets: Path) -> Any:
     """Returns the same of the new file's tables."""
     call("tables", folder / "new", folder / "again", option, first.isoformat(), "--fleets", fleets)
     found, plan = {}, dict(it.split(",") for it in records(folder / "again", "plan.csv"))
@@ -332,7 +347,8 @@ def tables_again(folder, option, first, fleets):
     return found, sorted(records(folder / "again", "throughs.csv"))
 
 
-def try_all(tally):
+def try_all(tally: Tally) -> None:
+    """Tries all cases."""
     try_cases(tally)
     try_whole(tally)
     try_modes(tally)

@@ -1,12 +1,17 @@
 """Writes that fail, and a program that doesn't judge: each file stands whole, as it was or as it should be, and nothing beside it."""
 
+from __future__ import annotations
+
 import contextlib
 import os
 import resource
 import signal
+from functools import partial
+from typing import Any, Callable, ContextManager, Iterator, NoReturn, Tuple
 from unittest import mock
 
-from ssim_tests.trying import EXAMPLE, call, scratch, standing
+from pathlib import Path
+from ssim_tests.trying import EXAMPLE, Tally, call, scratch, standing
 
 DATE = "2026-11-30"
 FILE = EXAMPLE / "season.ssim"
@@ -14,32 +19,37 @@ FILE = EXAMPLE / "season.ssim"
 COUNT = 7
 
 
-def tables(folder, *words, fleets=True):
+def tables(folder: Path, *words: object, fleets: bool = True) -> Tuple[int, str]:
+    """Makes tables of the example."""
     given = ["--fleets", folder / "fleets"] if fleets else []
     return call("tables", FILE, folder / "day", "--date", DATE, *given, *words)
 
 
-def lay(folder):
+def lay(folder: Path) -> None:
+    """Lays what tables are made with."""
     (folder / "fleets").write_text("fleet,aircraft,turn\n223,9,30\n320,9,30\n333,9,30\nE90,9,30\n", encoding="ascii")
 
 
-def full():
+def full() -> NoReturn:
+    """The disk is full."""
     raise OSError(28, "No space left on device")
 
 
-def interrupt():
+def interrupt() -> NoReturn:
+    """Ctrl-C comes."""
     raise KeyboardInterrupt
 
 
-def kill():
+def kill() -> None:
+    """The process is killed."""
     os.kill(os.getpid(), signal.SIGKILL)
 
 
-def failing(name, number, end=full):
+def failing(name: str, number: int, end: Callable[[], None] = full) -> ContextManager[Any]:
     """Has a call of os end so, that of a number, and those before and behind it not."""
     real, seen = getattr(os, name), []
 
-    def fails(*words, **more):
+    def fails(*words: Any, **more: Any) -> Any:
         seen.append(words)
         if len(seen) == number:
             end()
@@ -48,7 +58,7 @@ def failing(name, number, end=full):
     return mock.patch.object(os, name, fails)
 
 
-def try_failing(tally):
+def try_failing(tally: Tally) -> None:
     """Each step of a write fails once, in a new folder and in one that holds older tables."""
     steps = [("chmod", it) for it in range(1, COUNT + 1)] + [("replace", it) for it in range(1, COUNT + 1)]
     for is_new in (True, False):
@@ -71,7 +81,7 @@ def try_failing(tally):
                 tally.equal(what, (7, line, wanted, []), (status, told, after, beside))
 
 
-def try_interrupted(tally):
+def try_interrupted(tally: Tally) -> None:
     """After Ctrl-C in the midst of writing a new folder nothing is left of it."""
     for name, number in (("chmod", 1), ("chmod", COUNT), ("replace", COUNT), ("rename", 1)):
         with scratch() as folder:
@@ -81,7 +91,7 @@ def try_interrupted(tally):
             tally.equal(f"Ctrl-C at os.{name} {number}", (130, "", ["fleets"]), (*came, os.listdir(folder)))
 
 
-def killed(name, number, run):
+def killed(name: str, number: int, run: Callable[[], object]) -> bool:
     """Has a process of its own run, and killed at a call of os, that of a number. Returns whether it was."""
     process = os.fork()
     if not process:
@@ -91,7 +101,7 @@ def killed(name, number, run):
     return os.WIFSIGNALED(os.waitpid(process, 0)[1])
 
 
-def try_killed(tally):
+def try_killed(tally: Tally) -> None:
     """A process that is killed at a step of writing tables: a new folder isn't there, and in an older one each file is an older one or a
     whole one."""
     with scratch() as folder:
@@ -105,7 +115,7 @@ def try_killed(tally):
             if not is_new:
                 tables(folder, "--types", "E90")
             before = standing(folder / "day")
-            was_killed = killed(name, number, lambda folder=folder: tables(folder))
+            was_killed = killed(name, number, partial(tables, folder))
             after = standing(folder / "day")
             stand = after and {it: data for it, data in after.items() if not it.startswith(".")}
             put = {it for it, data in stand.items() if data != before[it]} if stand else set()
@@ -114,7 +124,7 @@ def try_killed(tally):
             tally.equal(f"killed at os.{name} {number}{' of a new folder' if is_new else ''}", (True, wanted, True), (was_killed, stand, len(put) <= most))
 
 
-def try_killed_plan(tally):
+def try_killed_plan(tally: Tally) -> None:
     """A process that is killed as it writes a plan: the new file isn't there, or is the older one."""
     for name, before in ((name, before) for name in ("chmod", "replace") for before in (None, b"mine")):
         with scratch() as folder:
@@ -123,13 +133,13 @@ def try_killed_plan(tally):
             new = folder / "new"
             if before:
                 new.write_bytes(before)
-            was_killed = killed(name, 1, lambda folder=folder, new=new: call("plan", FILE, folder / "day", new))
+            was_killed = killed(name, 1, partial(call, "plan", FILE, folder / "day", new))
             came = was_killed, new.read_bytes() if new.exists() else None
-            tally.equal(f"a plan that is killed at os.{name}, before it {before}", (True, before), came)
+            tally.equal(f"a plan that is killed at os.{name}, before it {before!r}", (True, before), came)
 
 
 @contextlib.contextmanager
-def small_files(most):
+def small_files(most: int) -> Iterator[None]:
     """Has each write fail that would make a file of more bytes, as on a full disk."""
     limits = resource.getrlimit(resource.RLIMIT_FSIZE)
     resource.setrlimit(resource.RLIMIT_FSIZE, (most, limits[1]))
@@ -139,7 +149,7 @@ def small_files(most):
         resource.setrlimit(resource.RLIMIT_FSIZE, limits)
 
 
-def try_full(tally):
+def try_full(tally: Tally) -> None:
     """A write that breaks off in the middle of a file: no part of it is left."""
     with scratch() as folder:
         lay(folder)
@@ -156,12 +166,12 @@ def try_full(tally):
                 new.write_bytes(before)
             with small_files(10_000):
                 status, told = call("plan", FILE, folder / "day", new)
-            came = status, told, sorted(os.listdir(folder)), new.read_bytes() if before else None
+            held = status, told, sorted(os.listdir(folder)), new.read_bytes() if before else None
             files = ["day", "fleets", *(["new"] if before else [])]
-            tally.equal("a plan that breaks off", (7, f"ssim: {new} can't be written: File too large\n", files, before), came)
+            tally.equal("a plan that breaks off", (7, f"ssim: {new} can't be written: File too large\n", files, before), held)
 
 
-def try_places(tally):
+def try_places(tally: Tally) -> None:
     """Files and folders that stand where others are to be written."""
     with scratch() as folder:
         lay(folder)
@@ -196,7 +206,7 @@ def try_places(tally):
         tally.equal("a new file that can't be put in its place", (7, (["day", "fleets", "season"], FILE.read_bytes())), (came[0], kept))
 
 
-def try_programs(tally):
+def try_programs(tally: Tally) -> None:
     """Programs that don't judge: nothing is written."""
     for name, text, line in (
         ("no program", None, "can't be run: No such file or directory"),
@@ -219,7 +229,8 @@ def try_programs(tally):
             tally.equal(name, wanted, (status, told, standing(folder / "day")))
 
 
-def try_all(tally):
+def try_all(tally: Tally) -> None:
+    """Tries all cases."""
     try_failing(tally)
     try_interrupted(tally)
     try_killed(tally)

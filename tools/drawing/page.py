@@ -108,7 +108,8 @@ def told(rotation: Rotation, period: int) -> str:
 def summary(drawn: Drawn) -> str:
     """Returns the numbers of the summary."""
     schedule = drawn.schedule
-    rows = [("cost", f"{drawn.cost:,}"), *drawn.proved, ("flights", f"{len(schedule.legs) - len(drawn.left_out):,}"), ("day start", f"{schedule.clock(0)} UTC")]
+    flights = f"{len(schedule.legs) - len(drawn.left_out):,}"
+    rows = [("cost", f"{drawn.cost:,}"), *drawn.proved, ("flights", flights), ("day start", f"{schedule.clock(0)} UTC")]
     rows += [("period", f"{schedule.period} days")] if schedule.period > 1 else []
     head = "".join(f'<tr><th>{name}</th><td class="n">{value}</td></tr>' for name, value in rows)
     fleets = "".join(

@@ -3,7 +3,7 @@
 from __future__ import annotations
 
 import os
-from typing import Dict, List, Optional
+from typing import Dict
 
 from fleetplan.program import held
 from fleetplan.proofs import counts_of

@@ -2,7 +2,7 @@
 
 from __future__ import annotations
 
-from typing import Dict, List, Optional, Sequence, Tuple
+from typing import Dict, List, Sequence, Tuple
 
 from fleetplan.errors import Unread
 from fleetplan.texts import printed
@@ -174,6 +174,7 @@ class Reader:
         self.known = {}
 
     def created(self, field: Field, number: int, line: str) -> None:
+        """Judges a date that may be blank."""
         if field.of(line).strip():
             self.day(field, number, line)
 

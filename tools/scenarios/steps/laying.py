@@ -4,12 +4,12 @@ from __future__ import annotations
 
 import os
 import shutil
-from typing import Dict, Optional, Sequence
+from typing import Optional, Sequence
 
 from fleetplan.errors import Unread
 from fleetplan.files import write
-from fleetplan.records import Rows, table_of, text_of
-from fleetplan.tables import HEADERS, LIMITED, Header, headers_of
+from fleetplan.records import table_of, text_of
+from fleetplan.tables import HEADERS, LIMITED, headers_of
 from steps.changes import read_change
 from steps.flagged import flags_of, tables_in
 from steps.running import Fault, Limits, run

@@ -4,7 +4,7 @@ from __future__ import annotations
 
 import os
 import re
-from typing import Dict, List, Sequence, Tuple
+from typing import List, Sequence, Tuple
 
 from fleetplan.forms import MOST_AIRCRAFT
 from fleetplan.records import records_of
