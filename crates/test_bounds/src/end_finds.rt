@@ -3,8 +3,8 @@ ghost use Rattle.row_store.specs.Problem.{IsProblem};
 
 use crate::assertions::assert_same;
 use end_check::{EndFinder, Hint, is_end, refuses};
-use end_search::DualSimplex;
 use entries::NoMemory;
+use exact_ends::DualSimplex;
 use fleet_model::{Kept, LoadError, Tables};
 use lp_rows::Program;
 use std::alloc::Global;

@@ -7,7 +7,7 @@ ghost use Rattle.lp_rows.specs.Outline.{IsOutline};
 ghost use Rattle.lp_rows.specs.Points.{AreLinesOf};
 
 use end_check::{EndFinder, Hint, PointHint, RefusalHint, is_end, refuses};
-use end_search::DualSimplex;
+use exact_ends::DualSimplex;
 use fleet_model::{Kept, Tables};
 use lp_rows::Program;
 use price_lift::{LiftError, Lifted, lift_end, lift_refusing_end};

@@ -1,0 +1,110 @@
+use crate::fractions::Ratios;
+use crate::modular::{Modular, Way};
+use dual_pivots::{Basis, Lines};
+use end_check::{Hint, PointHint, RefusalHint};
+use entries::{Entries, NoMemory};
+use fixed_numbers::{at, filled, put};
+use std::alloc::Global;
+
+/// The cheapest point that a basis stands for, with its dual values, where its numbers fit.
+pub(crate) fn point_hint(
+    alloc: Global,
+    lines: &Lines,
+    basis: &Basis,
+) -> Result<Option<Hint>, NoMemory> {
+    let Some(mut modular) = Modular::new(alloc, &lines.columns, &basis.head)? else {
+        return Ok(None);
+    };
+    let rights = rights(alloc, lines)?;
+    let Some(point) = modular.solved(alloc, &lines.columns, Way::Point, &rights)? else {
+        return Ok(None);
+    };
+    let costs = costs(alloc, lines, &modular.head)?;
+    let Some(duals) = modular.solved(alloc, &lines.columns, Way::Duals, &costs)? else {
+        return Ok(None);
+    };
+    hint_of(alloc, lines, &modular.head, &point, duals)
+}
+
+// The right sides.
+fn rights(alloc: Global, lines: &Lines) -> Result<Vec<i128>, NoMemory> {
+    let mut rights = Vec::new(alloc);
+    for right in &lines.right {
+        rights.push(i128::from(*right))?;
+    }
+    Ok(rights)
+}
+
+// What basic columns cost.
+fn costs(alloc: Global, lines: &Lines, head: &[u32]) -> Result<Vec<i128>, NoMemory> {
+    let mut costs = Vec::new(alloc);
+    for column in head {
+        costs.push(at(&lines.costs, *column as usize, 0))?;
+    }
+    Ok(costs)
+}
+
+// The hint of a point by the lines of its columns, where each number fits.
+fn hint_of(
+    alloc: Global,
+    lines: &Lines,
+    head: &[u32],
+    ratios: &Ratios,
+    duals: Ratios,
+) -> Result<Option<Hint>, NoMemory> {
+    let Ok(scale) = u64::try_from(ratios.den) else {
+        return Ok(None);
+    };
+    let mut point = filled(alloc, 0, lines.column_count())?;
+    if !lay(head, &ratios.numbers, point.as_mut_slice()) {
+        return Ok(None);
+    }
+    Ok(Some(Hint::Point(PointHint {
+        duals: Entries::from_vec(duals.numbers),
+        dual_scale: duals.den,
+        point: Entries::from_vec(point),
+        scale,
+    })))
+}
+
+// Lays numbers by their columns, and answers whether all fit.
+fn lay(head: &[u32], numbers: &[i128], point: &mut [u64]) -> bool {
+    for line in 0..head.len() {
+        let Ok(number) = u64::try_from(at(numbers, line, 0)) else {
+            return false;
+        };
+        put(point, head[line] as usize, number);
+    }
+    true
+}
+
+/// The multipliers by which the row of a basic column refuses all points, where they fit.
+pub(crate) fn refusal_hint(
+    alloc: Global,
+    lines: &Lines,
+    basis: &Basis,
+    column: u32,
+    up: bool,
+) -> Result<Option<Hint>, NoMemory> {
+    let Some(mut modular) = Modular::new(alloc, &lines.columns, &basis.head)? else {
+        return Ok(None);
+    };
+    let unit = unit_of(alloc, &modular.head, column, up)?;
+    let Some(ratios) = modular.solved(alloc, &lines.columns, Way::Duals, &unit)? else {
+        return Ok(None);
+    };
+    Ok(Some(Hint::Refusal(RefusalHint {
+        multipliers: Entries::from_vec(ratios.numbers),
+    })))
+}
+
+// 1 at the line of a column, or -1 where that isn't to come down.
+fn unit_of(alloc: Global, head: &[u32], column: u32, up: bool) -> Result<Vec<i128>, NoMemory> {
+    let mut unit = filled(alloc, 0, head.len())?;
+    for line in 0..head.len() {
+        if head[line] == column {
+            put(unit.as_mut_slice(), line, if up { 1 } else { -1 });
+        }
+    }
+    Ok(unit)
+}
