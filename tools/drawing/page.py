@@ -1,121 +1,203 @@
-"""The page: the numbers of the summary, the rotations, and the stations."""
+"""The page of a plan, and the chart of one fleet, by the templates beside this file."""
 
 from __future__ import annotations
 
-from html import escape
-from typing import Iterator, List, Sequence, Tuple
+import os
+from dataclasses import asdict, dataclass
+from typing import Any, Dict, List, Optional
 
-from drawing.gantt import Chart
-from drawing.grounds import Grounds
-from drawing.svg import Palette
-from fleetplan.rotations import Rotation
-from fleetplan.schedule import Plan, Schedule
+import jinja2
+from markupsafe import Markup
+
+from drawing import charts, colours, figures, grounds, heads
+from drawing.calendars import Calendar
+from drawing.charts import Bar, Chart, Drawer, Scale
+from drawing.flights import Chain, Departure, window
+from drawing.library import Library
+from drawing.plans import Fleet, Plan, Row
+from drawing.telling import Leg, Teller, legs_of, legs_out
 from fleetplan.tables import NO_FLEET
+from fleetplan.times import DAY
 
-STYLE = """
-:root{color-scheme:light}
-*{box-sizing:border-box}
-body{margin:0 auto;padding:24px 28px;max-width:1460px;background:#fff;color:#1c2330;font:15px/1.45 "DejaVu Sans",Verdana,Arial,sans-serif}
-h1{font-size:24px;margin:0 0 4px}h2{font-size:19px;margin:32px 0 6px}h3{font-size:15px;margin:18px 0 2px}
-p{margin:4px 0 10px;max-width:1000px}.note{color:#4a5260;font-size:13px}
-table{border-collapse:collapse;margin:8px 0 12px}th,td{padding:3px 14px 3px 0;text-align:left;border-bottom:1px solid #dfe3e8}
-th{font-weight:600}td.n{text-align:right}
-svg{display:block;width:100%;height:auto}
-section{break-inside:avoid}section.long{break-inside:auto}
-.key{display:inline-block;width:14px;height:14px;border-radius:3px;vertical-align:-2px;margin-right:7px}
-.hatched{background-image:repeating-linear-gradient(120deg,#fff 0 2px,transparent 2px 7px)}
-@page{size:A3 landscape;margin:12mm}
-@media print{body{padding:0;max-width:none;-webkit-print-color-adjust:exact;print-color-adjust:exact}h2,h3{break-after:avoid}}
-"""
-LEGEND = (
-    "A bar is a flight, with its number and below it the stations; the pale foot behind it is the turn, and the thin line the time on "
-    "the ground. A red tie joins a through flight with the flight that the same aircraft flies next. At the end of a day stands the "
-    "night: filled where the aircraft can be maintained, dashed where it is aloft."
-)
-LANES = (
-    "At each station through the {span}, a lane for each fleet: the number stands in it, and the step is as high. An aircraft in its turn "
-    "isn't on the ground yet."
-)
+TEMPLATES = os.path.join(os.path.dirname(os.path.realpath(__file__)), "templates")
+# Pixels of the rows of a chart that stands by itself.
+ALONE = 1104
+# What the script has to know of the charts: pixels, and letters. A row has 950 pixels on paper (A4).
+SIZES: Dict[str, Any] = {
+    "names": charts.NAMES,
+    "width": charts.WIDTH,
+    "paper": 950,
+    "bar": charts.BAR,
+    "above": charts.ABOVE,
+    "marked": charts.MARKED,
+    "below": charts.BELOW,
+    "tight": charts.TIGHT,
+    "roomy": charts.ROOMY,
+    "gap": charts.GAP,
+    "small": charts.SMALL,
+    "heights": charts.HEIGHTS,
+    "flights": [[it.size, it.weight, it.beside, it.kind] for it in charts.FLIGHTS],
+}
 
 
+@dataclass
 class Drawn:
-    """What is drawn: the schedule, its plan, the rotations, and rows of what the proof says, where it was checked."""
+    """A fleet as it is drawn."""
 
-    def __init__(self, name: str, schedule: Schedule, plan: Plan, rotations: Sequence[Rotation], proved: Sequence[Tuple[str, str]]) -> None:
-        self.name, self.schedule, self.plan, self.rotations, self.proved = name, schedule, plan, rotations, proved
-        self.palette = Palette(schedule.aircraft)
-        self.cost = sum(schedule.cost[it] for it in plan.items())
-        self.left_out = [flight for flight, fleet in plan.items() if fleet == NO_FLEET]
-        self.used = {it: schedule.used(schedule.flown_by(plan, it)) for it in schedule.aircraft}
+    fleet: Fleet
+    chart: Chart
+    by_day: Optional[Chart]
+    told: List[str]
 
-    def charts(self) -> Iterator[Tuple[Rotation, str]]:
-        """Yields the fleets that fly, with the drawing of each."""
-        for it in self.rotations:
-            if it.words != "unused":
-                yield it, Chart(self.schedule, it, self.plan, self.palette).drawn()
+    @property
+    def is_short(self) -> bool:
+        """Returns whether it stays together on paper."""
+        return len((self.by_day or self.chart).lanes) <= charts.TOGETHER[True]
 
 
-def page(drawn: Drawn) -> str:
-    """Returns the page of a drawn, which needs nothing beside itself."""
-    parts = [f"<h1>{escape(drawn.name)}</h1>", summary(drawn), "<h2>Rotations</h2>", f'<p class="note">{LEGEND}</p>']
-    for rotation, chart in drawn.charts():
-        kind = ' class="long"' if rotation.days > 12 or not rotation.days else ""
-        head = f"<h3>{key(drawn, rotation.fleet)}{rotation.fleet}: {told(rotation, drawn.schedule.period)}</h3>"
-        parts.append(f'<section{kind} data-fleet="{rotation.fleet}">{head}{chart}</section>')
-    unused = [it.fleet for it in drawn.rotations if it.words == "unused"]
-    if unused:
-        parts.append(f"<p>Without a flight: {', '.join(unused)}.</p>")
-    parts += choices(drawn)
-    parts.append("<h2>Aircraft on the ground</h2>")
-    parts.append(f'<p class="note">{LANES.format(span="day" if drawn.schedule.period == 1 else "period")}</p>')
-    grounds = Grounds(drawn.schedule, drawn.plan)
-    for station in drawn.schedule.extra:
-        ground = grounds.chart(station, drawn.palette)
-        if ground:
-            what = "with maintenance at night" if drawn.schedule.maintains[station] else "without maintenance"
-            parts.append(f'<section data-station="{station}"><h3>{station}, {what}</h3>{ground}</section>')
-    title = f"<title>{escape(drawn.name)}: the plan</title>"
-    head = f'<head><meta charset="utf-8">{title}<style>{STYLE}</style></head>'
-    return f'<!doctype html>\n<html lang="en">{head}\n<body>\n' + "\n".join(parts) + "\n</body></html>\n"
+@dataclass
+class Few:
+    """A station where one aircraft stands once."""
+
+    station: grounds.Station
+    fleet: str
+    first: str
+    last: str
 
 
-def choices(drawn: Drawn) -> List[str]:
-    """Returns paragraphs on the flights that depart at another time than their own, and on those that are left out."""
-    schedule = drawn.schedule
-    moved = [f"{it.flight} at {schedule.moment(it.departure)} ({it.shift:+})" for it in schedule.legs.values() if it.shift]
-    out = [f"{flight} ({schedule.skips[flight]:,})" for flight in drawn.left_out]
-    told = [("Moved, with their departures and the minutes by which they are later", moved), ("Left out, with what that costs", out)]
-    return [f"<p>{escape(what)}: {escape(', '.join(flights))}.</p>" for what, flights in told if flights]
+def environment() -> jinja2.Environment:
+    """Returns the environment of the templates, in which all that is put in is escaped."""
+    loader = jinja2.FileSystemLoader(TEMPLATES)
+    return jinja2.Environment(loader=loader, autoescape=True, undefined=jinja2.StrictUndefined, trim_blocks=True, lstrip_blocks=True)
 
 
-def key(drawn: Drawn, fleet: str) -> str:
-    """Returns a square in the colour of a fleet."""
-    hatched = " hatched" if drawn.palette.is_hatched(fleet) else ""
-    return f'<span class="key{hatched}" style="background-color:{drawn.palette.fill(fleet)}"></span>'
+def styles(env: jinja2.Environment, name: str, **pixels: int) -> Markup:
+    """Returns a style sheet, which holds no text of a table."""
+    return Markup(env.get_template(name).render(**pixels))
 
 
-def told(rotation: Rotation, period: int) -> str:
-    """Returns what became of a rotation, with what its chart shows."""
-    if rotation.days:
-        days = "a day" if rotation.days == 1 else f"{rotation.days} days"
-        more = " (without its chosen through flights, with which there was none)" if not rotation.keeps else ""
-        count, apart = rotation.days // period, "a day" if period == 1 else f"{period} days"
-        aircraft = "one aircraft comes" if count == 1 else f"each of {count} aircraft, {apart} apart, comes"
-        return f"{aircraft} round {len(rotation.tour)} flights in {days}{more}"
-    return f"{escape(rotation.words)}: no tour. Its flights, in rows in which no two overlap (a row isn't one aircraft)"
+def script() -> Markup:
+    """Returns the script of the page."""
+    with open(os.path.join(TEMPLATES, "page.js"), encoding="utf-8") as it:
+        return Markup(it.read())
 
 
-def summary(drawn: Drawn) -> str:
-    """Returns the numbers of the summary."""
-    schedule = drawn.schedule
-    flights = f"{len(schedule.legs) - len(drawn.left_out):,}"
-    rows = [("cost", f"{drawn.cost:,}"), *drawn.proved, ("flights", flights), ("day start", f"{schedule.clock(0)} UTC")]
-    rows += [("period", f"{schedule.period} days")] if schedule.period > 1 else []
-    head = "".join(f'<tr><th>{name}</th><td class="n">{value}</td></tr>' for name, value in rows)
-    fleets = "".join(
-        f"<tr><td>{key(drawn, it.fleet)}{it.fleet}</td><td class='n'>{drawn.used[it.fleet]} of {schedule.aircraft[it.fleet]}</td>"
-        f"<td class='n'>{sum(fleet == it.fleet for fleet in drawn.plan.values())}</td><td>{escape(it.words)}</td></tr>"
-        for it in drawn.rotations
-    )
-    head_of_fleets = "<tr><th>fleet</th><th>aircraft used</th><th>flights</th><th>rotation</th></tr>"
-    return f"<table>{head}</table><table>{head_of_fleets}{fleets}</table>"
+class Pages:
+    """Makes pages of a plan."""
+
+    def __init__(self, plan: Plan, pixels: int = charts.WIDTH) -> None:
+        self.plan = plan
+        self.palette = colours.Palette(plan.schedule.aircraft)
+        self.teller = Teller(plan, self.palette)
+        self.drawer = Drawer(plan.calendar, plan.schedule.maintains, self.teller.told, pixels)
+        self.env = environment()
+        self.env.globals.update(
+            plan=plan,
+            names=charts.NAMES,
+            rules=Markup(colours.rules()),
+            chart_style=styles(self.env, "chart.css"),
+            fleet_kind=lambda fleet: self.palette.kind(fleet) + (" hatched" if self.palette.is_hatched(fleet) else ""),
+        )
+
+    def page(self, library: Optional[Library]) -> str:
+        """Returns the page, which needs nothing beside itself."""
+        plan, tall = self.plan, charts.AXES[self.plan.days > 1]
+        legs = legs_of(plan, self.teller)
+        counted = figures.figures_of(plan)
+        drawn = [self.fleet(it.fleet, it) for it in counted if it.fleet]
+        rows = rows_left_out(plan)
+        out = legs_out(self.teller, rows, len(legs))
+        left_out = self.drawer.chart("Left out", rows, plan.days * DAY) if rows else None
+        bars = self.numbered([*(chart for it in drawn for chart in (it.chart, it.by_day)), left_out])
+        total = figures.total_of(counted, plan)
+        return self.env.get_template("page.html").render(
+            axis_tall=tall,
+            page_style=styles(self.env, "page.css", width=charts.WIDTH, tall=tall),
+            verdict=heads.verdict_of(plan),
+            facts=heads.facts_of(plan, total),
+            figures=counted,
+            total=total,
+            left_out_cost=figures.left_out_cost(plan),
+            unused=[it for it in plan.schedule.aircraft if not plan.flown_by(it)],
+            changes=heads.changes_of(plan, plan.comparison) if plan.comparison else [],
+            comparison_words=heads.comparison_words(plan, plan.comparison) if plan.comparison else "",
+            drawn=drawn,
+            left_out=left_out,
+            kinds={kind for bar in bars for kind in bar.kinds.split()},
+            legs=legs,
+            out=out,
+            idle=[it for fleet in plan.fleets for it in fleet.idle()],
+            library=library,
+            library_text=Markup(library.text) if library else "",
+            data=self.data([*legs, *out], bars, tall),
+            script=script() if library else "",
+            **self.stations(),
+        )
+
+    def picture(self, fleet: Fleet) -> str:
+        """Returns the chart of one fleet alone, which needs nothing beside itself: its rows, or its days where it flies several."""
+        chart = self.drawer.chart(f"{fleet.name}: {heads.rotation_words(fleet)}", fleet.by_day or fleet.rows, DAY, fleet.ties)
+        return self.env.get_template("plan.svg").render(chart=chart, width=ALONE, tall=chart.tall)
+
+    def fleet(self, fleet: Fleet, counted: figures.Figures) -> Drawn:
+        """Returns a fleet as it is drawn."""
+        words = heads.rotation_words(fleet)
+        chart = self.drawer.chart(f"{fleet.name}: {words}", fleet.rows, self.plan.days * DAY, fleet.ties)
+        by_day = self.drawer.chart(f"{fleet.name}, day by day: {words}", fleet.by_day, DAY, fleet.ties) if fleet.by_day else None
+        return Drawn(fleet, chart, by_day, heads.fleet_words(fleet, counted))
+
+    def numbered(self, drawn: List[Optional[Chart]]) -> List[Bar]:
+        """Returns the bars of charts in their order, and gives each the number of its flight."""
+        bars = [bar for chart in drawn if chart for lane in chart.lanes for bar in lane.bars]
+        for bar in bars:
+            bar.number = self.teller.numbers.get((bar.flown.leg.flight, bar.key), -1)
+        return bars
+
+    def stations(self) -> Dict[str, Any]:
+        """Returns the stations with a chart, the axis of each, and those where one aircraft stands once."""
+        plan, wanted = self.plan, self.plan.wanted
+        calendar = Calendar(wanted.day_start, wanted.period, wanted.period)
+        pictures = [grounds.picture(it, plan.schedule, self.palette, calendar) for it in grounds.stations_of(plan.schedule, plan.choice)]
+        scale = Scale(plan.schedule.minutes)
+        axis = Chart("", plan.schedule.minutes, [], charts.ticks(calendar, scale), charts.day_names(calendar, scale), False, 0, 0)
+        if axis.day_names:
+            axis.ticks = [(x, kind, "") for x, kind, _ in axis.ticks]
+        few = [
+            Few(it.station, stand.fleet, calendar.moment(stand.first), calendar.moment(stand.last))
+            for it in pictures
+            for stand in it.station.stands
+            if len(it.blocks) == 1
+        ]
+        return {"stations": [it for it in pictures if len(it.blocks) > 1], "station_chart": axis, "few": few}
+
+    def data(self, legs: List[Leg], bars: List[Bar], tall: int) -> Dict[str, Any]:
+        """Returns what the script needs: the flights in words, and the bars in the order of the page."""
+        wanted = self.plan.wanted
+        return {
+            "size": {**SIZES, "axis": tall},
+            "dayStart": wanted.day_start,
+            "period": wanted.period,
+            "first": wanted.first.isoformat() if wanted.first else None,
+            "legs": [asdict(it) for it in legs],
+            "bars": [bar_data(it, self.plan.calendar) for it in bars],
+        }
+
+
+def bar_data(it: Bar, calendar: Calendar) -> List[Any]:
+    """Returns a bar for the script: minutes, whether it has its departure and its arrival, and its words."""
+    leg, flown = it.flown.leg, it.flown
+    words = [leg.flight, leg.start, calendar.clock(flown.departs), leg.end, calendar.clock(flown.lands), it.mark]
+    return [it.first, it.last, it.limit, int(it.departs), int(it.lands), *words]
+
+
+def rows_left_out(plan: Plan) -> List[Row]:
+    """Returns a row for each flight that is left out, on each day of the chart that it would depart on."""
+    rows = []
+    for flight in plan.left_out:
+        leg = plan.schedule.legs[flight]
+        minutes = [leg.departure + turn * plan.schedule.minutes for turn in range(-(-plan.days // plan.wanted.period))]
+        chain = Chain([Departure(leg, NO_FLEET, it, leg.block) for it in minutes if it < plan.days * DAY])
+        row = Row(flight, "", window(chain, 0, plan.days * DAY))
+        row.window.grounds.clear()
+        rows.append(row)
+    return rows
