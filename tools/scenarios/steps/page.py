@@ -7,8 +7,8 @@ from bisect import bisect
 from html import escape
 from typing import Dict, Iterable, List, Sequence, Union
 
-from drawing.svg import RULE, box, line, picture, words
 from steps.rows import Row, asked_of, columns_of
+from steps.svg import RULE, box, line, picture, words
 
 STYLE = """
 body{margin:0 auto;padding:24px 28px;max-width:1460px;color:#1c2330;font:15px/1.45 "DejaVu Sans",Verdana,Arial,sans-serif}
