@@ -195,13 +195,26 @@ def test_nothing_beside(desk: Desk) -> None:
 
 def test_escaped(desk: Desk, tmp_path: Path) -> None:
     """No name of a folder becomes markup."""
-    folder, other = tmp_path / "<b>&'\"{{7*7}}", tmp_path / "<i>there</i>"
+    folder, other = tmp_path / "<b>&'\"{{7*7}}", tmp_path / "<i>there"
     for it in (folder, other):
         shutil.copytree(desk.drawn("re-timing").folder, it)
     draw(folder, "--windows", "--against", str(other))
     page = (folder / "plan.html").read_text(encoding="utf-8")
-    assert "<b>&'" not in page and "<i>there" not in page and "49" not in page.partition("</h1>")[0][-40:]
-    assert "&lt;b&gt;&amp;&#39;&#34;{{7*7}}" in page and "Against &lt;i&gt;there&lt;" in page or "there" in page
+    assert "<h1>&lt;b&gt;&amp;&#39;&#34;{{7*7}}</h1>" in page
+    assert "<h2>Against &lt;i&gt;there</h2>" in page
+    assert "<b>&" not in page and "<i>" not in page
+
+
+def test_no_flight(tmp_path: Path) -> None:
+    """A schedule without a flight is drawn: there is nothing in its chart."""
+    folder = tmp_path / "none"
+    shutil.copytree(TOP / "examples" / "two-legs", folder)
+    for name in ("legs.csv", "costs.csv", "throughs.csv", "plan.csv"):
+        text = (folder / name).read_text(encoding="ascii")
+        (folder / name).write_text(text.splitlines()[0] + "\n" if text else "", encoding="ascii")
+    draw(folder)
+    page = (folder / "plan.html").read_text(encoding="utf-8")
+    assert "Without a flight: F1, F2." in page and '<g class="leg' not in page
 
 
 @pytest.mark.parametrize(
@@ -263,6 +276,12 @@ def test_other_routing(desk: Desk, tmp_path: Path) -> None:
     said = draw(folder, "--period", "7", "--from", "2026-11-30", "--days", "1", status=9)
     assert re.search(r"has another tour of F\d+ than tails: give --days", said)
     draw(folder, "--period", "7", "--from", "2026-11-30", "--dates", "14", "--days", "4")
+
+
+def test_too_much(desk: Desk) -> None:
+    """More flights than a page can hold are refused, with status 2."""
+    said = draw(desk.drawn("hub-day").folder, "--from", "2026-11-30", "--dates", "366", status=2)
+    assert said == "tools/draw: 50 flights on 366 dates are too many to draw: give fewer --dates\n"
 
 
 def test_without_jinja(tmp_path: Path) -> None:

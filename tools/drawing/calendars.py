@@ -3,7 +3,8 @@
 from __future__ import annotations
 
 import datetime
-from typing import Optional
+import re
+from typing import List, Optional
 
 from fleetplan import times
 from fleetplan.times import DAY
@@ -33,6 +34,11 @@ class Calendar:
             date = self.first + datetime.timedelta(number)
             return f"{WEEKDAYS[date.weekday()]} {date.day} {MONTHS[date.month - 1]}"
         return f"day {number % self.period + 1}"
+
+    def names(self, minute: int) -> List[str]:
+        """Returns the names that the day of a minute may have, in UTC, the longest first."""
+        whole = self.named((minute + self.day_start) // DAY)
+        return [whole.split(" ", at)[-1] if self.first is not None else whole for at in (0, 1)] + [re.findall(r"\d+", whole)[0]]
 
     def day(self, minute: int) -> str:
         """Returns the name of the day in which a minute is, in UTC, or nothing where days have no names."""

@@ -251,9 +251,9 @@ def day_names(calendar: Calendar, scale: Scale) -> List[Tuple[float, str]]:
     wanted = [0, *midnights]
     found = []
     for minute, behind in zip(wanted, [*wanted[1:], scale.minutes]):
-        name = calendar.day(minute)
-        if width_of(name, DAY_NAME, True) + 8 <= (behind - minute) * scale.per_minute:
-            found.append((scale.x(minute), name))
+        room = (behind - minute) * scale.per_minute - 8
+        name = next((it for it in calendar.names(minute) if width_of(it, DAY_NAME, True) <= room), None)
+        found += [(scale.x(minute), name)] if name else []
     return found
 
 
@@ -277,11 +277,11 @@ def texts_of(bar: Bar, calendar: Calendar, scale: Scale) -> List[Text]:
     letters = next((it for it in FLIGHTS if width_of(leg.flight, it.size, it.weight > 400) + it.beside <= wide), None)
     if letters is not None:
         found.append(Text(letters.kind, scale.x((bar.first + bar.last) / 2), 0, leg.flight))
-    over = " ".join(it for it in ("" if letters or per < ROOMY else leg.flight, bar.mark) if it)
-    if over and bar.departs and width_of(over, SMALL, True) <= room:
-        found.append(Text("mark" if bar.mark else "over", at, 0, over))
     if per < ROOMY:
         return found
+    over = " ".join(it for it in ("" if letters else leg.flight, bar.mark) if it)
+    if over and bar.departs and width_of(over, SMALL, True) <= room:
+        found.append(Text("mark" if bar.mark else "over", at, 0, over))
     ends = {
         "from": (leg.start, calendar.clock(bar.flown.departs), bar.departs),
         "to": (leg.end, calendar.clock(bar.flown.lands), bar.lands),

@@ -19,8 +19,12 @@ from fleetplan.records import rows_of
 from fleetplan.rotations import refuse
 from fleetplan.schedule import Schedule
 from fleetplan.tables import NO_FLEET
+from fleetplan.texts import counted
 from fleetplan.times import DAY
 from fleetplan.words import MOST_DATES
+
+# The most flights that are drawn, each on each of its dates, and the status for words that ask for more.
+MOST_DRAWN, TOO_MUCH = 10_000, 2
 
 
 @dataclass(frozen=True)
@@ -44,7 +48,7 @@ class Fleet:
     rotation: Optional[Rotation]
     rows: List[Row] = field(default_factory=list)
     by_day: List[Row] = field(default_factory=list)
-    # Why its rows aren't those of the tails that were asked for.
+    # Why `due` gives no line to its aircraft.
     cause: Optional[str] = None
 
     @property
@@ -54,8 +58,13 @@ class Fleet:
 
     @property
     def has_tour(self) -> bool:
-        """Returns whether its rows are those of a tour."""
+        """Whether it has a tour."""
         return bool(self.rotation and self.rotation.tour)
+
+    @property
+    def has_lanes(self) -> bool:
+        """Whether its rows are no lines of a tour."""
+        return self.cause is not None or not self.has_tour
 
     @property
     def spare(self) -> int:
@@ -106,6 +115,8 @@ class Plan:
         self.schedule, self.choice = self.filed.planned()
         self.refuse_unpriced()
         self.days = wanted.dates or wanted.period
+        if len(self.choice) * self.days // wanted.period > MOST_DRAWN:
+            raise Unread(f"{len(self.choice)} flights on {self.days} dates are too many to draw: give fewer --dates", TOO_MUCH)
         self.calendar = Calendar(wanted.day_start, wanted.period, self.days, wanted.first)
         self.rotations = rotations_of(self.schedule, self.choice)
         self.fleets = self.fleets_drawn()
@@ -135,8 +146,8 @@ class Plan:
         return self.comparison.by_flight.get(flight) if self.comparison else None
 
     @property
-    def has_tours(self) -> bool:
-        """Returns whether what is drawn day by day differs from the rows of aircraft."""
+    def has_days(self) -> bool:
+        """Whether what is drawn day by day differs from the rows of aircraft."""
         return self.days > 1
 
     def flown_by(self, fleet: str) -> List[str]:
@@ -175,7 +186,7 @@ class Plan:
     def lay_days(self, fleet: Fleet, rotation: Rotation) -> None:
         """Gives a fleet a row for each day of its tour, where its rows of aircraft hold more than a day."""
         period = self.wanted.period
-        if not self.has_tours:
+        if not self.has_days:
             return
         chain = unrolled(rotation.tour, rotation.days * DAY, rotation.days * DAY)
         for day in range(rotation.days):
@@ -189,7 +200,7 @@ class Plan:
         lanes = [Chain(it) for it in lanes_of(self.schedule, flown, fleet.name, self.days)]
         for at, chain in enumerate(lanes):
             fleet.rows.append(Row(f"row {at + 1}", "", window(chain, 0, self.days * DAY)))
-        if not self.has_tours or fleet.by_day:
+        if not self.has_days or fleet.by_day:
             return
         for at, chain in enumerate(lanes):
             for day in range(self.days):
@@ -213,26 +224,26 @@ class Plan:
         if not lines:
             if fleet.has_tour:
                 self.refuse_tour(fleet)
-            fleet.words = fleet.cause = tails.causes.get(fleet.name)
+            fleet.words = tails.causes.get(fleet.name)
             return
         rotation = self.tour_by(fleet, list(lines.values()))
         if fleet.rotation is None:
             fleet.rotation, fleet.words = rotation, rotation.words
         self.lay_days(fleet, rotation)
-        named = {name: name for name in lines}
+        named, below = {name: name for name in lines}, {}
         if due is not None:
             fleet.cause = due.causes.get(fleet.name)
-            named = {} if fleet.cause else self.starts(fleet, lines, due)
+            below = self.nights_left(fleet.name)
+            named = self.starts(list(below), lines, due) if fleet.cause is None else {}
         chain = unrolled(rotation.tour, rotation.days * DAY, (rotation.days + self.days) * DAY)
         starts = {name: at * self.schedule.minutes for at, name in enumerate(lines)}
         for name, line in named.items():
-            below = self.nights_left.get(name, "") if due is not None else ""
-            fleet.rows.append(Row(name, below, window(chain, starts[line], self.days * DAY)))
+            fleet.rows.append(Row(name, below.get(name, ""), window(chain, starts[line], self.days * DAY)))
 
-    @property
-    def nights_left(self) -> Dict[str, str]:
-        """What stands below the name of each aircraft of tails.csv."""
-        return {tail: f"{left} night{'' if left == '1' else 's'} left" for tail, _, left in rows_of(self.folder, "tails.csv")}
+    def nights_left(self, fleet: str) -> Dict[str, str]:
+        """Returns the aircraft of a fleet in the order of tails.csv, and what stands below the name of each."""
+        rows = rows_of(self.folder, "tails.csv")
+        return {tail: f"{counted(int(left), 'night')} left" for tail, kind, left in rows if kind == fleet}
 
     def tour_by(self, fleet: Fleet, lines: List[List[List[str]]]) -> Rotation:
         """Returns the tour whose lines `tails` tells, and refuses one that rotation.csv doesn't have."""
@@ -250,13 +261,12 @@ class Plan:
         path = os.path.join(self.folder, "rotation.csv")
         refuse(path, f"has another tour of {fleet.name} than tails: give --days, --visits and --through-max of solve")
 
-    def starts(self, fleet: Fleet, lines: Dict[str, List[List[str]]], due: Lines) -> Dict[str, str]:
-        """Returns of each named aircraft of a fleet the line of `tails` that it begins with. Lines that are equal on all dates take
-        their turns."""
-        own = [tail for tail, kind, _ in rows_of(self.folder, "tails.csv") if kind == fleet.name]
+    @staticmethod
+    def starts(tails: Sequence[str], lines: Dict[str, List[List[str]]], due: Lines) -> Dict[str, str]:
+        """Returns of each named aircraft the line of `tails` that it begins with. Lines that are equal on all dates take their turns."""
         free = dict(lines)
         found = {}
-        for tail in own:
+        for tail in tails:
             line = next((name for name, it in free.items() if it == due.flights.get(tail)), None)
             if line is None:
                 raise Unread(f"due gives {tail} a line that tails doesn't have", FAULT)

@@ -174,13 +174,13 @@ def nights_of(plan: Plan, flown: Departure, after: Optional[Departure]) -> str:
     """Returns the nights after a flight in words, up to the next one or the end of the chart."""
     last = after.departs if after else max(flown.ready, plan.days * DAY)
     aloft, parked = flown.ready // DAY - flown.departs // DAY, last // DAY - flown.ready // DAY
-    told = [f"{counted(aloft)} aloft or in its turn"] if aloft else []
+    told = [f"{nights_in_words(aloft)} aloft or in its turn"] if aloft else []
     if parked:
         maintains = plan.schedule.maintains[flown.leg.end]
-        told.append(f"{counted(parked)} at {flown.leg.end}{', maintenance' if maintains else ''}")
+        told.append(f"{nights_in_words(parked)} at {flown.leg.end}{', maintenance' if maintains else ''}")
     return "; ".join(told)
 
 
-def counted(nights: int) -> str:
+def nights_in_words(nights: int) -> str:
     """Returns a number of nights in words."""
     return "night" if nights == 1 else f"{nights} nights"

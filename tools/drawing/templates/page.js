@@ -52,11 +52,10 @@
     const at = (100 * first) / minutes;
     const found = [];
     const fitting = size.flights.find(([letters, weight, beside]) => widthOf(flight, letters, weight) + beside <= wide);
-    const isRoomy = per >= size.roomy;
     if (fitting) found.push([fitting[3], (50 * (first + last)) / minutes, 0, size.heights.flight, flight]);
-    const above = [fitting || !isRoomy ? "" : flight, mark].filter(Boolean).join(" ");
+    if (per < size.roomy) return found;
+    const above = [fitting ? "" : flight, mark].filter(Boolean).join(" ");
     if (above && departs && widthOf(above, size.small, 600) <= room) found.push([mark ? "mark" : "over", at, 0, size.heights.mark, above]);
-    if (!isRoomy) return found;
     const left = departs ? Math.max(widthOf(from, size.small, 400), widthOf(dep, size.small, 400)) : 0;
     const right = lands ? Math.max(widthOf(to, size.small, 400), widthOf(arr, size.small, 400)) : 0;
     const both = left + right + (departs && lands ? size.gap : 0);
@@ -158,11 +157,14 @@
   let left = 0;
   const shown = () => charts.filter(isShown);
   const minutesShown = () => d3.max(shown(), (it) => it.minutes) || 1440;
-  const date = d3.utcFormat("%a %-d %b");
-  const nameOf = (number) => {
-    if (data.first === null) return `day ${(number % data.period) + 1}`;
-    return date(d3.utcDay.offset(new Date(`${data.first}T00:00:00Z`), number));
-  };
+  const forms = ["%a %-d %b", "%-d %b", "%-d"].map((it) => d3.utcFormat(it));
+  // The names that a day may have, the longest first.
+  function namesOf(number) {
+    const day = (number % data.period) + 1;
+    if (data.first === null) return [`day ${day}`, String(day)];
+    const date = d3.utcDay.offset(new Date(`${data.first}T00:00:00Z`), number);
+    return forms.map((it) => it(date));
+  }
 
   function axis() {
     const minutes = minutesShown();
@@ -181,11 +183,12 @@
       .attr("text-anchor", (it) => (it === 0 ? "start" : it === minutes ? "end" : "middle"));
     const midnights = hasDays ? [0, ...d3.range(1440 - data.dayStart, minutes, 1440).filter((it) => it > 0)] : [];
     const days = midnights
-      .map((it, at) => ({ from: scale(it), to: scale(at + 1 < midnights.length ? midnights[at + 1] : minutes), name: nameOf(Math.floor((it + data.dayStart) / 1440)) }))
+      .map((it, at) => ({ from: scale(it), to: scale(at + 1 < midnights.length ? midnights[at + 1] : minutes), number: Math.floor((it + data.dayStart) / 1440) }))
       .filter((it) => it.to > left && it.from < left + inside)
       .map((it) => ({ ...it, x: Math.max(0, it.from - left + 4) }))
-      .filter((it) => widthOf(it.name, 11, 600) + 8 <= it.to - left - it.x);
-    const names = top.selectAll("text.day").data(days, (it) => it.name + it.from);
+      .map((it) => ({ ...it, name: namesOf(it.number).find((name) => widthOf(name, 11, 600) + 8 <= it.to - left - it.x) }))
+      .filter((it) => it.name);
+    const names = top.selectAll("text.day").data(days, (it) => `${it.name} ${it.number}`);
     names.exit().remove();
     names
       .enter()
