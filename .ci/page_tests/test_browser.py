@@ -93,6 +93,16 @@ def test_drag(browser: Browser, desk: Desk) -> None:
     assert_apart(browser)
 
 
+@pytest.mark.parametrize("width", WIDTHS)
+def test_one_day(browser: Browser, desk: Desk, width: int) -> None:
+    """One day of a week has stations and times on its bars, in a narrow window too."""
+    browser.open(desk.drawn("week").page, width)
+    browser.find("#day").click()
+    browser.settle()
+    assert browser.ask("return document.querySelectorAll('.by-aircraft .leg .time').length") > 168
+    assert_apart(browser)
+
+
 @pytest.mark.parametrize("name", ["week", "season", "tails"])
 def test_days(browser: Browser, desk: Desk, name: str) -> None:
     """Day by day all flights have their numbers, and no label covers another one."""

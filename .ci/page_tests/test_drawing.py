@@ -284,17 +284,34 @@ def test_too_much(desk: Desk) -> None:
     assert said == "tools/draw: 50 flights on 366 dates are too many to draw: give fewer --dates\n"
 
 
+def hindered(folder: Path, hindrance: str) -> "subprocess.CompletedProcess[str]":
+    """Draws a folder by a Python in which something is done before."""
+    first = f"import runpy, sys; sys.argv = sys.argv[1:]; sys.path.insert(0, 'tools'); {hindrance}"
+    python = "/usr/bin/python3" if os.path.exists("/usr/bin/python3") else sys.executable
+    words = [python, "-c", f"{first}; runpy.run_path(sys.argv[0], run_name='__main__')", str(TREE / "tools" / "draw"), str(folder)]
+    pipe = subprocess.PIPE
+    return subprocess.run([*words, "--windows"], cwd=TREE, stdout=pipe, stderr=subprocess.STDOUT, check=False, universal_newlines=True)
+
+
 def test_without_jinja(tmp_path: Path) -> None:
     """Where Jinja2 isn't there, one line says how to install it, and nothing is written."""
     folder = tmp_path / "day"
     shutil.copytree(TOP / "examples" / "re-timing", folder)
-    hidden = "import runpy, sys; sys.modules['jinja2'] = None; sys.argv = sys.argv[1:]; sys.path.insert(0, 'tools')"
-    hidden += "; runpy.run_path(sys.argv[0], run_name='__main__')"
-    words = ["/usr/bin/python3" if os.path.exists("/usr/bin/python3") else sys.executable, "-c", hidden, str(TREE / "tools" / "draw")]
-    ran = subprocess.run([*words, str(folder), "--windows"], cwd=TREE, stdout=subprocess.PIPE, stderr=subprocess.STDOUT, check=False)
-    assert ran.returncode == 7, ran.stdout.decode()
-    assert ran.stdout.decode() == "tools/draw: Jinja2 isn't there, which makes the page: apt-get install python3-jinja2 node-d3\n"
+    ran = hindered(folder, "sys.modules['jinja2'] = None")
+    wanted = "tools/draw: Jinja2 isn't there, which makes the page: apt-get install python3-jinja2 node-d3\n"
+    assert (ran.returncode, ran.stdout) == (7, wanted)
     assert not (folder / "plan.html").exists()
+
+
+def test_without_d3(tmp_path: Path) -> None:
+    """Where D3 isn't there, the page has no script, and one line says how to install it."""
+    folder = tmp_path / "day"
+    shutil.copytree(TOP / "examples" / "re-timing", folder)
+    ran = hindered(folder, "import drawing.library as it; it.PLACES = ()")
+    wanted = "tools/draw: the page has no zoom and no search, since D3 isn't there: apt-get install python3-jinja2 node-d3\n"
+    assert (ran.returncode, ran.stdout) == (0, wanted)
+    page = (folder / "plan.html").read_text(encoding="utf-8")
+    assert "<script" not in page and '<tr data-number="3">' in page
 
 
 def test_legs_once(desk: Desk) -> None:

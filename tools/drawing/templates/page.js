@@ -259,7 +259,8 @@
   };
   const day = () => {
     isWhole = false;
-    settle(Math.min(most(), Math.max(least(), minutesShown() / 1440)), Math.floor(here() / 1440) * 1440);
+    const wide = Math.max(inside, 1440 * size.roomy) * (minutesShown() / 1440);
+    settle(Math.min(most(), Math.max(least(), wide / inside)), Math.floor(here() / 1440) * 1440);
   };
   function fit() {
     const now = Math.max(1, pane.clientWidth - size.names);
