@@ -1,1 +1,33 @@
-"""What all tools know of the program: its tables, their forms and limits, schedules, times, the words of a call, and its answers."""
+"""What all tools know of the program: its tables, their forms and limits, schedules, times, the words of a call, and its answers.
+
+For programs that call it: Schedule.read and .write, and solve, judge, check, whatif, tails, due and make, as docs/python.md tells."""
+
+from __future__ import annotations
+
+import importlib
+from typing import TYPE_CHECKING, Any
+
+if TYPE_CHECKING:
+    from fleetplan.calls import Flying, Held, Solution, Verdict, check, due, judge, make, solve, tails, whatif
+    from fleetplan.errors import Answered, Broken, Fault, Refused, Unread
+    from fleetplan.frames import frames, write_frames
+    from fleetplan.schedule import Schedule
+
+# Where each name stands. It is loaded when it is wanted first, since a hint has to come at once.
+_PLACES = {
+    "calls": ("Flying", "Held", "Solution", "Verdict", "check", "due", "judge", "make", "solve", "tails", "whatif"),
+    "errors": ("Answered", "Broken", "Fault", "Refused", "Unread"),
+    "frames": ("frames", "write_frames"),
+    "schedule": ("Schedule",),
+}
+__all__ = [
+    "Answered", "Broken", "Fault", "Flying", "Held", "Refused", "Schedule", "Solution", "Unread", "Verdict", "check", "due", "frames", "judge",
+    "make", "solve", "tails", "whatif", "write_frames",
+]  # fmt: skip
+
+
+def __getattr__(name: str) -> Any:
+    for module, names in _PLACES.items():
+        if name in names:
+            return getattr(importlib.import_module(f"fleetplan.{module}"), name)
+    raise AttributeError(f"fleetplan has no {name}")

@@ -4,12 +4,20 @@ from __future__ import annotations
 
 import os
 import re
+import shutil
 import subprocess
 from typing import Optional, Sequence, Tuple
 
 TOP = os.path.dirname(os.path.dirname(os.path.dirname(os.path.realpath(__file__))))
 PROGRAM = os.path.join(TOP, "crates", "fleetplan", "out", "fleetplan")
 _HOLDS = re.compile(r"holds: (?:cost (-?\d+) )?bound (-?\d+)\n")
+
+
+def program() -> str:
+    """Returns the program that is called: that of the environment's FLEETPLAN, the built one, the released one, or the one on the PATH; the
+    built one's place where there is none."""
+    places = (os.environ.get("FLEETPLAN"), PROGRAM, os.path.join(TOP, "release", "fleetplan"), shutil.which("fleetplan"))
+    return next((it for it in places if it and os.access(it, os.X_OK)), PROGRAM)
 
 
 def answer(words: Sequence[str], seconds: float) -> Tuple[int, bytes]:

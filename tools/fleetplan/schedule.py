@@ -7,19 +7,20 @@ import os
 from typing import Dict, Iterable, List, Sequence, Tuple
 
 from fleetplan.errors import Unread
-from fleetplan.records import Rows, table_of
-from fleetplan.tables import ASKED, DATED, HEADERS, NO_FLEET, NO_LIMIT, SHIFTED, TABLE, TABLES, forms_of, headers_of
+from fleetplan.files import told_of, write_all
+from fleetplan.records import Rows, table_of, text_of
+from fleetplan.tables import ASKED, DATED, HEADERS, LIMITED, NO_FLEET, NO_LIMIT, SHIFTED, TABLE, TABLES, Header, forms_of, headers_of
 from fleetplan.times import DAY, clock, minute_of
 
 
 class Leg:
-    """A flight: from where to where, its minute of departure from the first day's start, and its minutes in the air. A departure on
-    the first day before its start is one at the end of the period."""
+    """A flight: its day, from where to where, its minute of departure from the first day's start, and its minutes in the air. A departure
+    on the first day before its start is one at the end of the period."""
 
     def __init__(self, row: Sequence[str], day_start: int, period: int) -> None:
         self.flight, day, self.start, self.dep, self.end, self.arr = row
-        dep, arr = minute_of(self.dep), minute_of(self.arr)
-        self.departure = (DAY * (int(day) - 1) + dep - day_start) % (DAY * period)
+        self.day, dep, arr = int(day), minute_of(self.dep), minute_of(self.arr)
+        self.departure = (DAY * (self.day - 1) + dep - day_start) % (DAY * period)
         self.block = (arr - dep) % DAY
         self.shift = 0
 
@@ -38,8 +39,8 @@ Plan = Dict[str, str]
 
 class Schedule:
     """The tables of a folder. Each name is a key: `extra`, `maintains` and `parking` of stations, `aircraft` and `turn` of fleets, `legs` of
-    flights, `cost` of pairs of flight and fleet, `fleets_of` of flights. It repeats after `period` days of so many `minutes`. Where they are
-    asked for, `extras` are the costs of each shift of a flight, and `skips` those of leaving flights out."""
+    flights, `cost` of pairs of flight and fleet, `fleets_of` of flights, `throughs` of pairs of flights. It repeats after `period` days of so
+    many `minutes`. Where they are asked for, `extras` are the costs of each shift of a flight, and `skips` those of leaving flights out."""
 
     def __init__(self, folder: str, day_start: int, period: int = 1, asked: Sequence[str] = ()) -> None:
         self.asked = tuple(asked)
@@ -52,6 +53,7 @@ class Schedule:
         self.turn = {name: int(minutes) for name, _, minutes in rows["fleets.csv"]}
         self.legs = {row[0]: Leg(row, day_start, period) for row in rows["legs.csv"]}
         self.cost = {(flight, fleet): int(cost) for flight, fleet, cost in rows["costs.csv"]}
+        self.throughs = {(into, out): int(value) for into, out, value in rows["throughs.csv"]}
         self.fleets_of: Dict[str, List[str]] = {it: [] for it in self.legs}
         for flight, fleet in self.cost:
             if flight not in self.legs or fleet not in self.aircraft:
@@ -67,6 +69,43 @@ class Schedule:
         for leg in self.legs.values():
             if leg.start not in self.extra or leg.end not in self.extra or leg.block == 0 or leg.start == leg.end:
                 raise _fault(folder, "legs.csv", f"{leg.flight} isn't a flight between two stations of stations.csv")
+
+    @classmethod
+    def read(
+        cls, folder: str, day_start: str = "03:00", period: int = 1, windows: bool = False, optional: bool = False
+    ) -> Schedule:
+        """Returns the schedule of a folder, whose day starts at HH:MM in UTC and which repeats after so many days; with windows.csv and
+        optional.csv where they are asked for. It raises Unread where a table doesn't read, and ValueError where a time has no such form."""
+        asked = [it for it, is_asked in (("windows", windows), ("optional", optional)) if is_asked]
+        return cls(folder, minute_of(day_start), period, asked)
+
+    def rows(self) -> Dict[str, Tuple[Header, Rows]]:
+        """Returns the tables as they stand now, each with its header. What belongs to a flight that `legs` hasn't is left out."""
+        has_days = self.period > 1
+        room = [] if not self.parking else [{it: str(self.parking.get(it, NO_LIMIT)) for it in self.extra}]
+        own: Dict[str, Iterable[Sequence[object]]] = {
+            "stations.csv": [
+                (it, extra, "yes" if self.maintains[it] else "no", *(limits[it] for limits in room)) for it, extra in self.extra.items()
+            ],
+            "fleets.csv": [(it, number, self.turn[it]) for it, number in self.aircraft.items()],
+            "legs.csv": [
+                (it.flight, *([it.day] if has_days else []), it.start, it.dep, it.end, it.arr) for it in self.legs.values()
+            ],
+            "costs.csv": [(flight, fleet, cost) for (flight, fleet), cost in self.cost.items() if flight in self.legs and fleet != NO_FLEET],
+            "throughs.csv": [(*pair, value) for pair, value in self.throughs.items() if self.legs.keys() >= set(pair)],
+            "windows.csv": [(it, shift, more) for it in self.legs for shift, more in self.extras[it].items() if shift],
+            "optional.csv": [(it, skip) for it, skip in self.skips.items() if it in self.legs],
+        }
+        headers = {**HEADERS, **({"stations.csv": LIMITED} if room else {}), **({"legs.csv": DATED} if has_days else {})}
+        names = (*TABLES, *(ASKED[it] for it in self.asked))
+        return {it: (headers[it], [[str(field) for field in row] for row in own[it]]) for it in names}
+
+    def write(self, folder: str) -> None:
+        """Writes the tables into a folder, each whole or not at all, and makes it where it isn't there. It raises Unread where one can't be
+        written."""
+        with told_of(folder):
+            os.makedirs(folder, exist_ok=True)
+            write_all(folder, {name: text_of(header, rows) for name, (header, rows) in self.rows().items()})
 
     def _unknown(self, table: str, what: str) -> Unread:
         return _fault(self.folder, table, f"{what} of the tables")
