@@ -7,7 +7,8 @@ it again, and a fleet uses no more aircraft than it has.
 
 from __future__ import annotations
 
-from typing import Callable, Dict, List, Sequence, Tuple
+import itertools
+from typing import Callable, Dict, Iterable, Iterator, List, NamedTuple, Sequence, Tuple
 
 import schedules
 from shared import DAY_START, Place, rows
@@ -61,60 +62,71 @@ def node_at(starts: Sequence[int], minute: int) -> int:
     return max(k for k, start in enumerate(starts) if start <= minute)
 
 
-def lines_of(
-    fleets: Sequence[Tuple[int, int]],
-    legs: Sequence[Leg],
-    stations: int,
-    goes: Goes = lambda nodes,
-    node,
-    departures,
-    readies,
-    station: False,
-    period: int = DAY,
-) -> Tuple[List[List[int]], List[int]]:
-    """The lines, each with its right side last, and the costs; without the ground arcs that go. `period` is in minutes."""
-    pairs = []
+class Pair(NamedTuple):
+    """A leg with a fleet: its stations, its departure, the minute at which it is ready again, the laps until then, and its cost."""
+
+    leg: int
+    fleet: int
+    origin: int
+    departure: int
+    target: int
+    ready: int
+    laps: int
+    cost: int
+
+
+def pairs_of(fleets: Sequence[Tuple[int, int]], legs: Sequence[Leg], period: int) -> Iterator[Pair]:
+    """The pairs, leg by leg."""
     for leg, (origin, departure, target, block, costs) in enumerate(legs):
         for fleet, (_, turn) in enumerate(fleets):
             laps, ready = divmod(departure + block + turn, period)
-            pairs.append((leg, fleet, origin, departure, target, ready, laps, costs[fleet]))
-    starts, arcs = {}, []
-    for fleet in range(len(fleets)):
-        for station in range(stations):
-            departures = [p[3] for p in pairs if p[1] == fleet and p[2] == station]
-            readies = [p[5] for p in pairs if p[1] == fleet and p[4] == station]
-            nodes = starts[fleet, station] = nodes_of(departures, readies)
-            arcs += [(fleet, station, k) for k in range(len(nodes)) if not goes(nodes, k, departures, readies, station)]
+            yield Pair(leg, fleet, origin, departure, target, ready, laps, costs[fleet])
+
+
+def none_goes(*_: object) -> bool:
+    """No ground arc goes."""
+    return False
+
+
+def lines_of(
+    fleets: Sequence[Tuple[int, int]], legs: Sequence[Leg], stations: int, goes: Goes = none_goes, period: int = DAY
+) -> Tuple[List[List[int]], List[int]]:
+    """The lines, each with its right side last, and the costs; without the ground arcs that go. `period` is in minutes."""
+    pairs = list(pairs_of(fleets, legs, period))
+    starts: Dict[Tuple[int, int], List[int]] = {}
+    arcs: List[Tuple[int, int, int]] = []
+    for fleet, station in itertools.product(range(len(fleets)), range(stations)):
+        departures = [it.departure for it in pairs if (it.fleet, it.origin) == (fleet, station)]
+        readies = [it.ready for it in pairs if (it.fleet, it.target) == (fleet, station)]
+        nodes = starts[fleet, station] = nodes_of(departures, readies)
+        arcs += [(fleet, station, node) for node in range(len(nodes)) if not goes(nodes, node, departures, readies, station)]
     columns = len(pairs) + len(arcs) + len(fleets)
 
-    lines = []
-    for leg in range(len(legs)):
-        line = [0] * (columns + 1)
-        for column, pair in enumerate(pairs):
-            line[column] = int(pair[0] == leg)
-        line[columns] = 1
-        lines.append(line)
-    for fleet, station, node in [(f, s, k) for (f, s), nodes in starts.items() for k in range(len(nodes))]:
-        nodes = starts[fleet, station]
-        line = [0] * (columns + 1)
-        for column, (_, f, origin, departure, target, ready, _, _) in enumerate(pairs):
-            if f == fleet and origin == station and node_at(nodes, departure) == node:
-                line[column] -= 1
-            if f == fleet and target == station and node_at(nodes, ready) == node:
-                line[column] += 1
-        for place, (f, s, k) in enumerate(arcs):
-            if (f, s) == (fleet, station):
-                line[len(pairs) + place] -= int(k == node)
-                line[len(pairs) + place] += int((k + 1) % len(nodes) == node)
-        lines.append(line)
+    def line(right: int, entries: Iterable[Tuple[int, int]]) -> List[int]:
+        made = [0] * columns + [right]
+        for column, number in entries:
+            made[column] += number
+        return made
+
+    lines = [line(1, ((at, 1) for at, it in enumerate(pairs) if it.leg == leg)) for leg in range(len(legs))]
+    for place, nodes in starts.items():
+        lines += [line(0, balance(place, nodes, node, pairs, arcs)) for node in range(len(nodes))]
     for fleet, (aircraft, _) in enumerate(fleets):
-        line = [0] * (columns + 1)
-        for column, pair in enumerate(pairs):
-            line[column] = pair[6] if pair[1] == fleet else 0
-        for place, (f, s, k) in enumerate(arcs):
-            line[len(pairs) + place] = int(f == fleet and k + 1 == len(starts[f, s]))
-        line[len(pairs) + len(arcs) + fleet] = 1
-        line[columns] = aircraft
-        lines.append(line)
-    costs = [pair[7] for pair in pairs] + [0] * (columns - len(pairs))
-    return lines, costs
+        away = [(at, it.laps) for at, it in enumerate(pairs) if it.fleet == fleet]
+        on_ground = [(len(pairs) + at, 1) for at, (own, station, node) in enumerate(arcs) if own == fleet and node + 1 == len(starts[own, station])]
+        lines.append(line(aircraft, [*away, *on_ground, (len(pairs) + len(arcs) + fleet, 1)]))
+    return lines, [it.cost for it in pairs] + [0] * (columns - len(pairs))
+
+
+def balance(
+    place: Tuple[int, int], nodes: Sequence[int], node: int, pairs: Sequence[Pair], arcs: Sequence[Tuple[int, int, int]]
+) -> Iterator[Tuple[int, int]]:
+    """The entries of a node's line: what comes to it less what leaves it, of a fleet at a station."""
+    for at, it in enumerate(pairs):
+        if (it.fleet, it.origin) == place and node_at(nodes, it.departure) == node:
+            yield at, -1
+        if (it.fleet, it.target) == place and node_at(nodes, it.ready) == node:
+            yield at, 1
+    for at, (fleet, station, start) in enumerate(arcs):
+        if (fleet, station) == place:
+            yield len(pairs) + at, int((start + 1) % len(nodes) == node) - int(start == node)
