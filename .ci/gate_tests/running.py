@@ -8,7 +8,7 @@ from typing import Dict, NamedTuple, Tuple
 from gate_tests.scratch import TOP, Ended, lay, lay_command, run, scratch
 from gate_tests.tally import Tally
 
-SCRIPTS = ("promises", "documents", "gate", "release", "examples", "terminal", "ssim", "scenarios", "package", "lint")
+SCRIPTS = ("lint", "promises", "documents", "gate", "release", "examples", "terminal", "ssim", "scenarios", "package")
 LEAST = "# what is wanted\n" + "".join(f"{name} 3\n" for name in ("rt", *SCRIPTS))
 SUM = f"{4 + 3 * len(SCRIPTS)} passed, 0 failed"
 # A command that ends by a signal.
