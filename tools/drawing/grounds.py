@@ -2,8 +2,9 @@
 
 from __future__ import annotations
 
-from dataclasses import dataclass
-from typing import Dict, Iterator, List, Optional, Tuple
+from dataclasses import dataclass, replace
+from itertools import accumulate
+from typing import Dict, List, Optional, Tuple
 
 from drawing.calendars import Calendar
 from drawing.charts import Scale
@@ -16,12 +17,82 @@ TALL, TALLEST, ABOVE = 14, 112, 12
 
 @dataclass(frozen=True)
 class Stand:
-    """A number of aircraft of a fleet that stay the same for a while."""
+    """A number of aircraft of a fleet that stays the same for a while, on top of those of other fleets."""
 
     fleet: str
     first: int
     last: int
     count: int
+    below: int
+
+
+@dataclass
+class Station:
+    """A station to which flights go: how many aircraft of all fleets stand there from minute to minute, and those of each fleet."""
+
+    code: str
+    maintains: bool
+    parking: Optional[int]
+    moves: int
+    totals: List[Tuple[int, int, int]]
+    stands: List[Stand]
+
+    @property
+    def most(self) -> int:
+        """The most aircraft that stand there at once."""
+        return max((count for _, _, count in self.totals), default=0)
+
+
+# Of a station the changes of each fleet's aircraft on the ground, by the minute.
+Changes = Dict[str, Dict[int, int]]
+
+
+def stations_of(schedule: Schedule, choice: Plan) -> List[Station]:
+    """Returns the stations to which flights go, those with most departures and arrivals first."""
+    found: Dict[str, Changes] = {it: {} for it in schedule.extra}
+    moves = dict.fromkeys(schedule.extra, 0)
+    for fleet in schedule.aircraft:
+        for leg, busy in schedule.flown_by(choice, fleet):
+            for code, minute, change in ((leg.start, leg.departure, -1), (leg.end, (leg.departure + busy) % schedule.minutes, 1)):
+                own = found[code].setdefault(fleet, {})
+                own[minute] = own.get(minute, 0) + change
+                moves[code] += 1
+    stations = [
+        Station(code, schedule.maintains[code], schedule.parking.get(code), moves[code], *stacked(changes, schedule.minutes))
+        for code, changes in found.items()
+        if changes
+    ]
+    return sorted(stations, key=lambda it: -it.moves)
+
+
+def stacked(changes: Changes, minutes: int) -> Tuple[List[Tuple[int, int, int]], List[Stand]]:
+    """Returns how many aircraft stand at a station from which minute to which, and the stands of each fleet on top of the others."""
+    counts = {fleet: at_first(own) for fleet, own in changes.items()}
+    times = sorted({0, *(minute for own in changes.values() for minute in own)})
+    totals: List[Tuple[int, int, int]] = []
+    stands: Dict[str, List[Stand]] = {fleet: [] for fleet in changes}
+    for first, last in zip(times, [*times[1:], minutes]):
+        below = 0
+        for fleet, own in changes.items():
+            counts[fleet] += own.get(first, 0)
+            grow(stands[fleet], Stand(fleet, first, last, counts[fleet], below))
+            below += counts[fleet]
+        begun = totals.pop()[0] if totals and totals[-1][2] == below else first
+        totals.append((begun, last, below))
+    return totals, [it for own in stands.values() for it in own if it.count]
+
+
+def at_first(own: Dict[int, int]) -> int:
+    """Returns how many aircraft have to stand there before the first minute: as many as ever lack."""
+    return max(0, *(-sum_until for sum_until in accumulate(own[minute] for minute in sorted(own))))
+
+
+def grow(stands: List[Stand], it: Stand) -> None:
+    """Adds a stand, or makes the last one longer where it is as many, on as many others."""
+    if stands and (stands[-1].count, stands[-1].below) == (it.count, it.below):
+        stands[-1] = replace(stands[-1], last=it.last)
+    else:
+        stands.append(it)
 
 
 @dataclass(frozen=True)
@@ -34,65 +105,7 @@ class Block:
     y: float
     height: float
     title: str
-    text: str
     is_hatched: bool
-
-
-@dataclass
-class Station:
-    """A station to which flights go."""
-
-    code: str
-    maintains: bool
-    parking: Optional[int]
-    moves: int
-    stands: List[Stand]
-    totals: List[Tuple[int, int, int]]
-
-    @property
-    def most(self) -> int:
-        """The most aircraft that stand there at once."""
-        return max((count for _, _, count in self.totals), default=0)
-
-
-def stations_of(schedule: Schedule, choice: Plan) -> List[Station]:
-    """Returns the stations to which flights go, those with most departures and arrivals first."""
-    counts: Dict[str, Dict[str, List[int]]] = {it: {} for it in schedule.extra}
-    moves = dict.fromkeys(schedule.extra, 0)
-    for fleet in schedule.aircraft:
-        need, goes, comes = schedule.needs(schedule.flown_by(choice, fleet))
-        for code in schedule.extra:
-            moved = sum(goes[code]) + sum(comes[code])
-            moves[code] += moved
-            if moved:
-                counts[code][fleet] = levels(need[code], goes[code], comes[code])
-    found = []
-    for code, fleets in counts.items():
-        if not fleets:
-            continue
-        totals = [sum(it) for it in zip(*fleets.values())]
-        stands = [Stand(fleet, *it) for fleet, minutes in fleets.items() for it in steps(minutes) if it[2]]
-        parking = schedule.parking.get(code)
-        found.append(Station(code, schedule.maintains[code], parking, moves[code], stands, list(steps(totals))))
-    return sorted(found, key=lambda it: -it.moves)
-
-
-def levels(need: int, goes: List[int], comes: List[int]) -> List[int]:
-    """Returns the aircraft on the ground at the end of each minute: those at the first day's start, and what came less what went."""
-    stand, minutes = need, []
-    for gone, come in zip(goes, comes):
-        stand += come - gone
-        minutes.append(stand)
-    return minutes
-
-
-def steps(minutes: List[int]) -> Iterator[Tuple[int, int, int]]:
-    """Yields the spans of minutes in which a number stays the same."""
-    start = 0
-    for at in range(1, len(minutes) + 1):
-        if at == len(minutes) or minutes[at] != minutes[start]:
-            yield start, at, minutes[start]
-            start = at
 
 
 @dataclass
@@ -126,7 +139,7 @@ def picture(station: Station, schedule: Schedule, palette: Palette, calendar: Ca
     most = max(station.most, station.parking if station.parking is not None and station.parking <= 2 * station.most + 2 else 0, 1)
     unit = min(TALL, TALLEST / most)
     floor = ABOVE + unit * most
-    blocks = [block for it in stacked(station.stands, schedule.minutes) for block in [drawn(it, floor, unit, scale, palette, calendar)]]
+    blocks = [drawn(it, floor, unit, scale, palette, calendar) for it in station.stands]
     totals = [
         (scale.x((first + last) / 2), floor - unit * count - 3, count)
         for first, last, count in station.totals
@@ -136,20 +149,9 @@ def picture(station: Station, schedule: Schedule, palette: Palette, calendar: Ca
     return Picture(station, floor + 1, unit, blocks, totals, limit)
 
 
-def stacked(stands: List[Stand], minutes: int) -> Iterator[Tuple[Stand, int]]:
-    """Yields stands with how many aircraft of other fleets stand below them, cut where that changes."""
-    below = [0] * minutes
-    for it in stands:
-        for first, last, base in steps(below[it.first : it.last]):
-            yield Stand(it.fleet, it.first + first, it.first + last, it.count), base
-        below[it.first : it.last] = [count + it.count for count in below[it.first : it.last]]
-
-
-def drawn(it: Tuple[Stand, int], floor: float, unit: float, scale: Scale, palette: Palette, calendar: Calendar) -> Block:
+def drawn(stand: Stand, floor: float, unit: float, scale: Scale, palette: Palette, calendar: Calendar) -> Block:
     """Returns a stand as it is drawn."""
-    stand, base = it
     x = scale.x(stand.first)
-    until = calendar.clock(stand.last)
-    title = f"{stand.count} {stand.fleet} from {calendar.moment(stand.first)} to {until}"
-    y, height = floor - unit * (base + stand.count), unit * stand.count
-    return Block(palette.kind(stand.fleet), x, scale.x(stand.last) - x, y, height, title, "", palette.is_hatched(stand.fleet))
+    title = f"{stand.count} {stand.fleet} from {calendar.moment(stand.first)} to {calendar.clock(stand.last)}"
+    y, height = floor - unit * (stand.below + stand.count), unit * stand.count
+    return Block(palette.kind(stand.fleet), x, scale.x(stand.last) - x, y, height, title, palette.is_hatched(stand.fleet))

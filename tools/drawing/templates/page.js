@@ -8,6 +8,10 @@
   const top = d3.select(".top-axis svg");
   const byDay = document.getElementById("by-day");
 
+  // What tells apart the words that a bar may have: their kinds, and the pixels beside.
+  const keyOf = (texts) => texts.map(([kind, dx]) => `${kind} ${dx}`).join();
+  const said = (text) => [text.getAttribute("class"), Number(text.getAttribute("dx"))];
+
   // The rows of each chart, and the bars in them, with what they say.
   let next = 0;
   const charts = Array.from(pane.querySelectorAll(".chart.rows"), (node) => {
@@ -24,7 +28,7 @@
         part: parseFloat(stay.querySelector("rect").getAttribute("width")) / 100,
         at: parseFloat(stay.querySelector("rect").getAttribute("x")),
       })),
-      bars: Array.from(node.querySelectorAll(".leg, .rest"), (bar) => ({ bar, said: data.bars[next++], drawn: null })),
+      bars: Array.from(node.querySelectorAll(".leg, .rest"), (bar) => ({ bar, said: data.bars[next++], drawn: keyOf(Array.from(bar.querySelectorAll("text"), said)) })),
     };
     chart.hasMarks = chart.bars.some((it) => it.said[10]);
     return chart;
@@ -71,7 +75,7 @@
   function label(chart, per) {
     for (const it of chart.bars) {
       const texts = textsOf(it.said, chart.minutes, per);
-      const key = texts.map((text) => `${text[0]} ${text[2]}`).join();
+      const key = keyOf(texts.map(([kind, , dx]) => [kind, dx]));
       if (key === it.drawn) continue;
       it.drawn = key;
       const drawn = d3.select(it.bar).selectAll("text").data(texts);
