@@ -26,8 +26,8 @@ OTHERS = {
     "crates/fleetplan/stdout": "usage: words\n",
     "docs/page.md": "page\n",
 }
-# A program that says what it was made of, and the words of the call.
-PROGRAM = '#!/bin/sh\n[ $# -gt 0 ] || { echo "usage: words"; exit 2; }\necho "%s" "$@"\nexit 3\n'
+# A program that says what it was made of, and the command of the call.
+PROGRAM = '#!/bin/sh\n[ $# -gt 0 ] || { echo "usage: words"; exit 2; }\necho "%s" "$1"\nexit 3\n'
 RELEASED = PROGRAM % "released"
 # What it does is told by the source: it fails, takes its time, or builds the program.
 RT = f"""#!/usr/bin/env python3
@@ -108,7 +108,7 @@ class Clone:
 
     def answer(self, **names: str) -> Answer:
         """Returns what ./fleetplan answers with."""
-        ended = self.call("./fleetplan", "judge", **names)
+        ended = self.call("./fleetplan", "judge", ".", **names)
         return Answer("\n".join(ended.lines), ended.status, len(self.calls()))
 
 

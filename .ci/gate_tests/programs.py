@@ -21,8 +21,8 @@ def try_release(tally: Tally, clone: Clone) -> None:
     clone.release()
     released = Answer("released judge", 3, 0)
     says = "fleetplan: this is the released program of version 1.0, proved by its gate; `rt ci` proves it here and compares\n"
-    tally.equal("./fleetplan on a terminal", says, clone.told("./fleetplan", "judge"))
-    tally.equal("./fleetplan on a terminal, once more", "", clone.told("./fleetplan", "judge"))
+    tally.equal("./fleetplan on a terminal", says, clone.told("./fleetplan", "judge", "."))
+    tally.equal("./fleetplan on a terminal, once more", "", clone.told("./fleetplan", "judge", "."))
     shutil.rmtree(clone.places.out)
     tally.equal("./fleetplan with a release of its sources", released, clone.answer())
     tally.equal("./fleetplan once more", released, clone.answer())
@@ -51,13 +51,13 @@ def try_releases(tally: Tally, clone: Clone) -> None:
         shutil.rmtree(clone.places.out, ignore_errors=True)
         wanted = origin.sum_of(clone.places.released)
         plant()
-        ended = clone.call("./fleetplan", "judge")
+        ended = clone.call("./fleetplan", "judge", ".")
         tally.equal(f"./fleetplan where the release has {name}", ["built first judge"], ended.lines)
         says = "release/fleetplan has the sha256" in ended.told and f"wants {wanted}" in ended.told
         tally.equal(f"./fleetplan where the release has {name}: whether a sum is told", name in ("a byte more", "no program"), says)
     shutil.rmtree(clone.places.out)
     clone.release("#!/nowhere\n")
-    ended = clone.call("./fleetplan", "judge")
+    ended = clone.call("./fleetplan", "judge", ".")
     tally.equal("./fleetplan where the release doesn't run", (["built first judge"], True), (ended.lines, "doesn't run here" in ended.told))
 
 
@@ -130,7 +130,7 @@ def try_builds(tally: Tally, clone: Clone) -> None:
     tally.equal("./fleetplan after it", BUILT._replace(calls=0), clone.answer())
     tally.equal("tools/build with another word", 2, clone.call("tools/build", "--edit").status)
     write(clone.top / SOURCE, "wrong\n")
-    ended = clone.call("./fleetplan", "judge")
+    ended = clone.call("./fleetplan", "judge", ".")
     says = [it for it in ("rt: entries NOT PROVED", "crates/fleetplan/out/build.log", "the program was not built") if it not in ended.told]
     tally.equal("./fleetplan where a proof fails", (1, [], []), (ended.status, ended.lines, says))
     write(clone.top / SOURCE, SOURCES[SOURCE])
@@ -138,7 +138,7 @@ def try_builds(tally: Tally, clone: Clone) -> None:
     tally.equal("./fleetplan after the edit is undone", BUILT._replace(calls=0), clone.answer())
     write(clone.top / SOURCE, "other\n")
     (clone.top / "bin" / "rt").unlink()
-    ended = clone.call("./fleetplan", "judge")
+    ended = clone.call("./fleetplan", "judge", ".")
     if not shutil.which("rt", path=f"{os.path.dirname(sys.executable)}:/usr/bin:/bin"):
         tally.equal("./fleetplan without rt", (1, [], True), (ended.status, ended.lines, "not on the PATH" in ended.told))
 
@@ -148,7 +148,12 @@ def begin(clone: Clone) -> "subprocess.Popen[str]":
     path = f"{clone.top / 'bin'}:{os.path.dirname(sys.executable)}:/usr/bin:/bin"
     called = clone.top / "called"
     begun = subprocess.Popen(
-        ["./fleetplan", "judge"], cwd=clone.top, env={**os.environ, "PATH": path}, stdout=subprocess.PIPE, stderr=subprocess.PIPE, encoding="utf-8"
+        ["./fleetplan", "judge", "."],
+        cwd=clone.top,
+        env={**os.environ, "PATH": path},
+        stdout=subprocess.PIPE,
+        stderr=subprocess.PIPE,
+        encoding="utf-8",
     )
     while begun.poll() is None and not (called.exists() and called.stat().st_size):
         time.sleep(0.02)

@@ -80,11 +80,6 @@ COMMANDS = {
         (*_ROUTING, "nodes", "pivots", "all-pivots", "json"), (), WRITTEN,
     ),
     "check": Command({}, "checks the proof in proof.txt, and the plan that comes with it", READING, ("proof.txt", "plan.csv")),
-    "tails": Command(_DATES, "says which aircraft flies what, on COUNT dates from DATE on", _ROUTING, ("plan.csv",)),
-    "due": Command(
-        _DATES, "says which named aircraft flies what, so that each comes to maintenance by its own date", _ROUTING,
-        ("tails.csv", "plan.csv"),
-    ),
     "make": Command(
         {
             "NUMBER": Word(Number(0, 2_147_483_647), "the number that a schedule is drawn from", "7"),
@@ -92,6 +87,11 @@ COMMANDS = {
         },
         "makes a schedule of LEGS flights to play with, drawn from a number, and solves it",
         (), (), (*TABLES, *WRITTEN), needs_tables=False,
+    ),
+    "tails": Command(_DATES, "says which aircraft flies what, on COUNT dates from DATE on", _ROUTING, ("plan.csv",)),
+    "due": Command(
+        _DATES, "says which named aircraft flies what, so that each comes to maintenance by its own date", _ROUTING,
+        ("tails.csv", "plan.csv"),
     ),
     "whatif": Command(
         {
@@ -103,6 +103,8 @@ COMMANDS = {
 }  # fmt: skip
 HELP = ("help", "-h", "--help")
 VERSION = ("--version", "-V", "version")
+# What the program prints of words that are no call.
+USAGE = f"usage: fleetplan {'|'.join(COMMANDS)} DIR [options]"
 # The name and the text of the value of an option, and the words by which it reads.
 Given = Tuple[str, int]
 
@@ -114,10 +116,13 @@ def read(option: str, text: str) -> Any:
 
 
 class Fault(NamedTuple):
-    """What is wrong with a call: a sentence, and the words that would do, where they are known."""
+    """What is wrong with a call: a sentence, and, where they are known, the words that would do, the word that is wrong, and what is wanted
+    in its place."""
 
     text: str
     mended: Optional[List[str]] = None
+    found: Optional[str] = None
+    wanted: Optional[str] = None
 
 
 class Call:
@@ -137,6 +142,11 @@ class Call:
             self.wants_help = not words or words[0] in (*HELP, *VERSION)
         if not self.wants_help:
             self._find_faults()
+
+    @property
+    def wants_version(self) -> bool:
+        """Whether the call asks for the version."""
+        return self.all[:1] != [] and self.all[0] in VERSION
 
     @property
     def own(self) -> Command:
@@ -202,11 +212,11 @@ class Call:
             self.faults.append(self._unknown(at))
             return at
         if name in self.given:
-            self.faults.append(Fault(f"--{name} stands there twice: once is enough"))
+            self.faults.append(Fault(f"--{name} stands there twice: once is enough", found=word))
         form = OPTIONS[name].form
         if form is None:
             if has_value:
-                self.faults.append(Fault(f"--{name} takes no value", self.with_word(at, f"--{name}")))
+                self.faults.append(Fault(f"--{name} takes no value", self.with_word(at, f"--{name}"), word, f"--{name}"))
             self.given[name] = ("", at)
             return at
         if has_value:
@@ -214,7 +224,7 @@ class Call:
             return at
         following = self.all[at + 1 : at + 2]
         if not following or (following[0].startswith("-") and following[0] != "-"):
-            self.faults.append(Fault(f"--{name} wants a value behind it: {form.form}"))
+            self.faults.append(Fault(f"--{name} wants a value behind it: {form.form}", None, word, form.form))
             return at
         self.given[name] = (following[0], at + 1)
         return at + 1
@@ -224,18 +234,18 @@ class Call:
         word, own = self.all[at], self.own.options
         name, equals, value = word.lstrip("-").partition("=")
         if not own:
-            return Fault(f"{self.command} takes no option, and {word} is one")
+            return Fault(f"{self.command} takes no option, and {word} is one", found=word)
         if name in OPTIONS and name not in own:
             others = ", ".join(it for it in COMMANDS if name in COMMANDS[it].options)
-            return Fault(f"{self.command} has no option --{name}: it is one of {others}")
+            return Fault(f"{self.command} has no option --{name}: it is one of {others}", found=word)
         if re.fullmatch(r"-[0-9.]+", word):
-            return Fault(f"{word} begins with a minus, so it is read as an option, and no number here is negative")
+            return Fault(f"{word} begins with a minus, so it is read as an option, and no number here is negative", found=word)
         near = difflib.get_close_matches(name.lower(), own, 1, 0.6)
         near = near or [it for it in own if name and it.startswith(name.lower())][:1]
         if not near:
-            return Fault(f"{self.command} has no option {word}")
+            return Fault(f"{self.command} has no option {word}", found=word)
         mended = self.with_word(at, f"--{near[0]}{equals}{value}")
-        return Fault(f"{self.command} has no option {word}: the nearest is --{near[0]}", mended)
+        return Fault(f"{self.command} has no option {word}: the nearest is --{near[0]}", mended, word, f"--{near[0]}")
 
     def _find_faults(self) -> None:
         if self.command is None:
@@ -250,12 +260,12 @@ class Call:
         word = self.all[0]
         near = difflib.get_close_matches(word.lower(), COMMANDS, 1, 0.6)
         if near:
-            return Fault(f"{word} is no command: the nearest is {near[0]}", [near[0], *self.all[1:]])
+            return Fault(f"{word} is no command: the nearest is {near[0]}", [near[0], *self.all[1:]], word, near[0])
         if os.path.isdir(word):
-            return Fault(f"{word} is a folder: the command comes first", ["solve", *self.all])
+            return Fault(f"{word} is a folder: the command comes first", ["solve", *self.all], word, "a command")
         if word.startswith("-"):
-            return Fault(f"{word} stands before the command: the command is the first word")
-        return Fault(f"{word} is no command: the first word is one of {', '.join(COMMANDS)}")
+            return Fault(f"{word} stands before the command: the command is the first word", None, word, "a command")
+        return Fault(f"{word} is no command: the first word is one of {', '.join(COMMANDS)}", None, word, "a command")
 
     def _count_words(self) -> None:
         names = self.own.names
@@ -263,9 +273,10 @@ class Call:
         if lacking:
             text = f"{self.command} wants {' '.join(names)}, and there is no {'; no '.join(map(self._told, lacking))}"
             rest = ["DIR" if it == "DIR" else self.own.words[it].example for it in lacking]
-            self.faults.append(Fault(text, [*self.all, *rest] if "--" not in self.all else None))
+            self.faults.append(Fault(text, [*self.all, *rest] if "--" not in self.all else None, wanted=" ".join(names)))
         for _, word in self.words[len(names) :]:
-            self.faults.append(Fault(f"{word or 'an empty word'} is one word too many: {self.command} wants {' '.join(names)}"))
+            text = f"{word or 'an empty word'} is one word too many: {self.command} wants {' '.join(names)}"
+            self.faults.append(Fault(text, None, word, " ".join(names)))
 
     def _told(self, name: str) -> str:
         """Returns a word of the command with what it is."""
@@ -279,12 +290,12 @@ class Call:
             if form is not None and form.read(text) is None:
                 better = form.mended(text)
                 mended = self.with_option(option, better) if better else None
-                self.faults.append(Fault(f"--{option} {text or 'without a value'}: it wants {form.form}", mended))
+                self.faults.append(Fault(f"--{option} {text or 'without a value'}: it wants {form.form}", mended, text, form.form))
         for (name, word), (place, text) in zip(self.own.words.items(), self.words[1:]):
             if word.form.read(text) is None:
                 better = word.form.mended(text)
                 mended = self.with_word(place, better) if better else None
-                self.faults.append(Fault(f"{name} is {text or 'empty'}: {word.means} is {word.form.form}", mended))
+                self.faults.append(Fault(f"{name} is {text or 'empty'}: {word.means} is {word.form.form}", mended, text, word.form.form))
         if self.own.words is _DATES and not self.faults:
             first, count = (word.form.read(text) for word, (_, text) in zip(_DATES.values(), self.words[1:]))
             if first.toordinal() + count - 1 > datetime.date.max.toordinal():

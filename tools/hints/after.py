@@ -3,13 +3,12 @@
 from __future__ import annotations
 
 import os
-import sys
-from typing import Sequence
+from typing import List, Sequence
 
 from fleetplan.program import answer
-from fleetplan.texts import quietly, typed
+from fleetplan.texts import quietly
 from fleetplan.words import Call
-from hints.saying import Hint
+from hints.saying import JSON, WHOLE, Hint, mode
 
 # What one more run of the program may take.
 SECONDS = 5
@@ -17,16 +16,9 @@ SECONDS = 5
 MOST_LETTERS = 1 << 22
 
 
-def put(hint: Hint) -> None:
-    """Writes a hint to standard error, also where a name of a table has letters that the terminal lacks."""
-    sys.stderr.flush()
-    sys.stderr.buffer.write(str(hint).encode(sys.stderr.encoding or "utf-8", "backslashreplace"))
-    sys.stderr.flush()
-
-
 def hint_for(status: str, said: str, command: str, words: Sequence[str]) -> Hint:
     """Returns the hint for a status, what was said, and the words. What fails on the way leaves what was found before."""
-    hint, call = Hint(), Call(words)
+    hint, call = Hint(int(status) if status.isdigit() else None), Call(words)
     try:
         tell(hint, status, said, command, call)
     except (Exception, MemoryError, RecursionError):  # pylint: disable=broad-except
@@ -39,16 +31,17 @@ def tell(hint: Hint, status: str, said: str, command: str, call: Call) -> None:
     """Says what belongs to an answer."""
     if status == "building":
         tell_preview(hint, command, call)
-    elif status == "2":
-        from hints import usage
-
-        usage.explain(hint, command, call)
+    elif status == "1":
+        tell_unbuilt(hint, command, call)
     elif not call.words or call.faults:
         return
     elif status == "7":
         from hints import files
 
         files.explain(hint, command, call)
+    elif status == "8":
+        hint.say("memory ran out: the program wants more than this machine, or a limit of the call (ulimit), gives it")
+        hint.say("fewer pairs in costs.csv, or a part of the schedule alone, want less")
     elif status in ("6", "9"):
         tell_refusal(hint, command, call, said or once_more(call))
     elif status == "4":
@@ -100,12 +93,21 @@ def tell_answer(hint: Hint, status: str, said: str, command: str, call: Call) ->
 
 
 def tell_preview(hint: Hint, command: str, call: Call) -> None:
-    """Says, before the program is built, how to have a look until then, or that the words are no call in any case."""
-    if call.faults or call.wants_help:
-        from hints import usage
-
-        usage.explain(hint, command, call)
+    """Says, before the program is built, how to have a look until then. In JSON that is told where it wasn't built."""
+    if mode() == JSON:
         return
     hint.say("the program isn't built yet, or is of other sources. For an answer before it is, not proved, on a copy of the folder,")
     hint.say("call in another terminal:")
-    hint.show(typed([os.path.join(os.path.dirname(command), "tools", "preview"), *call.all]))
+    hint.mend(previewed(command, call))
+
+
+def tell_unbuilt(hint: Hint, command: str, call: Call) -> None:
+    """Says, after the program wasn't built, how to have a look all the same. Where all is said that stands there before."""
+    if mode() != WHOLE:
+        hint.say("there is no answer, for the program was not built. For an answer without proofs, on a copy of the folder:")
+        hint.mend(previewed(command, call))
+
+
+def previewed(command: str, call: Call) -> List[str]:
+    """Returns the words that answer without proofs."""
+    return [os.path.join(os.path.dirname(command), "tools", "preview"), *call.all]

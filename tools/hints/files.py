@@ -4,14 +4,16 @@ from __future__ import annotations
 
 import difflib
 import os
+import select
 import shutil
 import stat
+import sys
 from typing import List, Optional, Tuple
 
 from fleetplan.tables import ASKED, HEADERS, TABLES, WRITTEN
-from fleetplan.texts import listed, typed
+from fleetplan.texts import listed
 from fleetplan.words import Call
-from hints.saying import Hint
+from hints.saying import Hint, Where
 
 SECTION = "the-files-of-a-folder"
 # Of a table that only some calls read what it is for, and a record of one.
@@ -29,11 +31,20 @@ MOST_NAMES = 2000
 
 def explain(hint: Hint, command: str, call: Call) -> None:
     """Says which file of the call is missing, is a folder, or may not be read or written."""
-    if tell_folder(hint, call.folder, call) or tell_reads(hint, command, call) or tell_writes(hint, call):
+    if tell_folder(hint, command, call.folder, call) or tell_reads(hint, command, call) or tell_writes(hint, call):
         hint.see(SECTION)
+        return
+    if has_lost_reader(sys.stdout.fileno()):
         return
     hint.say("no file of this call stands in the way now.")
     hint.say("The status is the same where the output could not be put: a full disk, or a pipe whose reader has gone.")
+
+
+def has_lost_reader(output: int) -> bool:
+    """Returns whether an output is a pipe whose reader has gone, as behind `head`: that is no fault of anybody's."""
+    looked = select.poll()
+    looked.register(output, 0)
+    return any(found & select.POLLERR for _, found in looked.poll(0))
 
 
 def names_in(folder: str) -> List[str]:
@@ -55,29 +66,32 @@ def kind_of(path: str) -> str:
     return "folder" if stat.S_ISDIR(mode) else "file" if stat.S_ISREG(mode) else "other"
 
 
-def tell_folder(hint: Hint, folder: str, call: Call) -> bool:
+def tell_folder(hint: Hint, command: str, folder: str, call: Call) -> bool:
     """Says what is wrong with the folder itself, and returns whether anything is."""
     kind = kind_of(folder or "/")
+    where = Where(folder, found=kind, wanted="a folder that holds the tables")
     if kind == "folder":
         if os.access(folder or "/", os.X_OK):
             return False
-        hint.say(f"you may not enter the folder {folder}")
+        hint.fault(f"you may not enter the folder {folder}", where)
     elif kind == "nothing":
-        hint.say(f"there is no folder {folder}")
+        hint.fault(f"there is no folder {folder}", where)
         above, name = os.path.split(folder.rstrip("/"))
         beside = [it for it in names_in(above or ".") if os.path.isdir(os.path.join(above, it))]
         near = difflib.get_close_matches(name, beside, 1, 0.6)
         if call.command == "make":
             hint.say("make writes into a folder that is there:")
-            hint.show(typed(["mkdir", "-p", folder]))
+            hint.mend(["mkdir", "-p", folder])
         elif near:
-            hint.say(f"the nearest folder is {os.path.join(above, near[0])}")
+            hint.say("the nearest folder is:")
+            hint.mend([command, *call.with_word(call.words[0][0], os.path.join(above, near[0]))])
     elif kind == "hidden":
-        hint.say(f"you may not look at {folder}")
+        hint.fault(f"you may not look at {folder}", where)
     else:
-        hint.say(f"{folder} is a file, and DIR is the folder that holds the tables")
+        hint.fault(f"{folder} is a file, and DIR is the folder that holds the tables", where)
         if os.path.basename(folder) in (*TABLES, *MORE_TABLES, "plan.csv", "proof.txt"):
-            hint.say(f"give its folder: {os.path.dirname(folder) or '.'}")
+            hint.say("give its folder:")
+            hint.mend([command, *call.with_word(call.words[0][0], os.path.dirname(folder) or ".")])
     return True
 
 
@@ -97,7 +111,8 @@ def tell_reads(hint: Hint, command: str, call: Call) -> bool:
     if not bad:
         return False
     name = bad[0]
-    hint.say(f"{os.path.join(folder, name)} {wrong_to_read(os.path.join(folder, name))}")
+    path = os.path.join(folder, name)
+    hint.fault(f"{path} {wrong_to_read(path)}", Where(path, found=kind_of(path), wanted="a file that can be read"))
     missing = [it for it in bad[1:] if kind_of(os.path.join(folder, it)) == "nothing"]
     if missing and not set(TABLES) <= set(bad) and kind_of(os.path.join(folder, name)) == "nothing":
         hint.say(f"missing too: {listed(missing)}")
@@ -134,7 +149,7 @@ def tell_other_folders(hint: Hint, command: str, call: Call) -> None:
         hint.say("tables stand in folders below it, such as:")
         words = list(call.all)
         words[call.words[0][0]] = below[0]
-        hint.show(typed([command, *words]))
+        hint.mend([command, *words])
 
 
 def tell_missing(hint: Hint, command: str, call: Call, name: str) -> None:
@@ -146,10 +161,10 @@ def tell_missing(hint: Hint, command: str, call: Call, name: str) -> None:
     if near:
         why = "in other letters" if like else "with a name like it"
         hint.say(f"there is {near[0]}, {why}: names are taken letter by letter")
-        hint.show(typed(["mv", os.path.join(call.folder, near[0]), os.path.join(call.folder, name)]))
+        hint.mend(["mv", os.path.join(call.folder, near[0]), os.path.join(call.folder, name)])
     elif name == "throughs.csv":
         hint.say("where there are no through pairs an empty file will do:")
-        hint.show(typed(["touch", os.path.join(call.folder, name)]))
+        hint.mend(["touch", os.path.join(call.folder, name)])
     elif name in MORE_TABLES:
         holds, line = MORE_TABLES[name]
         hint.say(f"it names {holds}, such as:")
@@ -157,7 +172,7 @@ def tell_missing(hint: Hint, command: str, call: Call, name: str) -> None:
         hint.show(line)
     elif name in ("plan.csv", "proof.txt"):
         hint.say("solve writes it, where it has a plan:" if name == "plan.csv" else "solve writes it:")
-        hint.show(typed([command, "solve", call.folder, *call.reading]))
+        hint.mend([command, "solve", call.folder, *call.reading])
 
 
 def tell_writes(hint: Hint, call: Call) -> bool:
@@ -166,7 +181,7 @@ def tell_writes(hint: Hint, call: Call) -> bool:
         path = os.path.join(call.folder, name)
         why = wrong_to_write(path)
         if why:
-            hint.say(f"{path} {why}")
+            hint.fault(f"{path} {why}", Where(path, found=kind_of(path), wanted="a file that can be written"))
             return True
     if call.own.writes and shutil.disk_usage(call.folder or "/").free == 0:
         hint.say(f"the disk of {call.folder} is full")

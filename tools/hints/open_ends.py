@@ -7,7 +7,7 @@ from typing import Dict
 
 from fleetplan.program import held
 from fleetplan.proofs import counts_of
-from fleetplan.texts import counted, quietly, typed
+from fleetplan.texts import counted, quietly
 from fleetplan.words import MOST_SEARCH, OPTIONS, Call
 from hints.saying import Hint
 
@@ -60,6 +60,6 @@ def tell_more(hint: Hint, command: str, call: Call, counts: Dict[str, int]) -> N
             call_on = type(call)(words)
     if words:
         hint.say("to allow more:" if call.command == "solve" else "to go further on the tables that were made:")
-        hint.show(typed([command, *words]))
+        hint.mend([command, *words])
     elif counts["nodes"] or counts["pivots"]:
         hint.say("these limits are at their most: fewer pairs in costs.csv, or a part of the schedule alone, make it easier")

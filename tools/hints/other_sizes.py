@@ -8,10 +8,10 @@ import os
 import re
 
 from fleetplan.records import names_in
-from fleetplan.texts import quietly, typed
+from fleetplan.texts import quietly
 from fleetplan.words import Call
-from hints.refused_tables import unknown
-from hints.saying import Hint
+from hints.saying import Hint, Where
+from hints.table_faults import unknown
 
 SECTION = "what-whatif-prints"
 UNKNOWN = re.compile(r"unknown fleet: (.*)", re.DOTALL)
@@ -24,10 +24,10 @@ def tell_unknown(hint: Hint, command: str, call: Call, said: str) -> None:
     if not found:
         return
     fleets = quietly(names_in, os.path.join(call.folder, "fleets.csv")) or []
-    hint.say(unknown(found[1], "fleets.csv", fleets))
+    hint.fault(unknown(found[1], "fleets.csv", fleets), Where(found=found[1], wanted="a name of fleets.csv"))
     near = difflib.get_close_matches(found[1].upper(), fleets, 1, 0.6)
     if near:
-        hint.show(typed([command, *call.with_word(call.words[1][0], near[0])]))
+        hint.mend([command, *call.with_word(call.words[1][0], near[0])])
     hint.see(SECTION)
 
 
@@ -37,9 +37,11 @@ def tell_fallen(hint: Hint, command: str, call: Call, said: str) -> None:
     if not found:
         return
     fleet, count = call.words[1][1], int(call.words[2][1])
-    hint.say(f"the proof says that nothing is legal in node {found[1]}, and with {count} aircraft of {fleet} it doesn't follow")
+    proof = os.path.join(call.folder, "proof.txt")
+    text = f"the proof says that nothing is legal in node {found[1]}, and with {count} aircraft of {fleet} it doesn't follow"
+    hint.fault(text, Where(proof, found=f"{count} aircraft of {fleet}"))
     hint.say("so the proof says nothing of that number. To know, give the fleet that number in fleets.csv, in a copy, and solve it:")
     copy = f"{call.folder.rstrip('/')}-{fleet}-{count}"
-    hint.show(typed(["cp", "-r", call.folder, copy]))
-    hint.show(typed([command, "solve", copy, *call.reading]))
+    hint.mend(["cp", "-r", call.folder, copy])
+    hint.mend([command, "solve", copy, *call.reading])
     hint.see(SECTION)

@@ -6,7 +6,7 @@ import os
 
 from fleetplan.schedule import Schedule
 from fleetplan.tables import ASKED
-from fleetplan.texts import listed, typed
+from fleetplan.texts import listed
 from fleetplan.words import Call
 from hints.saying import Hint
 
@@ -23,5 +23,5 @@ def tell_unread(hint: Hint, command: str, call: Call) -> bool:
         stand, are = ("stands", "is") if len(options) == 1 else ("stand", "are")
         by = listed(f"--{it}" for it in options)
         hint.say(f"{listed(ASKED[it] for it in options)} {stand} in {call.folder}, and {are} read with {by} alone:")
-        hint.show(typed([command, *call.with_more(*(f"--{it}" for it in options))]))
+        hint.mend([command, *call.with_more(*(f"--{it}" for it in options))])
     return bool(options)

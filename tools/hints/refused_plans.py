@@ -8,11 +8,12 @@ from typing import Callable, Dict, List, Optional, Pattern, Tuple
 
 from fleetplan.records import Record, names_in, record_of, rows_of
 from fleetplan.tables import HEADERS, NO_FLEET, SHIFTED, Header
-from fleetplan.texts import counted, listed, quietly, typed
+from fleetplan.texts import counted, listed, quietly
 from fleetplan.words import Call
 from hints.reading import schedule_of
-from hints.refused_tables import show, unknown
-from hints.saying import Hint
+from hints.refused_tables import show
+from hints.saying import Hint, Where
+from hints.table_faults import Told, unknown
 
 PLAN = "the-plan-and-its-kinds-1-to-5"
 JUDGE = "what-judge-prints"
@@ -41,17 +42,19 @@ OTHERS = {
 
 def explain(hint: Hint, command: str, call: Call, said: str) -> None:
     """Says what the line of a refused plan means."""
-    unread = UNREAD.fullmatch(said)
+    unread, plan = UNREAD.fullmatch(said), os.path.join(call.folder, "plan.csv")
     if unread and int(unread[2]) in MEANS:
         kind = int(unread[2])
-        record, told = quietly(look, call, int(unread[1]), kind) or (None, MEANS[kind])
-        show(hint, os.path.join(call.folder, "plan.csv"), record, [told])
+        record, told = quietly(look, call, int(unread[1]), kind) or (None, Told(MEANS[kind]))
+        show(hint, plan, record, [told])
         quietly(tell_option, hint, command, call, record, kind)
         hint.see(PLAN)
     for form, tell in TELLERS.items():
         found = form.fullmatch(said)
         if found:
-            for text in quietly(tell, call, *found.groups()) or [OTHERS[form]]:
+            first, *others = quietly(tell, call, *found.groups()) or [OTHERS[form]]
+            hint.fault(first, Where(plan, found=said))
+            for text in others:
                 hint.say(text)
             tell_solve(hint, command, call)
             hint.see(JUDGE)
@@ -60,7 +63,7 @@ def explain(hint: Hint, command: str, call: Call, said: str) -> None:
 def tell_solve(hint: Hint, command: str, call: Call) -> None:
     """Shows the words that find a legal plan."""
     hint.say("solve looks for a legal plan, which takes the place of this one:")
-    hint.show(typed([command, "solve", call.folder, *call.reading]))
+    hint.mend([command, "solve", call.folder, *call.reading])
 
 
 def header_of(call: Call) -> Header:
@@ -72,34 +75,37 @@ def tell_option(hint: Hint, command: str, call: Call, record: Record, kind: int)
     """Says which option of the words doesn't go with the plan."""
     if kind == 1 and tuple(record.texts) == SHIFTED:
         hint.say("it tells a shift of each flight, as a plan of a call with --windows:")
-        hint.show(typed([command, *call.with_more("--windows")]))
+        hint.mend([command, *call.with_more("--windows")])
     elif kind == 1 and tuple(record.texts) == HEADERS["plan.csv"]:
         hint.say("it tells no shifts, as a plan of a call without --windows. With --windows solve writes another one:")
-        hint.show(typed([command, "solve", call.folder, *call.reading]))
+        hint.mend([command, "solve", call.folder, *call.reading])
     elif kind == 4 and record.texts[1] == NO_FLEET and not call.has("optional"):
         hint.say("a flight is left out (-) by a plan of a call with --optional alone:")
-        hint.show(typed([command, *call.with_more("--optional")]))
+        hint.mend([command, *call.with_more("--optional")])
 
 
-def look(call: Call, number: int, kind: int) -> Optional[Tuple[Optional[Record], str]]:
+def look(call: Call, number: int, kind: int) -> Optional[Tuple[Optional[Record], Told]]:
     """Returns the record of the plan and what is wrong with it, or nothing where the file doesn't show that (any more)."""
     folder, header = call.folder, header_of(call)
     record = record_of(os.path.join(folder, "plan.csv"), number)
     flights = names_in(os.path.join(folder, "legs.csv"))
-    told = None
+    told = column = wanted = None
     if kind == 1 and record and tuple(record.texts) != header:
-        told = f"the header is {','.join(header)}"
+        told, wanted = f"the header is {','.join(header)}", ",".join(header)
     elif kind == 2 and record and len(record.fields) != len(header):
         told = f"it has {counted(len(record.fields), 'field')}, and {len(header)} are wanted: {','.join(header)}"
+        wanted = ",".join(header)
     elif kind == 3 and record and number - 2 < len(flights) and record.texts[0] != flights[number - 2]:
         told = f"here {flights[number - 2]} is due: plan.csv has the flights of legs.csv in their order"
+        column, wanted = header[0], flights[number - 2]
     elif kind == 4 and record:
         told = wrong_choice(call, *record.texts)
     elif kind == 5 and record and number - 1 > len(flights):
         told = f"legs.csv has {counted(len(flights), 'flight')}, and this record comes after the last of them"
     elif kind == 5 and record is None and number - 2 < len(flights):
         told = f"plan.csv ends where {flights[number - 2]} is due: legs.csv has {counted(len(flights), 'flight')}"
-    return (record, told) if told else None
+    found = None if record is None else record.texts[0] if column else str(record)
+    return (record, Told(told, column, found, wanted)) if told else None
 
 
 def wrong_choice(call: Call, flight: str, fleet: str, *shifts: str) -> Optional[str]:

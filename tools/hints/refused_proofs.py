@@ -7,10 +7,10 @@ import re
 import stat
 
 from fleetplan.tables import NO_FLEET
-from fleetplan.texts import plain, quietly, typed
+from fleetplan.texts import plain, quietly
 from fleetplan.words import Call
 from hints.reading import tell_unread
-from hints.saying import Hint
+from hints.saying import Hint, Where
 
 TEXT = "what-is-wrong-with-the-text-of-a-proof-kinds-1-to-9"
 RULES = "what-check-prints"
@@ -49,13 +49,13 @@ MOST_LINES = 1_000_000
 
 def explain(hint: Hint, command: str, call: Call, said: str) -> None:
     """Says what the line of a refused proof means, and shows the line of the text."""
-    unread, broken = UNREAD.fullmatch(said), BROKEN.fullmatch(said)
+    unread, broken, proof = UNREAD.fullmatch(said), BROKEN.fullmatch(said), os.path.join(call.folder, "proof.txt")
     if unread and int(unread[2]) in KINDS:
-        hint.say(KINDS[int(unread[2])])
+        hint.fault(KINDS[int(unread[2])], Where(proof, int(unread[1])))
         quietly(look, hint, command, call, *map(int, unread.groups()))
         hint.see(TEXT)
     elif broken and int(broken[2]) in RULE:
-        hint.say(RULE[int(broken[2])])
+        hint.fault(RULE[int(broken[2])], Where(proof, found=f"node {broken[1]}", wanted=f"rule {broken[2]}"))
         start = call.given["day-start"][0] if "day-start" in call.given else "03:00, where none is given"
         hint.say(f"a proof counts minutes from the day start that it was made for, and these words say {start}")
         if call.value("period") != 1:
@@ -83,7 +83,7 @@ def look(hint: Hint, command: str, call: Call, number: int, kind: int) -> None:
             tell_option(hint, command, call, "it tells shifts", "windows")
         elif kind == 1 and head in (FIRST, SECOND):
             hint.say("it tells no shifts, as a proof of a call without --windows. With --windows solve writes another one:")
-            hint.show(typed([command, "solve", call.folder, *call.reading]))
+            hint.mend([command, "solve", call.folder, *call.reading])
         elif kind == 7 and first in PAIRS and words[1:2] == [NO_FLEET.encode()] and not call.has("optional"):
             tell_option(hint, command, call, "it leaves a flight out (-)", "optional")
 
@@ -91,4 +91,4 @@ def look(hint: Hint, command: str, call: Call, number: int, kind: int) -> None:
 def tell_option(hint: Hint, command: str, call: Call, what: str, option: str) -> None:
     """Says that a proof is one of a call with an option."""
     hint.say(f"{what}, as a proof of a call with --{option}:")
-    hint.show(typed([command, *call.with_more(f"--{option}")]))
+    hint.mend([command, *call.with_more(f"--{option}")])

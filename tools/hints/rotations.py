@@ -6,7 +6,7 @@ import math
 import re
 from typing import Dict, List, Match, Optional, Sequence, Tuple
 
-from fleetplan.texts import listed, typed
+from fleetplan.texts import listed
 from fleetplan.words import MOST_MAINTENANCE, MOST_SEARCH, Call
 from hints.saying import Hint
 
@@ -31,7 +31,7 @@ def explain(hint: Hint, command: str, call: Call, answers: Answers) -> None:
         hint.say(f"{listed(fleets)}: {text}")
     days = more_days(answers, call)
     if days and call.command in ("solve", "tails", "due"):
-        hint.show(typed([command, *call.with_option("days", str(days))]))
+        hint.mend([command, *call.with_option("days", str(days))])
     if told:
         hint.see(SECTION)
 

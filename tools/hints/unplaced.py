@@ -7,7 +7,7 @@ import re
 from typing import Match, Optional
 
 from fleetplan.words import Call
-from hints.saying import Hint
+from hints.saying import Hint, Where
 
 SECTION = "what-due-prints"
 NUMBER = re.compile(r"([A-Z0-9]{1,8}): tails (\d+) of (\d+)")
@@ -20,7 +20,7 @@ def explain(hint: Hint, call: Call, said: str) -> None:
     for line in said.splitlines():
         told = of_number(NUMBER.fullmatch(line), path) or of_late(LATE.fullmatch(line))
         if told:
-            hint.say(told)
+            hint.fault(told, Where(path, found=line))
     hint.see(SECTION)
 
 

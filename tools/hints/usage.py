@@ -1,18 +1,14 @@
-"""What is said after words that are no call (status 2): which word is wrong, and the command's options; or a page of help."""
+"""Pages of help, and what is said of words that are no call: which one is wrong, and the options of the command."""
 
 from __future__ import annotations
 
-import os
-import re
-from typing import List, Optional
+from typing import List, Optional, Sequence
 
-from fleetplan.program import PROGRAM, TOP
 from fleetplan.texts import typed
-from fleetplan.words import COMMANDS, OPTIONS, Call
-from hints.saying import Hint
+from fleetplan.version import proving_kit, version
+from fleetplan.words import COMMANDS, OPTIONS, USAGE, Call
+from hints.saying import WHOLE, Hint, Where, put
 
-# What tools/build notes of the kit beside the program that it builds.
-KIT = os.path.join(os.path.dirname(PROGRAM), "kit")
 SECTION = "the-words-of-a-call"
 FILES = (
     ("stations.csv", "stations: code, extra minutes of a turn there, maintenance yes or no, room at night if limited"),
@@ -23,9 +19,15 @@ FILES = (
     ("windows.csv", "by how many minutes legs may depart later or earlier, and at what price: read with --windows"),
     ("optional.csv", "which legs may be left out, and at what price: read with --optional"),
     ("tails.csv", "the aircraft of fleets by name, and the nights left to each until maintenance: due reads it"),
+    ("settings.csv", "words that a call over the folder needn't say, as period,7 below word,value"),
     ("plan.csv", "a fleet for each flight: solve writes it"),
     ("proof.txt", "why no legal plan costs less: solve writes it"),
     ("rotation.csv", "in what order each fleet flies its flights: solve writes it"),
+)
+# The names of the environment that a call reads.
+VARIABLES = (
+    ("FLEETPLAN_HINTS", "0 is silence on standard error, 1 all hints also where that is no terminal, json each fault as an object of JSON"),
+    ("FLEETPLAN_BUILD", "1 has the program proved and built here, whatever release there is"),
 )
 HELPERS = (
     ("./fleetplan judge examples/two-legs --day-start 00:00", "judges the plan of an example"),
@@ -34,18 +36,45 @@ HELPERS = (
 )
 
 
+def answered(command: str, words: Sequence[str]) -> Optional[int]:
+    """Answers calls for help and for the version on standard output, and says what is wrong with words that are no call. It returns the
+    status, or None of a call, of which nothing is said."""
+    call = Call(words)
+    if call.wants_help:
+        print(help_for(command, call), end="", flush=True)
+        return 0
+    if not call.faults:
+        return None
+    print(USAGE, flush=True)
+    hint = Hint(2)
+    explain(hint, command, call)
+    put(hint)
+    return 2
+
+
+def help_for(command: str, call: Call) -> str:
+    """Returns what is shown where a call asks for help or for the version."""
+    if call.wants_version:
+        return f"{version()}\n"
+    hint, asked = Hint(), call.command or next((it for it in call.all[1:2] if it in COMMANDS), None)
+    if asked:
+        show_command(hint, command, asked)
+        hint.see(SECTION)
+    else:
+        show_page(hint, command)
+    return f"{USAGE}\n{hint.told(WHOLE)}"
+
+
 def explain(hint: Hint, command: str, call: Call) -> None:
-    """Says what is wrong with a call, or what the program can do where it was asked for help."""
+    """Says what is wrong with a call, and what the command takes."""
     if any("\udc80" <= letter <= "\udcff" for word in call.all for letter in word):
         hint.say("a word of this call isn't UTF-8")
         return
-    if call.wants_help and call.command is None:
-        show_page(hint, command)
-        return
     for fault in call.faults:
-        hint.say(fault.text)
+        hint.fault(fault.text, Where(found=fault.found, wanted=fault.wanted))
         if fault.mended and len(call.faults) == 1 and is_good(fault.mended):
-            hint.show(typed([command, *fault.mended]))
+            hint.mend([command, *fault.mended])
+    hint.brief(f"{typed([command, *([call.command] if call.command else []), '--help'])} says what there is")
     if call.command:
         show_command(hint, command, call.command)
     else:
@@ -62,7 +91,7 @@ def is_good(words: List[str]) -> bool:
 def show_command(hint: Hint, command: str, name: str) -> None:
     """Shows a command with its words and options."""
     own = COMMANDS[name]
-    hint.say(f"{typed([command])} {' '.join([name, *own.names])} {own.does}.")
+    hint.add(f"{typed([command])} {' '.join([name, *own.names])} {own.does}.")
     for word, (form, means, _) in own.words.items():
         hint.show(f"{word:<18} {means}: {form.form}")
     for option in own.options:
@@ -73,7 +102,7 @@ def show_command(hint: Hint, command: str, name: str) -> None:
 
 def show_commands(hint: Hint, command: str) -> None:
     """Shows all commands with what they do."""
-    hint.say("The commands:")
+    hint.add("The commands:")
     for name, own in COMMANDS.items():
         hint.show(f"{typed([command])} {' '.join([name, *own.names]):<22} {own.does}")
 
@@ -90,6 +119,9 @@ def show_page(hint: Hint, command: str) -> None:
     hint.say("The files in the folder DIR:")
     for name, holds in FILES:
         hint.show(f"{name:<14} {holds}")
+    hint.say("The environment:")
+    for name, does in VARIABLES:
+        hint.show(f"{name:<16} {does}")
     hint.say("A first call, and two helpers beside it:")
     for words, does in HELPERS:
         hint.show(f"{words:<54} {does}")
@@ -97,16 +129,3 @@ def show_page(hint: Hint, command: str) -> None:
     if kit:
         hint.say(f"Proved with {kit}.")
     hint.say("Read on in README.md, and in docs/formats.md of each file, word and refusal.")
-
-
-def proving_kit() -> Optional[str]:
-    """Returns the kit that proved the program, as it was noted when it was built, or else as the README names it."""
-    for file, form in ((KIT, r"(rattle-kit-.*)"), (os.path.join(TOP, "README.md"), r"Proved with `(.*?)`")):
-        try:
-            with open(file, encoding="utf-8") as it:
-                found = re.search(form, it.read())
-        except OSError:
-            continue
-        if found:
-            return found[1]
-    return None

@@ -8,6 +8,8 @@ from typing import Dict, Iterable, Iterator, List, Mapping, Optional, Sequence, 
 
 from fleetplan.forms import MOST_AIRCRAFT
 from fleetplan.records import text_of
+from fleetplan.settings import FIRST_DAY, NO, YES, renewed
+from fleetplan.settings import NAME as SETTINGS
 from fleetplan.tables import ASKED, DATED, HEADERS, LIMITED, SHIFTED
 from fleetplan.texts import some
 from fleetplan.times import clock
@@ -84,6 +86,11 @@ class Made:
             texts["plan.csv"] = text_of(SHIFTED, [(it.name, it.leg.type, 0) for it in self.flown])
         return {**self.tables(), **texts, "names.csv": text_of(NAMES, [named(it) for it in self.flown])}
 
+    def settings(self, folder: str) -> str:
+        """Returns the text of the settings by which the tables are read, where the folder's other ones stay."""
+        read = {option: YES if option in self.sources.asked else NO for option in ASKED}
+        return renewed(folder, {"period": str(self.dates.count), FIRST_DAY: iso(self.dates.first), **read})
+
     def leg(self, it: Flown) -> Tuple[object, ...]:
         """Returns the record of a leg, with its day where there are several."""
         day = [it.day] if self.dates.count > 1 else []
@@ -143,5 +150,5 @@ def make_tables(schedule: Schedule, folder: str, dates: Dates, choice: Choice, s
     """Writes the tables of some dates into a folder, and returns what is told of them."""
     made = Made(schedule, dates, choice, sources)
     older = [it for option, it in ASKED.items() if option not in sources.asked and os.path.lexists(os.path.join(folder, it))]
-    write_tables(folder, made.texts())
+    write_tables(folder, {**made.texts(), SETTINGS: made.settings(folder)})
     return [*made.told(), *made.told_of_asked(), *(f"{it} stays in {folder} as it was" for it in older)]

@@ -9,6 +9,7 @@ from typing import Dict, List, Optional, Sequence
 
 from fleetplan.errors import Unread
 from fleetplan.records import records_of
+from fleetplan.settings import Settings
 from fleetplan.tables import MOST_DAYS, TABLES
 from fleetplan.words import Call
 from steps.changes import FLAG_OF, read_change
@@ -46,16 +47,17 @@ class Scenario:
         return path if path and os.path.lexists(path) else None
 
 
-def scenarios_of(path: str) -> Dict[str, Scenario]:
-    """Returns the scenarios of a file by their names, in its order, or raises Unread with the record that is wrong."""
-    found = {}
+def scenarios_of(path: str, base: Optional[str] = None) -> Dict[str, Scenario]:
+    """Returns the scenarios of a file by their names, in its order, or raises Unread with the record that is wrong. What their words don't
+    say the settings of the base tables do, where there is such a folder."""
+    found, settings = {}, Settings(base) if base else None
     for record in records_of(path):
         if record.number == 1:
             if tuple(record.texts) != HEADER:
                 raise Unread.at(path, 1, f"{record}, it should be {','.join(HEADER)}")
             continue
         try:
-            scenario = scenario_of(record.texts, os.path.dirname(path))
+            scenario = scenario_of(record.texts, os.path.dirname(path), settings)
             if scenario.name in found:
                 raise Unread(f"{scenario.name} stands twice")
         except Unread as error:
@@ -66,7 +68,7 @@ def scenarios_of(path: str) -> Dict[str, Scenario]:
     return found
 
 
-def scenario_of(fields: Sequence[str], beside: str) -> Scenario:
+def scenario_of(fields: Sequence[str], beside: str, settings: Optional[Settings] = None) -> Scenario:
     """Returns the scenario of a record. Its folder counts from the file's own one."""
     if len(fields) != len(HEADER):
         raise Unread(f"it has {len(fields)} fields, it should have {len(HEADER)}")
@@ -82,7 +84,14 @@ def scenario_of(fields: Sequence[str], beside: str) -> Scenario:
         read_change(it)
     if is_one_day(texts) and period_in(words_of(words)):
         raise Unread("only-day leaves a schedule of one day, so the words may not have --period")
-    return Scenario(name, with_flags(words_of(words), texts), place, texts)
+    whole = [*words_of(words), *(added_to(words_of(words), texts, settings) if settings else [])]
+    return Scenario(name, with_flags(whole, texts), place, texts)
+
+
+def added_to(words: Sequence[str], texts: Sequence[str], settings: Settings) -> List[str]:
+    """Returns the words that settings add to those of a scenario. Where one day alone is wanted no period is added."""
+    call = Call(["solve", ".", *words])
+    return settings.given(it for it in call.own.options if it not in call.given and not (it == "period" and is_one_day(texts)))
 
 
 def is_one_day(texts: Sequence[str]) -> bool:

@@ -1,0 +1,1 @@
+"""The calls that .ci/calls compares with the program."""

@@ -1,0 +1,38 @@
+"""How each tool begins and ends: its page of help, a pipe whose reader goes, and Ctrl-C."""
+
+from __future__ import annotations
+
+import os
+import signal
+import sys
+from typing import Callable, List, NoReturn, Optional
+
+HELP = ("-h", "--help")
+
+
+def run(main: Callable[[List[str]], int], page: Optional[str]) -> NoReturn:
+    """Calls a tool with its words, and ends with its status. Where they ask for help its page, if it has one here, stands on standard output
+    instead. Where the reader of a pipe has gone, and at a Ctrl-C, it ends by the signal, silently."""
+    signal.signal(signal.SIGPIPE, signal.SIG_DFL)
+    words = sys.argv[1:]
+    try:
+        if page and asks_for_help(words):
+            print(page.strip())
+            ended = 0
+        else:
+            ended = main(words)
+        sys.stdout.flush()
+    except KeyboardInterrupt:
+        signal.signal(signal.SIGINT, signal.SIG_DFL)
+        os.kill(os.getpid(), signal.SIGINT)
+    except OSError as error:
+        print(f"{os.path.basename(sys.argv[0])}: {error.filename or 'the output'}: {error.strerror}", file=sys.stderr)
+        ended = 1
+    sys.stderr.flush()
+    # What couldn't be written is not tried once more.
+    os._exit(ended)
+
+
+def asks_for_help(words: List[str]) -> bool:
+    """Returns whether a word before `--` asks for help."""
+    return any(it in HELP for it in words[: words.index("--") if "--" in words else None])
