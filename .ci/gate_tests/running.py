@@ -1,16 +1,20 @@
-""".ci/run, with commands in the place of rt and of the scripts: its status is 0 only where each part passed and counted enough."""
+""".ci/run, with commands in the place of rt, of the scripts and of pytest: its status is 0 only where each part passed and counted enough."""
 
 import os
 import shutil
 from pathlib import Path
-from typing import Dict, NamedTuple, Tuple
+from typing import Dict, List, NamedTuple, Tuple
 
 from gate_tests.scratch import TOP, Ended, lay, lay_command, run, scratch
 from gate_tests.tally import Tally
 
-SCRIPTS = ("lint", "promises", "documents", "gate", "release", "examples", "terminal", "ssim", "scenarios", "package")
-LEAST = "# what is wanted\n" + "".join(f"{name} 3\n" for name in ("rt", *SCRIPTS))
-SUM = f"{4 + 3 * len(SCRIPTS)} passed, 0 failed"
+SCRIPTS = ("promises", "documents", "gate", "release", "examples", "terminal", "ssim", "scenarios", "package")
+# The parts of pytest's tests.
+TESTS = ("lint", "more_of_it")
+LEAST = "# what is wanted\n" + "".join(f"{name} 3\n" for name in ("rt", *SCRIPTS, *TESTS))
+ALL = 4 + 3 * len(SCRIPTS) + 3 * len(TESTS)
+SUM = f"{ALL} passed, 0 failed"
+CALLED = {"rt": "ci", **dict.fromkeys(SCRIPTS, ""), "setup": "", "pytest": ""}
 # A command that ends by a signal.
 KILLED = "kill -9 $$"
 
@@ -28,7 +32,7 @@ def says(line: str, status: int = 0) -> str:
     return f"echo '{line}'; exit {status}"
 
 
-ALL_BUT_ONE = 4 + 3 * (len(SCRIPTS) - 1)
+ALL_BUT_ONE = ALL - 3
 WAYS: Dict[str, Way] = {
     "prints nothing": Way("exit 0", ("0 passed, 1 failed", 1), (f"{ALL_BUT_ONE} passed, 1 failed", 1)),
     "prints nothing, and fails": Way("exit 7", ("0 passed, 1 failed", 7), (f"{ALL_BUT_ONE} passed, 1 failed", 7)),
@@ -55,7 +59,6 @@ WAYS: Dict[str, Way] = {
 }
 LEASTS = {
     "lacks a part": LEAST.replace("ssim 3\n", ""),
-    "names one part more": f"{LEAST}more 3\n",
     "has no number": LEAST.replace("ssim 3", "ssim"),
     "has a number below 0": LEAST.replace("ssim 3", "ssim -1"),
     "is empty": "",
@@ -71,6 +74,14 @@ def lay_out(top: Path) -> None:
     lay_part(top, "rt", says("NAME4 passed, 0 failed"))
     for name in SCRIPTS:
         lay_part(top, name, says("NAME3 passed, 0 failed"))
+    lay_part(top, "setup", "exit 0")
+    lay_tests(top, *(f"{name}: 3 passed, 0 failed" for name in TESTS))
+
+
+def lay_tests(top: Path, *lines: str, status: int = 0) -> None:
+    """Lays what stands in the place of pytest: it prints lines behind others, and ends with a status."""
+    text = "import sys\nopen('called', 'a').write('pytest ' + ' '.join(sys.argv[1:]) + chr(10))\nprint('. [100%]')\n"
+    lay(top, {"pytest.py": text + "".join(f"print({it!r})\n" for it in lines) + f"sys.exit({status})\n"})
 
 
 def lay_part(top: Path, name: str, does: str) -> None:
@@ -100,7 +111,7 @@ def called(top: Path) -> Dict[str, str]:
 def try_ways(tally: Tally, top: Path) -> None:
     """Wants each way in which a part ends to have its last line and its status."""
     tally.equal(".ci/run where all passes", (SUM, 0), end_of(call(top)))
-    tally.equal(".ci/run: its parts", {"rt": "ci", **dict.fromkeys(SCRIPTS, "")}, called(top))
+    tally.equal(".ci/run: its parts", CALLED, called(top))
     for name, way in WAYS.items():
         lay_part(top, "rt", way.does)
         tally.equal(f".ci/run where rt ci {name}", way.rt, end_of(call(top)))
@@ -109,10 +120,27 @@ def try_ways(tally: Tally, top: Path) -> None:
         for script in (SCRIPTS[0], SCRIPTS[-1]):
             lay_part(top, script, way.does)
             tally.equal(f".ci/run where {script} {name}", way.script, end_of(call(top)))
-            tally.equal(f".ci/run where {script} {name}: all follow", {"rt", *SCRIPTS}, set(called(top)))
+            tally.equal(f".ci/run where {script} {name}: all follow", {*CALLED}, set(called(top)))
             lay_part(top, script, says("NAME3 passed, 0 failed"))
     lay_part(top, "ssim", "printf 'NAME3 passed, 0 failed'")
     tally.equal(".ci/run where a last line has no end", (SUM, 0), end_of(call(top)))
+
+
+def try_tests(tally: Tally, top: Path) -> None:
+    """Wants each part of pytest's tests to be counted, each that .ci/least names to be there, and each that is there to be named."""
+    lint = "lint: 3 passed, 0 failed"
+    cases: List[Tuple[str, List[str], int, Tuple[str, int]]] = [
+        ("has failed in one part", [lint, "more_of_it: 1 passed, 2 failed"], 1, (f"{ALL - 2} passed, 2 failed", 1)),
+        ("lacks a part", [lint], 0, (f"{ALL - 3} passed, 1 failed", 1)),
+        ("has too few in a part", [lint, "more_of_it: 2 passed, 0 failed"], 0, (f"{ALL - 1} passed, 1 failed", 1)),
+        ("has a part that isn't named", [lint, "more_of_it: 3 passed, 0 failed", "new: 5 passed, 0 failed"], 0, (f"{ALL + 5} passed, 1 failed", 1)),
+        ("tells a part before other lines", ["more_of_it: 3 passed, 0 failed", "", lint], 0, (f"{ALL - 3} passed, 1 failed", 1)),
+        ("isn't there", [], 1, (f"{ALL - 6} passed, 3 failed", 1)),
+        ("counts no failure, and fails", [lint, "more_of_it: 3 passed, 0 failed"], 4, (f"{ALL} passed, 1 failed", 4)),
+    ]
+    for name, lines, status, wanted in cases:
+        lay_tests(top, *lines, status=status)
+        tally.equal(f".ci/run where pytest {name}", wanted, end_of(call(top)))
 
 
 def try_missing(tally: Tally, top: Path) -> None:
@@ -164,7 +192,7 @@ def try_places(tally: Tally, top: Path) -> None:
 def try_words(tally: Tally, top: Path) -> None:
     """Wants `no-preview` to reach the script that takes it, and other words to be refused."""
     tally.equal(".ci/run no-preview", (SUM, 0), end_of(call(top, "no-preview")))
-    tally.equal(".ci/run no-preview: its parts", {"rt": "ci", **dict.fromkeys(SCRIPTS, ""), "terminal": "no-preview"}, called(top))
+    tally.equal(".ci/run no-preview: its parts", {**CALLED, "terminal": "no-preview"}, called(top))
     for words in (["preview"], ["no-preview", "no-preview"], ["--anew"]):
         tally.equal(f".ci/run {' '.join(words)}", ("", 2), end_of(call(top, *words)))
     tally.equal(".ci/run with wrong words: nothing is run", False, (top / "called").exists())
@@ -187,7 +215,7 @@ def try_jobs(tally: Tally, top: Path) -> None:
 
 def try_all(tally: Tally) -> None:
     """Tries all of it."""
-    for part in (try_ways, try_missing, try_least, try_places, try_words, try_jobs):
+    for part in (try_ways, try_tests, try_missing, try_least, try_places, try_words, try_jobs):
         with scratch() as top:
             lay_out(top)
             part(tally, top)

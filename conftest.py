@@ -1,0 +1,89 @@
+"""What all tests share: the program that they try, and the count of each part.
+
+usage: /usr/bin/python3 -B -m pytest [--program PATH] [-k NAME] [FILE ..]
+
+The tests stand in .ci: in files `test_*.py`, and in folders `*_tests` of such files. `.ci/run` calls all of them behind `rt ci`. setup.cfg
+has pytest's settings. The last lines are `NAME: N passed, M failed`, one for each part: a file or a folder of tests. .ci/least has the least
+number of each. A test that is skipped is told, and counts as neither."""
+
+from __future__ import annotations
+
+import os
+import re
+import tempfile
+from collections import Counter
+from pathlib import Path
+from typing import Any
+
+import pytest
+
+TOP = Path(__file__).resolve().parent
+BUILT = TOP / "crates" / "fleetplan" / "out" / "fleetplan"
+# What pytest and hypothesis would keep in the clone goes elsewhere.
+os.environ["HYPOTHESIS_STORAGE_DIRECTORY"] = os.path.join(tempfile.gettempdir(), "fleetplan-hypothesis")
+
+
+def pytest_addoption(parser: Any) -> None:
+    """Adds the word by which a program is named."""
+    parser.addoption("--program", metavar="PATH", help="the program under test (else what rt ci left in crates/fleetplan/out)")
+
+
+def pytest_configure(config: Any) -> None:
+    """Begins to count."""
+    settle_hypothesis()
+    if not hasattr(config, "workerinput"):
+        config.pluginmanager.register(Counts(config), "fleetplan-counts")
+
+
+def settle_hypothesis() -> None:
+    """Has hypothesis try the same texts in each call, and keep nothing. Where it lacks, the tests that import it fail."""
+    try:
+        from hypothesis import settings
+    except ImportError:
+        return
+    settings.register_profile("fleetplan", derandomize=True, database=None, deadline=None)
+    settings.load_profile("fleetplan")
+
+
+@pytest.fixture(scope="session")
+def program(request: Any) -> Path:
+    """The program under test. The tools call it too, by the environment's FLEETPLAN. A test that asks for it fails where it isn't there."""
+    found = Path(request.config.getoption("--program", None) or BUILT).resolve()
+    if not os.access(found, os.X_OK) or found.is_dir():
+        pytest.fail(f"there is no program {found}: --program PATH names one, and `rt ci fleetplan` builds it", pytrace=False)
+    os.environ["FLEETPLAN"] = str(found)
+    return found
+
+
+def part_of(place: str) -> str:
+    """Returns the name of the part that a test belongs to: of its folder or its file below .ci, without `test`."""
+    names = place.partition("::")[0].split("/")
+    own = names[1] if names[0] == ".ci" and len(names) > 1 else names[0]
+    return re.sub(r"^test_|_tests$|\.py$", "", re.sub(r"\.py$", "", own))
+
+
+class Counts:
+    """How many tests of each part passed and failed. What can't be read or prepared has failed."""
+
+    def __init__(self, config: Any) -> None:
+        self.config = config
+        self.passed: Counter[str] = Counter()
+        self.failed: Counter[str] = Counter()
+
+    def pytest_runtest_logreport(self, report: Any) -> None:
+        """Counts a test."""
+        if report.failed:
+            self.failed[part_of(report.nodeid)] += 1
+        elif report.passed and report.when == "call":
+            self.passed[part_of(report.nodeid)] += 1
+
+    def pytest_collectreport(self, report: Any) -> None:
+        """Counts a file that can't be read."""
+        if report.failed:
+            self.failed[part_of(report.nodeid)] += 1
+
+    def pytest_unconfigure(self) -> None:
+        """Prints the counts."""
+        told = self.config.pluginmanager.getplugin("terminalreporter")
+        for it in sorted({*self.passed, *self.failed}):
+            told.write_line(f"{it}: {self.passed[it]} passed, {self.failed[it]} failed")
