@@ -13,12 +13,13 @@ import re
 import tempfile
 from collections import Counter
 from pathlib import Path
-from typing import Any
+from typing import Any, Iterator
 
 import pytest
 
 TOP = Path(__file__).resolve().parent
 BUILT = TOP / "crates" / "fleetplan" / "out" / "fleetplan"
+MEMORY = "/dev/shm" if os.access("/dev/shm", os.W_OK) else None
 # What pytest and hypothesis would keep in the clone goes elsewhere.
 os.environ["HYPOTHESIS_STORAGE_DIRECTORY"] = os.path.join(tempfile.gettempdir(), "fleetplan-hypothesis")
 
@@ -53,6 +54,13 @@ def program(request: Any) -> Path:
         pytest.fail(f"there is no program {found}: --program PATH names one, and `rt ci fleetplan` builds it", pytrace=False)
     os.environ["FLEETPLAN"] = str(found)
     return found
+
+
+@pytest.fixture
+def scratch() -> Iterator[Path]:
+    """An empty folder that goes afterwards. It lies in memory, where there is such a place: many small files are written."""
+    with tempfile.TemporaryDirectory(prefix="fleetplan-", dir=MEMORY) as folder:
+        yield Path(folder)
 
 
 def part_of(place: str) -> str:

@@ -8,7 +8,7 @@ from typing import Dict, List, NamedTuple, Tuple
 from gate_tests.scratch import TOP, Ended, lay, lay_command, run, scratch
 from gate_tests.tally import Tally
 
-SCRIPTS = ("promises", "documents", "gate", "release", "examples", "terminal", "ssim", "scenarios", "package")
+SCRIPTS = ("promises", "documents", "gate", "release", "examples", "terminal", "package")
 # The parts of pytest's tests.
 TESTS = ("lint", "more_of_it")
 LEAST = "# what is wanted\n" + "".join(f"{name} 3\n" for name in ("rt", *SCRIPTS, *TESTS))
@@ -58,9 +58,9 @@ WAYS: Dict[str, Way] = {
     ),
 }
 LEASTS = {
-    "lacks a part": LEAST.replace("ssim 3\n", ""),
-    "has no number": LEAST.replace("ssim 3", "ssim"),
-    "has a number below 0": LEAST.replace("ssim 3", "ssim -1"),
+    "lacks a part": LEAST.replace("package 3\n", ""),
+    "has no number": LEAST.replace("package 3", "package"),
+    "has a number below 0": LEAST.replace("package 3", "package -1"),
     "is empty": "",
 }
 
@@ -122,7 +122,7 @@ def try_ways(tally: Tally, top: Path) -> None:
             tally.equal(f".ci/run where {script} {name}", way.script, end_of(call(top)))
             tally.equal(f".ci/run where {script} {name}: all follow", {*CALLED}, set(called(top)))
             lay_part(top, script, says("NAME3 passed, 0 failed"))
-    lay_part(top, "ssim", "printf 'NAME3 passed, 0 failed'")
+    lay_part(top, "package", "printf 'NAME3 passed, 0 failed'")
     tally.equal(".ci/run where a last line has no end", (SUM, 0), end_of(call(top)))
 
 
@@ -145,9 +145,9 @@ def try_tests(tally: Tally, top: Path) -> None:
 
 def try_missing(tally: Tally, top: Path) -> None:
     """Wants a part that can't be started to count as failed."""
-    (top / ".ci" / "ssim").chmod(0o644)
+    (top / ".ci" / "package").chmod(0o644)
     tally.equal(".ci/run where a script is no command", (f"{ALL_BUT_ONE} passed, 1 failed", 127), end_of(call(top)))
-    (top / ".ci" / "ssim").unlink()
+    (top / ".ci" / "package").unlink()
     tally.equal(".ci/run where a script is missing", (f"{ALL_BUT_ONE} passed, 1 failed", 127), end_of(call(top)))
     plain = os.pathsep.join((os.path.dirname(shutil.which("python3") or ""), "/usr/bin", "/bin"))
     ended = run(top, shutil.which("bash") or "bash", ".ci/run", PATH=plain)
@@ -177,9 +177,9 @@ def try_places(tally: Tally, top: Path) -> None:
     tally.equal(".ci/run by a link", (SUM, 0), end_of(run(other, "../link", PATH=path)))
     called(top)
     # No file can be written, as on a full disk: what is counted doesn't hang on one.
-    lay_command(top / ".ci" / "ssim", f"#!/bin/sh\n{says('ssim: 9 passed, 2 failed')}\n")
+    lay_command(top / ".ci" / "package", f"#!/bin/sh\n{says('package: 9 passed, 2 failed')}\n")
     lay_command(top / "bin" / "rt", f"#!/bin/sh\n{says('4 passed, 0 failed')}\n")
-    for name in (it for it in SCRIPTS if it != "ssim"):
+    for name in (it for it in SCRIPTS if it != "package"):
         lay_command(top / ".ci" / name, f"#!/bin/sh\n{says(f'{name}: 3 passed, 0 failed')}\n")
     ended = run(top, "sh", "-c", "ulimit -f 0; .ci/run | cat; exit 0", PATH=path)
     tally.equal(".ci/run with a full disk", f"{ALL_BUT_ONE + 9} passed, 2 failed", end_of(ended)[0])

@@ -1,5 +1,7 @@
 """The count of cases."""
 
+from typing import Optional
+
 
 class Tally:
     """The cases that passed and failed."""
@@ -14,6 +16,10 @@ class Tally:
         else:
             self.failed += 1
             print(f"{name}\n{why}", flush=True)
+
+    def note(self, name: str, why: Optional[str]) -> None:
+        """Counts a case, and prints why it failed, where it did."""
+        self.want(name, why is None, str(why))
 
     def equal(self, name: str, wanted: object, came: object) -> None:
         """Counts a case in which something is to come."""

@@ -1,1 +1,1 @@
-"""The cases of .ci/scenarios."""
+"""Tests of tools/scenarios."""

@@ -1,1 +1,1 @@
-"""The cases of .ci/ssim."""
+"""Tests of tools/ssim."""

@@ -9,9 +9,11 @@ import subprocess
 from typing import List, Optional, Sequence, Tuple
 
 from pathlib import Path
-from ssim_tests.plans import DATE
-from ssim_tests.shifts import times_by
-from ssim_tests.trying import EXAMPLE, Tally, call, records, scratch
+
+import pytest
+from ssim_tests.test_plans import DATE
+from ssim_tests.test_shifts import times_by
+from ssim_tests.trying import EXAMPLE, call, records
 
 # Two flights that are paid for their ten minutes, and two that cost less not flown.
 WINDOWS = "flight,shift,extra\nZZ300,10,-500\nZZ301,10,-500\nZZ302,-5,10\nZZ302,5,10\nZZ200B,15,40\n"
@@ -46,33 +48,25 @@ def cost_of(lines: Sequence[str]) -> int:
     return int(lines[0].partition("legal: cost ")[2])
 
 
-def try_solved(tally: Tally, option: str, period: Sequence[str], words: Sequence[str]) -> None:
-    """Makes tables, has them solved, writes the plan back, and looks at the tables of the new file."""
-    name = f"solved {option} {words}"
+@pytest.mark.usefixtures("program")
+@pytest.mark.parametrize("option, period", [("--date", ()), ("--week", ("--period", "7"))])
+@pytest.mark.parametrize("words", [(), ("--whole-season",)], ids=["dates", "season"])
+def test_solved(option: str, period: Sequence[str], words: Sequence[str], scratch: Path) -> None:
+    """Tables that are made and solved, and whose plan is written back, come out of the new file as planned."""
     given = ["--stations", EXAMPLE / "stations.csv", "--costs", EXAMPLE / "prices.csv"]
-    with scratch() as folder:
-        (folder / "windows").write_text(WINDOWS, encoding="ascii")
-        (folder / "optional").write_text(OPTIONAL, encoding="ascii")
-        file, day, new, again = EXAMPLE / "season.ssim", folder / "day", folder / "new", folder / "again"
-        asked = ["--windows", folder / "windows", "--optional", folder / "optional"]
-        made = call("tables", file, day, option, DATE, *given, *asked)
-        status, lines = run("solve", day, *period, "--windows", "--optional")
-        tally.equal(f"{name}: made and solved", (0, 0, "outcome: optimal"), (made[0], status, lines[0] if lines else made[1]))
-        plan = Plan(day)
-        wanted = plan.has("ZZ30[01]", None, 10), plan.has("ZZ32[45]", "-", 0)
-        tally.equal(f"{name}: what pays is planned", (True, True), wanted)
-        judged, before = run("judge", day, *period, "--windows", "--optional")
-        status, told = call("plan", file, day, new, *words)
-        tally.equal(f"{name}: written", (0, 0), (judged, status))
-        call("tables", new, again, option, DATE, *given, "--fleets", day / "fleets.csv")
-        tally.equal(f"{name}: legs depart as planned", times_by(day, plan), times_by(again))
-        judged, after = run("judge", again, *period)
-        tally.equal(f"{name}: flown by the same aircraft", (0, before[1:]), (judged, after[1:]))
-        tally.equal(f"{name}: at the same cost", cost_of(before), cost_of(after) + plan.extra + plan.skip)
-
-
-def try_all(tally: Tally) -> None:
-    """Tries all cases."""
-    for option, period in (("--date", ()), ("--week", ("--period", "7"))):
-        for words in ((), ("--whole-season",)):
-            try_solved(tally, option, period, words)
+    (scratch / "windows").write_text(WINDOWS, encoding="ascii")
+    (scratch / "optional").write_text(OPTIONAL, encoding="ascii")
+    file, day, new, again = EXAMPLE / "season.ssim", scratch / "day", scratch / "new", scratch / "again"
+    made = call("tables", file, day, option, DATE, *given, "--windows", scratch / "windows", "--optional", scratch / "optional")
+    status, lines = run("solve", day, *period, "--windows", "--optional")
+    assert (made[0], status, lines[:1]) == (0, 0, ["outcome: optimal"])
+    plan = Plan(day)
+    assert plan.has("ZZ30[01]", None, 10) and plan.has("ZZ32[45]", "-", 0), "what pays is planned"
+    judged, before = run("judge", day, *period, "--windows", "--optional")
+    status, told = call("plan", file, day, new, *words)
+    assert (judged, status) == (0, 0)
+    call("tables", new, again, option, DATE, *given, "--fleets", day / "fleets.csv")
+    assert times_by(again) == times_by(day, plan), "legs depart as planned"
+    judged, after = run("judge", again, *period)
+    assert (judged, after[1:]) == (0, before[1:]), "flown by the same aircraft"
+    assert cost_of(after) + plan.extra + plan.skip == cost_of(before)

@@ -7,9 +7,11 @@ import random
 from typing import Any, Dict, List, Optional, Sequence, Tuple
 
 from pathlib import Path
+
+import pytest
 from schedule_lines import carrier, header, leg, numbered, segment, trailer, whole
-from ssim_tests.plans import DATE, LATER, ONE, THREE, TWO, WAY, file_of, plan_text, planned
-from ssim_tests.trying import EXAMPLE, Tally, call, records, scratch, standing
+from ssim_tests.test_plans import DATE, LATER, ONE, THREE, TWO, WAY, every_day, file_of, plan_text, planned
+from ssim_tests.trying import EXAMPLE, call, records, standing
 
 DAY = 1440
 # Plans that are drawn, each by a number.
@@ -123,21 +125,16 @@ REFUSED = {
 }  # fmt: skip
 
 
-def try_cases(tally: Tally) -> None:
-    """Plans and the records that they change."""
-    weeks = {
-        name: (legs, {f"{flight}D{day}": it for (flight, days), it in changes.items() for day in days}, words, wanted)
-        for name, (legs, changes, words, wanted) in WEEKS.items()
-    }
-    for name, (legs, changes, words, wanted) in {**CASES, **weeks}.items():
-        option = "--week" if name in weeks else "--date"
-        with scratch() as folder:
-            fleets, shifts = {flight: it[0] for flight, it in changes.items()}, {flight: it[1] for flight, it in changes.items()}
-            lines = planned(folder, file_of(*legs, OTHER), fleets, words, option, shifts)
-            tally.equal(f"a plan: {name}", [*wanted, short(OTHER)], [short(it) for it in lines if it[0] in "34"])
-            tally.equal(f"a plan: {name}, counted", numbered([f"{it[:194]}000000" for it in lines]), lines)
-            why = again(folder, folder / "new", option)
-            tally.note(f"a plan: {name}, written again", why)
+@pytest.mark.parametrize("name", [*CASES, *WEEKS])
+def test_records(name: str, scratch: Path) -> None:
+    """A plan changes these records, their serial numbers go on, and the new file's plan as filed leaves it as it is."""
+    legs, changes, words, wanted = CASES[name] if name in CASES else (WEEKS[name][0], every_day(WEEKS[name][1]), *WEEKS[name][2:])
+    option = "--week" if name in WEEKS else "--date"
+    fleets, shifts = {flight: it[0] for flight, it in changes.items()}, {flight: it[1] for flight, it in changes.items()}
+    lines = planned(scratch, file_of(*legs, OTHER), fleets, words, option, shifts)
+    assert [short(it) for it in lines if it[0] in "34"] == [*wanted, short(OTHER)]
+    assert lines == numbered([f"{it[:194]}000000" for it in lines])
+    assert not again(scratch, scratch / "new", option)
 
 
 def again(folder: Path, new: Path, option: str) -> Optional[str]:
@@ -149,35 +146,33 @@ def again(folder: Path, new: Path, option: str) -> Optional[str]:
     return None if (folder / "same").read_bytes() == new.read_bytes() else "the file is another"
 
 
-def try_whole(tally: Tally) -> None:
+def test_none_left(scratch: Path) -> None:
     """A carrier none of whose legs is flown, and what is told."""
     first = leg("ZZ", 1, WAY, "320", "1")
     lines = whole("ZZ", [first, segment(first, "010", "XY 1"), leg("ZZ", 2, "LHR 2350 +0000 ZRH 0240 +0100", "E90", "1", shifts="01")])
-    with scratch() as folder:
-        new = planned(folder, lines, {"ZZ1": "-", "ZZ2": "-"}, ("--whole-season",))
-        _, said = call("plan", folder / "season", folder / "day", folder / "new", "--whole-season")
-        tally.equal("what is told of legs left out", NONE_LEFT, said)
-        tally.equal("no leg is left", "1000020000" + "50000", "".join(it[0] for it in new))
-        tally.equal("no leg is left, counted", numbered(new), new)
-        came = call("tables", folder / "new", folder / "again", "--date", DATE, "--fleets", folder / "fleets")
-        tally.equal("no leg is left, read", (0, []), (came[0], records(folder / "again", "legs.csv")))
-        (folder / "day" / "plan.csv").write_text("flight,fleet,shift\nZZ1,-,0\nZZ2,320,10\n", encoding="ascii")
-        _, said = call("plan", folder / "season", folder / "day", folder / "new")
-        tally.equal("what is told of shifts", TOLD, said)
+    new = planned(scratch, lines, {"ZZ1": "-", "ZZ2": "-"}, ("--whole-season",))
+    assert call("plan", scratch / "season", scratch / "day", scratch / "new", "--whole-season")[1] == NONE_LEFT
+    assert "".join(it[0] for it in new) == "1000020000" + "50000"
+    assert new == numbered(new)
+    assert call("tables", scratch / "new", scratch / "again", "--date", DATE, "--fleets", scratch / "fleets")[0] == 0
+    assert not records(scratch / "again", "legs.csv")
+    (scratch / "day" / "plan.csv").write_text("flight,fleet,shift\nZZ1,-,0\nZZ2,320,10\n", encoding="ascii")
+    assert call("plan", scratch / "season", scratch / "day", scratch / "new")[1] == TOLD
 
 
-def try_modes(tally: Tally) -> None:
+OTHER_DAY = ", 1 of them on another day in UTC"
+
+
+@pytest.mark.parametrize("mode, minutes, wanted, over", [
+    ("L", 20, "00010101 30NOV2630NOV261 00100010 01100110 11 320", ""),
+    ("U", 20, "00010101 30NOV2630NOV261 00100010 01100110 11 320", OTHER_DAY),
+    ("L", 70, "00010101 30NOV2630NOV261 01000100 02000200 11 320", OTHER_DAY),
+])  # fmt: skip
+def test_midnight(mode: str, minutes: int, wanted: str, over: str, scratch: Path) -> None:
     """Midnight is that of the file's time mode, and the day that of the departure in UTC."""
-    for mode, minutes, wanted, over in (
-        ("L", 20, "00010101 30NOV2630NOV261 00100010 01100110 11 320", ""),
-        ("U", 20, "00010101 30NOV2630NOV261 00100010 01100110 11 320", ", 1 of them on another day in UTC"),
-        ("L", 70, "00010101 30NOV2630NOV261 01000100 02000200 11 320", ", 1 of them on another day in UTC"),
-    ):
-        with scratch() as folder:
-            lines = planned(folder, numbered([header(), carrier("ZZ", mode), NIGHT, trailer("ZZ")]), {}, shifts={"ZZ1": minutes})
-            _, told = call("plan", folder / "season", folder / "day", folder / "new")
-            came = short(lines[2]), told.splitlines()[1]
-            tally.equal(f"{minutes} minutes in the time mode {mode}", (wanted, f"ssim: 1 legs depart at another time{over}"), came)
+    lines = planned(scratch, numbered([header(), carrier("ZZ", mode), NIGHT, trailer("ZZ")]), {}, shifts={"ZZ1": minutes})
+    _, told = call("plan", scratch / "season", scratch / "day", scratch / "new")
+    assert (short(lines[2]), told.splitlines()[1]) == (wanted, f"ssim: 1 legs depart at another time{over}")
 
 
 NONE_LEFT = """\
@@ -194,36 +189,42 @@ ssim: onward flights (bytes 138 to 146), leg sequences and data of segments stay
 """
 
 
-def try_refusals(tally: Tally) -> None:
-    """Plans that can't be written back: one line, and no new file."""
-    for row, line in REFUSED.items():
-        with scratch() as folder:
-            planned(folder, file_of(ONE, TWO), {}, shifts={})
-            (folder / "new").unlink()
-            (folder / "day" / "plan.csv").write_text(f"flight,fleet,shift\n{row}\nZZ2,320,0\n", encoding="ascii")
-            before = standing(folder)
-            status, told = call("plan", folder / "season", folder / "day", folder / "new")
-            came = status, told.replace(f"{folder}/", ""), standing(folder) == before
-            tally.equal(f"plan: {row}", (6, f"ssim: day/plan.csv record 2: {line}\n", True), came)
-    with scratch() as folder:
-        lines = planned(folder, file_of(leg("ZZ", 1, WAY, "320", "1", MONDAY)), {}, shifts={"ZZ1": 10})
-        status, told = call("plan", folder / "new", folder / "day", folder / "newer")
-        line = "ZZ1 is ZRH 07:10 LHR 10:00 by line 3 of new, it should be ZRH 07:00 LHR 09:50 as in legs.csv, in the file that the tables are of"
-        twice = status, told.replace(f"{folder}/", ""), (folder / "newer").exists(), short(lines[2])
-        tally.equal("plan: shifts twice", (6, f"ssim: day/names.csv record 2: {line}\n", False, "00010101 30NOV2630NOV261 08100810 10001000 00 320"), twice)
-    first = leg("ZZ", 1, "AKL 0005 +1300 HNL 0835 -1000", "320", period=("27OCT26", "00XXX00"), shifts="0A")
-    then = leg("ZZ", 1, "HNL 0900 -1000 LAX 1600 -0800", "320", sequence=2, shifts="77")
-    season = carrier("ZZ", "L", ("27OCT26", "27MAR27"))
-    for name, legs, line in (
-        ("dates before the season", [season, first],
-         "line 3: the period would be 26OCT26 to 26MAR27 by the plan (bytes 15 to 28), it should be within 27OCT26 to 27MAR27 as in line 2"),
-        ("more days than date variations", [season, first, then],
-         "line 4: departure's date variation would be 8 by the plan (byte 193), it should be 7 at most"),
-    ):  # fmt: skip
-        with scratch() as folder:
-            lines = numbered([header(), *legs, trailer("ZZ")])
-            said = planned(folder, lines, {}, ("--whole-season",), shifts={"ZZ1": -720, "ZZ1A": -720})
-            tally.equal(f"plan: {name}", (f"ssim: season {line}\n", False), (said[-1].replace(f"{folder}/", ""), (folder / "new").exists()))
+@pytest.mark.parametrize("row", REFUSED)
+def test_refused(row: str, scratch: Path) -> None:
+    """A record that can't be written back: one line, and no new file."""
+    planned(scratch, file_of(ONE, TWO), {}, shifts={})
+    (scratch / "new").unlink()
+    (scratch / "day" / "plan.csv").write_text(f"flight,fleet,shift\n{row}\nZZ2,320,0\n", encoding="ascii")
+    before = standing(scratch)
+    status, told = call("plan", scratch / "season", scratch / "day", scratch / "new")
+    assert (status, told.replace(f"{scratch}/", "")) == (6, f"ssim: day/plan.csv record 2: {REFUSED[row]}\n")
+    assert standing(scratch) == before
+
+
+def test_twice(scratch: Path) -> None:
+    """Shifts aren't written a second time."""
+    lines = planned(scratch, file_of(leg("ZZ", 1, WAY, "320", "1", MONDAY)), {}, shifts={"ZZ1": 10})
+    assert short(lines[2]) == "00010101 30NOV2630NOV261 08100810 10001000 00 320"
+    status, told = call("plan", scratch / "new", scratch / "day", scratch / "newer")
+    line = "ZZ1 is ZRH 07:10 LHR 10:00 by line 3 of new, it should be ZRH 07:00 LHR 09:50 as in legs.csv, in the file that the tables are of"
+    assert (status, told.replace(f"{scratch}/", "")) == (6, f"ssim: day/names.csv record 2: {line}\n")
+    assert not (scratch / "newer").exists()
+
+
+SEASON = carrier("ZZ", "L", ("27OCT26", "27MAR27"))
+FIRST = leg("ZZ", 1, "AKL 0005 +1300 HNL 0835 -1000", "320", period=("27OCT26", "00XXX00"), shifts="0A")
+THEN = leg("ZZ", 1, "HNL 0900 -1000 LAX 1600 -0800", "320", sequence=2, shifts="77")
+
+
+@pytest.mark.parametrize("legs, line", [
+    ([FIRST], "line 3: the period would be 26OCT26 to 26MAR27 by the plan (bytes 15 to 28), it should be within 27OCT26 to 27MAR27 as in line 2"),
+    ([FIRST, THEN], "line 4: departure's date variation would be 8 by the plan (byte 193), it should be 7 at most"),
+], ids=["dates before the season", "more days than date variations"])  # fmt: skip
+def test_no_such_day(legs: Sequence[str], line: str, scratch: Path) -> None:
+    """Days that a file can't say: one line, and no new file."""
+    said = planned(scratch, numbered([header(), SEASON, *legs, trailer("ZZ")]), {}, ("--whole-season",), shifts={"ZZ1": -720, "ZZ1A": -720})
+    assert said[-1].replace(f"{scratch}/", "") == f"ssim: season {line}\n"
+    assert not (scratch / "new").exists()
 
 
 # Of each leg's line and date of operation when it departs, its way, its block and its type; or what is told.
@@ -304,29 +305,24 @@ def times_by(folder: Path, drawn: Optional[Any] = None) -> List[Tuple[Any, ...]]
     return sorted(found)
 
 
-def try_draws(tally: Tally) -> None:
-    """Plans of the example that are drawn: all legs of three weeks depart as planned, and on all other dates as filed."""
-    types = ["223", "320", "333", "E90"]
-    with scratch() as folder:
-        fleets = folder / "fleets"
-        fleets.write_text("fleet,aircraft,turn\n" + "".join(f"{it},99,30\n" for it in types), encoding="ascii")
-        file, day = EXAMPLE / "season.ssim", folder / "day"
-        for draw in range(DRAWS):
-            chance = random.Random(draw)
-            first = datetime.date(2026, 11, chance.randrange(20, 30))
-            is_calm, words, option = draw % 2 > 0, ["--whole-season"] if draw % 4 > 1 else [], ("--date", "--week")[draw % 8 > 3]
-            call("tables", file, day, option, first.isoformat(), "--fleets", fleets)
-            drawn = Drawn(chance, day, types, is_calm)
-            status, told = call("plan", file, day, folder / "new", *words)
-            what = f"shifts {draw} {option} {first} {words}"
-            tally.note(f"{what} are written", told if status else None)
-            before, after = weeks_of(folder, file, first, fleets, (-14, -7, 0, 7, 14)), weeks_of(folder, folder / "new", first, fleets)
-            ends = first - datetime.timedelta(7), first + datetime.timedelta(14)
-            wanted = between(departing(before, drawn.planned(bool(words)), bool(words)), *ends)
-            tally.equal(f"{what} depart", wanted, after if isinstance(after, str) else departing(after))
-            tally.note(f"{what} are written again", again(folder, folder / "new", option))
-            if is_calm:
-                tally.equal(f"{what} are settled", settled(day, drawn), tables_again(folder, option, first, fleets))
+@pytest.mark.parametrize("draw", range(DRAWS))
+def test_draw(draw: int, scratch: Path) -> None:
+    """A plan of the example that is drawn: all legs of three weeks depart as planned, and on all other dates as filed."""
+    types, fleets, chance = ["223", "320", "333", "E90"], scratch / "fleets", random.Random(draw)
+    fleets.write_text("fleet,aircraft,turn\n" + "".join(f"{it},99,30\n" for it in types), encoding="ascii")
+    file, day, first = EXAMPLE / "season.ssim", scratch / "day", datetime.date(2026, 11, chance.randrange(20, 30))
+    is_calm, words, option = draw % 2 > 0, ["--whole-season"] if draw % 4 > 1 else [], ("--date", "--week")[draw % 8 > 3]
+    call("tables", file, day, option, first.isoformat(), "--fleets", fleets)
+    drawn = Drawn(chance, day, types, is_calm)
+    status, told = call("plan", file, day, scratch / "new", *words)
+    assert not status, told
+    before, after = weeks_of(scratch, file, first, fleets, (-14, -7, 0, 7, 14)), weeks_of(scratch, scratch / "new", first, fleets)
+    ends = first - datetime.timedelta(7), first + datetime.timedelta(14)
+    wanted = between(departing(before, drawn.planned(bool(words)), bool(words)), *ends)
+    assert (after if isinstance(after, str) else departing(after)) == wanted
+    assert not again(scratch, scratch / "new", option)
+    if is_calm:
+        assert tables_again(scratch, option, first, fleets) == settled(day, drawn)
 
 
 def settled(day: Path, drawn: Drawn) -> Tuple[Dict[str, Tuple[object, ...]], List[str]]:
@@ -345,12 +341,3 @@ def tables_again(folder: Path, option: str, first: datetime.date, fleets: Path) 
     for name, *at, origin, dep, destination, arr in (it.split(",") for it in records(folder / "again", "legs.csv")):
         found[name] = *at, origin, destination, *(60 * int(it[:2]) + int(it[3:]) for it in (dep, arr)), plan[name]
     return found, sorted(records(folder / "again", "throughs.csv"))
-
-
-def try_all(tally: Tally) -> None:
-    """Tries all cases."""
-    try_cases(tally)
-    try_whole(tally)
-    try_modes(tally)
-    try_refusals(tally)
-    try_draws(tally)

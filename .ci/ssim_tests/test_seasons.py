@@ -6,11 +6,13 @@ from __future__ import annotations
 import datetime
 import random
 from collections import Counter
+from pathlib import Path
 from typing import Dict, List, Mapping, Optional, Sequence, Tuple
 
+import pytest
 from schedule_lines import EVERY_DAY, leg, numbered, segment, text, whole
-from ssim_tests.shifts import Drawn
-from ssim_tests.trying import Tally, call, records, scratch
+from ssim_tests.test_shifts import Drawn
+from ssim_tests.trying import call, records
 
 DAY = 1440
 SEASONS = 120
@@ -121,28 +123,34 @@ def season(chance: random.Random) -> List[str]:
     return whole("ZZ", legs, "L" if is_local else "U")
 
 
-def try_season(tally: Tally, draw: int) -> int:
-    """Makes a season and a plan by a number, and compares what departs."""
+def season_of(folder: Path, draw: int) -> int:
+    """Makes a season and a plan by a number, compares what departs, and returns how many legs are planned."""
     chance, words = random.Random(draw), ["--whole-season"] if draw % 2 else []
     option, first = ("--date", "--week")[draw % 4 > 1], FIRST + datetime.timedelta(chance.randint(0, 100))
-    with scratch() as folder:
-        lines, day = season(chance), folder / "day"
-        (folder / "season").write_bytes(text(lines).encode("ascii"))
-        (folder / "fleets").write_text("fleet,aircraft,turn\n" + "".join(f"{it},99,30\n" for it in TYPES), encoding="ascii")
-        call("tables", folder / "season", day, option, first.isoformat(), "--fleets", folder / "fleets")
-        drawn = Drawn(chance, day, TYPES, is_calm=False)
-        status, told = call("plan", folder / "season", day, folder / "new", *words)
-        name = f"season {draw} {option} {first} {words}"
-        if status:
-            tally.note(name, None if status == 6 and any(it in told for it in REFUSED) else told)
-            return 0
-        new = (folder / "new").read_bytes().decode("ascii").split("\r\n")[:-1]
-        tally.equal(name, departures(lines, drawn.planned(bool(words)), bool(words)), departures(new))
-        tally.equal(f"{name}, counted", numbered([f"{it[:194]}000000" for it in new]), new)
-        return len(records(day, "plan.csv"))
+    lines, day = season(chance), folder / "day"
+    (folder / "season").write_bytes(text(lines).encode("ascii"))
+    (folder / "fleets").write_text("fleet,aircraft,turn\n" + "".join(f"{it},99,30\n" for it in TYPES), encoding="ascii")
+    call("tables", folder / "season", day, option, first.isoformat(), "--fleets", folder / "fleets")
+    drawn = Drawn(chance, day, TYPES, is_calm=False)
+    status, told = call("plan", folder / "season", day, folder / "new", *words)
+    if status:
+        assert status == 6 and any(it in told for it in REFUSED), told
+        return 0
+    new = (folder / "new").read_bytes().decode("ascii").split("\r\n")[:-1]
+    assert departures(new) == departures(lines, drawn.planned(bool(words)), bool(words))
+    assert new == numbered([f"{it[:194]}000000" for it in new])
+    return len(records(day, "plan.csv"))
 
 
-def try_all(tally: Tally) -> None:
-    """Tries all cases."""
-    planned = [try_season(tally, draw) for draw in range(SEASONS)]
-    tally.note("legs of seasons are planned", None if sum(planned) > SEASONS else f"{sum(planned)} legs")
+@pytest.mark.parametrize("draw", range(SEASONS))
+def test_season(draw: int, scratch: Path) -> None:
+    """Legs depart as planned, and all others as filed."""
+    season_of(scratch, draw)
+
+
+def test_legs_are_planned(scratch: Path) -> None:
+    """The seasons have legs on their dates."""
+    folders = [scratch / str(draw) for draw in range(SEASONS // 4)]
+    for it in folders:
+        it.mkdir()
+    assert sum(season_of(it, int(it.name)) for it in folders) > len(folders)

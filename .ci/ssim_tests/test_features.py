@@ -5,8 +5,10 @@ from __future__ import annotations
 from typing import Any, Dict, List, Mapping, Optional, Sequence, Tuple
 
 from pathlib import Path
+
+import pytest
 from schedule_lines import carrier, header, leg, numbered, segment, text, trailer, whole
-from ssim_tests.trying import Tally, call, records, scratch, standing
+from ssim_tests.trying import call, records, standing
 
 # A Monday.
 DATE = "2026-11-30"
@@ -229,8 +231,9 @@ def make(folder: Path, lines: Sequence[str], words: str, option: str = "--date")
     return call("tables", folder / "season", folder / "day", option, DATE, *own)
 
 
-def wrong(folder: Path, wanted: Mapping[str, Sequence[str]], status: int, told: str, line: Optional[str]) -> Optional[str]:
+def wrong(folder: Path, wanted: Mapping[str, Sequence[str]], made: Tuple[int, str], line: Optional[str]) -> Optional[str]:
     """Returns how tables differ from the wanted records, or None."""
+    status, told = made
     if status:
         return f"status {status}: {told}"
     for name, rows in wanted.items():
@@ -247,44 +250,55 @@ def by_season(winter: Sequence[str], summer: Sequence[str]) -> List[str]:
     return numbered([header(), first, *winter, trailer("ZZ", "C"), second, *summer, trailer("ZZ")])
 
 
-def try_all(tally: Tally) -> None:
-    """Tries all cases."""
-    weeks = {name: (legs, "L", "", wanted) for name, (legs, wanted) in WEEKS.items()}
-    for name, (legs, mode, words, wanted) in {**TABLES, **weeks}.items():
-        airline = legs[0][2:5].strip()
-        with scratch() as folder:
-            lines = [it for it in whole(airline, legs, mode) if it.strip("0")]
-            status, told = make(folder, lines, words, "--week" if name in weeks else "--date")
-            tally.note(name, wrong(folder, wanted, status, told, TOLD.get(name)))
-    with scratch() as folder:
-        status, told = make(folder, by_season([out(1)], [out(2), back(3)]), "")
-        line = "left out: 1 of another season, by their carrier record"
-        tally.note("two seasons", wrong(folder, {"legs.csv": ["ZZ2,ZRH,08:00,LHR,09:50", "ZZ3,LHR,11:00,ZRH,12:50"]}, status, told, line))
-    try_limits(tally)
+@pytest.mark.usefixtures("program")
+@pytest.mark.parametrize("name", [*TABLES, *WEEKS])
+def test_tables(name: str, scratch: Path) -> None:
+    """Tables of a small schedule are as a person would write them."""
+    legs, mode, words, wanted = TABLES[name] if name in TABLES else (WEEKS[name][0], "L", "", WEEKS[name][1])
+    lines = [it for it in whole(legs[0][2:5].strip(), legs, mode) if it.strip("0")]
+    assert not wrong(scratch, wanted, make(scratch, lines, words, "--week" if name in WEEKS else "--date"), TOLD.get(name))
 
 
-def try_limits(tally: Tally) -> None:
-    """Refuses one leg, station or aircraft type more than tables may have."""
-    pairs = [chr(65 + it // 26) + chr(65 + it % 26) for it in range(334)]
-    for name, legs, line in (
-        ("legs", [out(it) for it in range(1, 1002)], "1,001 legs on 2026-11-30, and tables have 1,000 at most: ask for fewer "
-         "(--types: 320 1001; --stations-only: LHR 1001, ZRH 1001; --service: J 1001)"),
-        ("stations", [out(it + 1, f"ZRH 0800 +0100 X{pairs[it]} 0950 +0000") for it in range(200)], "201 stations on 2026-11-30, and tables have 200 at most: "
-         "ask for fewer (--types: 320 200; --stations-only: ZRH 200, XAA 1, XAB 1, XAC 1, XAD 1, XAE 1 and 195 more; --service: J 200)"),
-        ("types", [out(it + 1, kind=f"3{pairs[it]}") for it in range(21)], "21 aircraft types on 2026-11-30, and tables have 20 at most: "
-         "ask for fewer (--types: 3AA 1, 3AB 1, 3AC 1, 3AD 1, 3AE 1, 3AF 1 and 15 more; --stations-only: LHR 21, ZRH 21; --service: J 21)"),
-    ):  # fmt: skip
-        with scratch() as folder:
-            status, told = make(folder, whole("ZZ", legs), "")
-            told = told.replace(f"{folder}/", "")
-            tally.equal(f"the limit of {name}", (6, f"ssim: season: {line}\n", None), (status, told, standing(folder / "day")))
+@pytest.mark.usefixtures("program")
+def test_two_seasons(scratch: Path) -> None:
+    """The carrier record of the date's season counts alone."""
+    made = make(scratch, by_season([out(1)], [out(2), back(3)]), "")
+    wanted = {"legs.csv": ["ZZ2,ZRH,08:00,LHR,09:50", "ZZ3,LHR,11:00,ZRH,12:50"]}
+    assert not wrong(scratch, wanted, made, "left out: 1 of another season, by their carrier record")
+
+
+PAIRS = [chr(65 + it // 26) + chr(65 + it % 26) for it in range(334)]
+# One leg, station or aircraft type more than tables may have, and what is told of them.
+LIMITS = {
+    "legs": ([out(it) for it in range(1, 1002)], "1,001 legs on 2026-11-30, and tables have 1,000 at most: ask for fewer "
+             "(--types: 320 1001; --stations-only: LHR 1001, ZRH 1001; --service: J 1001)"),
+    "stations": ([out(it + 1, f"ZRH 0800 +0100 X{PAIRS[it]} 0950 +0000") for it in range(200)], "201 stations on 2026-11-30, and tables have 200 at most: "
+                 "ask for fewer (--types: 320 200; --stations-only: ZRH 200, XAA 1, XAB 1, XAC 1, XAD 1, XAE 1 and 195 more; --service: J 200)"),
+    "types": ([out(it + 1, kind=f"3{PAIRS[it]}") for it in range(21)], "21 aircraft types on 2026-11-30, and tables have 20 at most: "
+              "ask for fewer (--types: 3AA 1, 3AB 1, 3AC 1, 3AD 1, 3AE 1, 3AF 1 and 15 more; --stations-only: LHR 21, ZRH 21; --service: J 21)"),
+}  # fmt: skip
+
+
+@pytest.mark.parametrize("name", LIMITS)
+def test_limit(name: str, scratch: Path) -> None:
+    """One more than tables may have is refused, and nothing is written."""
+    legs, line = LIMITS[name]
+    status, told = make(scratch, whole("ZZ", legs), "")
+    assert (status, told.replace(f"{scratch}/", ""), standing(scratch / "day")) == (6, f"ssim: season: {line}\n", None)
+
+
+@pytest.mark.usefixtures("program")
+def test_limit_of_aircraft(scratch: Path) -> None:
+    """A plan as filed that uses more aircraft than a fleet may have is told."""
     ways = {0: "ZRH 0800 +0000 LHR 0700 +0000", 1: "LHR 0800 +0000 ZRH 0700 +0000"}
-    with scratch() as folder:
-        status, told = make(folder, whole("ZZ", [out(it, ways[it % 2], shifts="01") for it in range(1, 521)]), "")
-        lines = [it[6:] for it in told.splitlines()[1:]]
-        wanted = "the plan as filed doesn't say how many aircraft it uses: too many: 320 used 520 of 500", MOST_AIRCRAFT, FEWER
-        tally.equal("the limit of aircraft", (0, ["320,500,30"], *wanted), (status, records(folder / "day", "fleets.csv"), *lines))
-    with scratch() as folder:
-        status, told = make(folder, whole("ZZ", [out(it) for it in range(1, 144)]), "", "--week")
-        is_told = f": 1,001 legs in the 7 days from {DATE}, and tables have 1,000 at most: ask for fewer (" in told
-        tally.equal("the limit of legs in a week", (6, True, None), (status, is_told, standing(folder / "day")))
+    status, told = make(scratch, whole("ZZ", [out(it, ways[it % 2], shifts="01") for it in range(1, 521)]), "")
+    wanted = ["the plan as filed doesn't say how many aircraft it uses: too many: 320 used 520 of 500", MOST_AIRCRAFT, FEWER]
+    assert (status, records(scratch / "day", "fleets.csv")) == (0, ["320,500,30"])
+    assert [it[6:] for it in told.splitlines()[1:]] == wanted
+
+
+def test_limit_of_a_week(scratch: Path) -> None:
+    """Legs count on each day of a week."""
+    status, told = make(scratch, whole("ZZ", [out(it) for it in range(1, 144)]), "", "--week")
+    assert f": 1,001 legs in the 7 days from {DATE}, and tables have 1,000 at most: ask for fewer (" in told
+    assert (status, standing(scratch / "day")) == (6, None)

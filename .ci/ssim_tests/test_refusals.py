@@ -5,8 +5,10 @@ from __future__ import annotations
 from typing import Dict, List, Tuple
 
 from pathlib import Path
+
+import pytest
 from schedule_lines import ZEROS, carrier, header, leg, numbered, segment, text, trailer
-from ssim_tests.trying import Tally, call, scratch, standing
+from ssim_tests.trying import call, standing
 
 DATE = "2026-11-30"
 LEG = leg("ZZ", 1, "ZRH 0800 +0100 LHR 0950 +0000", "320")
@@ -126,21 +128,30 @@ def refused(folder: Path, data: bytes, words: str) -> Tuple[int, str, bool]:
     return status, told.replace(f"{folder}/", ""), standing(folder) == before
 
 
-def try_all(tally: Tally) -> None:
-    """Tries all cases."""
-    with scratch() as folder:
-        for number, at, put, why in CHANGES:
-            lines = list(LINES)
-            lines[number - 1] = lines[number - 1][: at - 1] + put + lines[number - 1][at - 1 + len(put) :]
-            came = refused(folder, text(lines).encode("latin-1"), f"--date {DATE} --fleets few")
-            tally.equal(f"line {number} byte {at} {put!r}", (6, f"ssim: season line {number}: {why}\n", True), came)
-        for name, (lines, number, why) in WHOLES.items():
-            came = refused(folder, text(lines).encode("ascii"), f"--date {DATE}")
-            tally.equal(name, (6, f"ssim: season line {number}: {why}\n", True), came)
-        for words, status, line in WORDS:
-            came = refused(folder, text(LINES, "\n").encode("ascii"), words)
-            first = came[1].splitlines()[0][: len(line)]
-            tally.equal(f"words {words}", (status, line, True), (came[0], first, came[2]))
-        status, told = call("tables", folder / "away", folder / "day", "--date", DATE)
-        line = f"ssim: {folder}/away can't be read: No such file or directory\n"
-        tally.equal("a missing file", (7, line, False), (status, told, (folder / "day").exists()))
+@pytest.mark.parametrize("number, at, put, why", CHANGES, ids=[f"line {it[0]} byte {it[1]} {it[2]!r}" for it in CHANGES])
+def test_line(number: int, at: int, put: str, why: str, scratch: Path) -> None:
+    """A line with other bytes is refused by its number and its bytes."""
+    lines = list(LINES)
+    lines[number - 1] = lines[number - 1][: at - 1] + put + lines[number - 1][at - 1 + len(put) :]
+    assert refused(scratch, text(lines).encode("latin-1"), f"--date {DATE} --fleets few") == (6, f"ssim: season line {number}: {why}\n", True)
+
+
+@pytest.mark.parametrize("name", WHOLES)
+def test_file(name: str, scratch: Path) -> None:
+    """A file whose lines don't follow each other is refused by the line."""
+    lines, number, why = WHOLES[name]
+    assert refused(scratch, text(lines).encode("ascii"), f"--date {DATE}") == (6, f"ssim: season line {number}: {why}\n", True)
+
+
+@pytest.mark.parametrize("words, status, line", WORDS, ids=[it[0] for it in WORDS])
+def test_words(words: str, status: int, line: str, scratch: Path) -> None:
+    """Words, and the files that they name, are refused by name."""
+    came, told, is_same = refused(scratch, text(LINES, "\n").encode("ascii"), words)
+    assert (came, told.splitlines()[0][: len(line)], is_same) == (status, line, True)
+
+
+def test_missing_file(scratch: Path) -> None:
+    """A schedule file that isn't there is told."""
+    line = f"ssim: {scratch}/away can't be read: No such file or directory\n"
+    assert call("tables", scratch / "away", scratch / "day", "--date", DATE) == (7, line)
+    assert not (scratch / "day").exists()

@@ -11,9 +11,11 @@ from collections import Counter
 from typing import List, Sequence, Set, Tuple
 
 from pathlib import Path
+
+import pytest
 from schedule_lines import leg, segment, text, whole
-from ssim_tests.shifts import Drawn, times_by
-from ssim_tests.trying import Standing, Tally, call, scratch, standing
+from ssim_tests.test_shifts import Drawn, times_by
+from ssim_tests.trying import Standing, call, standing
 
 LINES = 2000
 DATE = "2026-11-30"
@@ -145,18 +147,16 @@ class Hostile:
             self.wrong.append(f"run {number}: judge has status {ran.returncode}: {said}")
 
 
-def try_all(tally: Tally) -> None:
-    """Tries all cases."""
-    with scratch() as folder:
-        hostile, chance, done, number = Hostile(folder), random.Random(49), 0, 0
-        lines = base()
-        while done < LINES:
-            number += 1
-            now = list(lines)
-            done += changed(chance, now)
-            hostile.run(number, now)
-        why = "\n".join(hostile.wrong[:TOLD]) or None
-        tally.note(f"{done} lines changed at random", why)
-        enough = number // 4 < hostile.refused < number and len(hostile.known) > 50 and hostile.planned > 50
-        counts = f"{hostile.refused} of {number}, {len(hostile.known)} tables, {hostile.planned} plans"
-        tally.note("some are refused and some are read", None if enough else counts)
+@pytest.mark.usefixtures("program")
+def test_lines_at_random(scratch: Path) -> None:
+    """Each file is refused by name or read, and some are of either."""
+    hostile, chance, done, number = Hostile(scratch), random.Random(49), 0, 0
+    lines = base()
+    while done < LINES:
+        number += 1
+        now = list(lines)
+        done += changed(chance, now)
+        hostile.run(number, now)
+    assert not hostile.wrong, "\n".join(hostile.wrong[:TOLD])
+    assert number // 4 < hostile.refused < number
+    assert len(hostile.known) > 50 and hostile.planned > 50

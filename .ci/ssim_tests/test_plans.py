@@ -4,11 +4,13 @@ from __future__ import annotations
 
 import datetime
 import random
-from typing import Dict, List, Mapping, Optional, Sequence, Tuple, Union
+from typing import Dict, List, Mapping, Optional, Sequence, Tuple, TypeVar, Union
 
 from pathlib import Path
+
+import pytest
 from schedule_lines import ZEROS, carrier, header, leg, numbered, segment, text, trailer
-from ssim_tests.trying import EXAMPLE, Tally, call, records, scratch, standing
+from ssim_tests.trying import EXAMPLE, call, records, standing
 
 DATE = "2026-11-30"
 WAY = "ZRH 0800 +0100 LHR 0950 +0000"
@@ -71,6 +73,7 @@ THREE = [
     leg("ZZ", 7, "GVA 0130 +0100 LIS 0310 +0000", "320", sequence=2, shifts="11"),
 ]
 Case = Tuple[List[str], Dict[str, str], Tuple[str, ...], List[str]]
+Planned = TypeVar("Planned")
 # Of each case the legs, the fleets of the plan, the options, and the records of the new file.
 CASES: Dict[str, Case] = {
     "by date": ([ONE, TWO, LATER], {"ZZ1": "E90"}, (), [
@@ -112,8 +115,8 @@ CASES: Dict[str, Case] = {
 }  # fmt: skip
 
 
-def every_day(changes: Mapping[Tuple[str, str], str]) -> Dict[str, str]:
-    """The fleets of names of a week, each of which ends with its days."""
+def every_day(changes: Mapping[Tuple[str, str], Planned]) -> Dict[str, Planned]:
+    """What is planned for names of a week, each of which ends with its days."""
     return {f"{name}D{day}": fleet for (name, days), fleet in changes.items() for day in days}
 
 
@@ -154,67 +157,55 @@ WEEKS = {
 }  # fmt: skip
 
 
-def try_cases(tally: Tally) -> None:
-    """Plans and the records that they change."""
-    weeks = {name: (legs, every_day(changes), words, wanted) for name, (legs, changes, words, wanted) in WEEKS.items()}
-    for name, (legs, changes, words, wanted) in {**CASES, **weeks}.items():
-        with scratch() as folder:
-            lines = file_of(*legs, leg("ZZ", 99, WAY, "E90", "7"))
-            lines = planned(folder, lines, changes, words, "--week" if name in weeks else "--date")
-            tally.equal(f"a plan: {name}", [*wanted, "00990101  25OCT2627MAR27      7 E90"], body(lines))
-            tally.equal(f"a plan: {name}, counted", numbered([f"{it[:194]}000000" for it in lines]), lines)
+@pytest.mark.parametrize("name", [*CASES, *WEEKS])
+def test_records(name: str, scratch: Path) -> None:
+    """A plan changes these records, and their serial numbers go on."""
+    legs, changes, words, wanted = CASES[name] if name in CASES else (WEEKS[name][0], every_day(WEEKS[name][1]), *WEEKS[name][2:])
+    lines = file_of(*legs, leg("ZZ", 99, WAY, "E90", "7"))
+    lines = planned(scratch, lines, changes, words, "--week" if name in WEEKS else "--date")
+    assert body(lines) == [*wanted, "00990101  25OCT2627MAR27      7 E90"]
+    assert lines == numbered([f"{it[:194]}000000" for it in lines])
 
 
-def try_blocks(tally: Tally) -> None:
-    """Where zeros fill the last block of five before a trailer they fill it again."""
-    with scratch() as folder:
-        lines = numbered([header(), carrier("ZZ"), ONE, leg("ZZ", 99, WAY, "E90", "7"), ZEROS, trailer("ZZ"), *[ZEROS] * 4])
-        new = planned(folder, lines, {"ZZ1": "E90"})
-        tally.equal("blocks of five", "12" + "3" * 4 + "0" * 4 + "50000", "".join(it[0] for it in new))
-        same = planned(folder, lines, {"ZZ1": "320"})
-        tally.equal("a plan as filed leaves the file as it is", lines, same)
+def test_blocks(scratch: Path) -> None:
+    """Where zeros fill the last block of five before a trailer they fill it again. A plan as filed leaves the file as it is."""
+    lines = numbered([header(), carrier("ZZ"), ONE, leg("ZZ", 99, WAY, "E90", "7"), ZEROS, trailer("ZZ"), *[ZEROS] * 4])
+    assert "".join(it[0] for it in planned(scratch, lines, {"ZZ1": "E90"})) == "12" + "3" * 4 + "0" * 4 + "50000"
+    assert planned(scratch, lines, {"ZZ1": "320"}) == lines
 
 
-def try_ends(tally: Tally) -> None:
+@pytest.mark.parametrize("is_last", [True, False])
+@pytest.mark.parametrize("end", ["\n", "\r\n"], ids=["LF", "CR LF"])
+def test_ends(end: str, is_last: bool, scratch: Path) -> None:
     """Lines end as they did, and so does the last one."""
-    lines = file_of(ONE, TWO, leg("ZZ", 99, WAY, "E90", "7"))
-    for end in ("\n", "\r\n"):
-        for last in (end, ""):
-            with scratch() as folder:
-                new = planned(folder, lines, {"ZZ1": "E90"})
-                (folder / "season").write_bytes((end.join(lines) + last).encode("ascii"))
-                status, told = call("plan", folder / "season", folder / "day", folder / "new")
-                came = (folder / "new").read_bytes().decode("ascii")
-                tally.equal(f"lines that end with {end!r}, the last with {last!r}", (0, end.join(new) + last), (status, came) if not status else told)
+    lines, last = file_of(ONE, TWO, leg("ZZ", 99, WAY, "E90", "7")), end if is_last else ""
+    new = planned(scratch, lines, {"ZZ1": "E90"})
+    (scratch / "season").write_bytes((end.join(lines) + last).encode("ascii"))
+    assert call("plan", scratch / "season", scratch / "day", scratch / "new")[0] == 0
+    assert (scratch / "new").read_bytes().decode("ascii") == end.join(new) + last
 
 
-def try_carriers(tally: Tally) -> None:
-    """A second carrier record goes on with serial numbers as it did, from the first one's on or anew."""
+@pytest.mark.parametrize("name", ["on", "anew"])
+def test_carriers(name: str, scratch: Path) -> None:
+    """A second carrier record goes on with serial numbers as it did, from the first one's on or anew, and is changed alone."""
     first, second = carrier("ZZ", "L", ("25OCT26", "29NOV26")), carrier("ZZ", "L", ("30NOV26", "27MAR27"))
     legs = [leg("ZZ", 1, WAY, "320", "12345", ("30NOV26", "27MAR27")), TWO, leg("ZZ", 99, WAY, "E90", "7")]
     lines = numbered([header(), first, ONE, trailer("ZZ", "C"), second, *legs, trailer("ZZ")])
     anew = [*lines[:4], *numbered([header(), second, *legs, trailer("ZZ")])[1:]]
-    for name, own in (("on", lines), ("anew", anew)):
-        with scratch() as folder:
-            new = planned(folder, own, {"ZZ1": "E90"})
-            serials = [int(it[194:]) for it in new]
-            tally.equal(f"serial numbers go {name}", [*range(1, 5), *(range(5, 11) if name == "on" else range(2, 8))], serials)
-            kinds = [short(it) for it in new if it[:9] == "3 ZZ 0001"]
-            wanted = [short(ONE), "00010101  30NOV2630NOV261 E90", "00010201  01DEC2627MAR2712345 320"]
-            tally.equal(f"the carrier of the date is changed alone, {name}", wanted, kinds)
+    new = planned(scratch, lines if name == "on" else anew, {"ZZ1": "E90"})
+    assert [int(it[194:]) for it in new] == [*range(1, 5), *(range(5, 11) if name == "on" else range(2, 8))]
+    kinds = [short(it) for it in new if it[:9] == "3 ZZ 0001"]
+    assert kinds == [short(ONE), "00010101  30NOV2630NOV261 E90", "00010201  01DEC2627MAR2712345 320"]
 
 
-def try_hundreds(tally: Tally) -> None:
+def test_hundreds(scratch: Path) -> None:
     """More than 99 variations of a flight: the hundreds stand in byte 128 as a letter."""
     starts = [datetime.date(2026, 10, 26) + datetime.timedelta(it) for it in range(150)]
     dates = [it.strftime("%d%b%y").upper() for it in starts]
     legs = [leg("ZZ", 1, WAY, "320", period=(it, it), variation=at, b128="A" if at > 99 else " ") for at, it in enumerate(dates, 1)]
     long = leg("ZZ", 1, WAY, "E90", "1", period=("26OCT26", "00XXX00"), variation=151, b128="A")
-    with scratch() as folder:
-        new = planned(folder, file_of(*legs, long), {"N1": "320"})
-        came = [it[127] + it[9:11] for it in new if it[0] == "3"]
-        wanted = [(" A"[it // 100]) + f"{it % 100:02}" for it in range(1, 154)]
-        tally.equal("variations beyond 99", wanted, came)
+    new = planned(scratch, file_of(*legs, long), {"N1": "320"})
+    assert [it[127] + it[9:11] for it in new if it[0] == "3"] == [(" A"[it // 100]) + f"{it % 100:02}" for it in range(1, 154)]
 
 
 def tables_on(file: Path, folder: Path, day: datetime.date, fleets: Path) -> Union[str, List[str]]:
@@ -226,37 +217,27 @@ def tables_on(file: Path, folder: Path, day: datetime.date, fleets: Path) -> Uni
     return sorted(f"{leg.split(',', 1)[1]},{fleet.split(',')[1]}" for leg, fleet in zip(legs, plan))
 
 
-def try_draws(tally: Tally) -> None:
-    """Plans of the example that are drawn: their tables have them again, and all other dates stay."""
-    types = ["223", "320", "333", "E90"]
-    with scratch() as folder:
-        fleets = folder / "fleets"
-        fleets.write_text("fleet,aircraft,turn\n" + "".join(f"{it},99,30\n" for it in types), encoding="ascii")
-        for draw in range(DRAWS):
-            chance = random.Random(draw)
-            first = datetime.date(2026, 11, chance.randrange(20, 30))
-            words = ["--whole-season"] if draw % 2 else []
-            option, count = ("--week", 7) if draw % 4 > 1 else ("--date", 1)
-            file, day, new = EXAMPLE / "season.ssim", folder / "day", folder / f"new{draw}"
-            call("tables", file, day, option, first.isoformat(), "--fleets", fleets)
-            filed = [it.split(",") for it in records(day, "plan.csv")]
-            rows = [(it, chance.choice(types) if chance.random() < 0.4 else kind) for it, kind in filed]
-            plan = "flight,fleet\n" + "".join(f"{it},{kind}\n" for it, kind in rows)
-            (day / "plan.csv").write_text(plan, encoding="ascii")
-            status, told = call("plan", file, day, new, *words)
-            again = call("tables", new, folder / "again", option, first.isoformat(), "--fleets", fleets)
-            why = told if status else again[1] if again[0] else None
-            tally.note(f"plan {draw} is written and read", why)
-            came = (folder / "again" / "plan.csv").read_text(encoding="ascii")
-            tally.equal(f"plan {draw} {option} {first} {words} is that plan again", plan, came)
-            why = others(folder, file, new, first, count, bool(words), fleets)
-            tally.note(f"plan {draw} {option} {first} {words} leaves other dates", why)
-            if words:
-                # All flights of the example go again after two weeks.
-                later = first + datetime.timedelta(14)
-                call("tables", new, folder / "later", option, later.isoformat(), "--fleets", fleets)
-                came = (folder / "later" / "plan.csv").read_text(encoding="ascii")
-                tally.equal(f"plan {draw} {option} {first} {words} is that of {later}", plan, came)
+@pytest.mark.parametrize("draw", range(DRAWS))
+def test_draw(draw: int, scratch: Path) -> None:
+    """A plan of the example that is drawn: the tables of the new file have it again, and all other dates stay. All flights of the example
+    go again after two weeks."""
+    types, fleets, chance = ["223", "320", "333", "E90"], scratch / "fleets", random.Random(draw)
+    fleets.write_text("fleet,aircraft,turn\n" + "".join(f"{it},99,30\n" for it in types), encoding="ascii")
+    first, words = datetime.date(2026, 11, chance.randrange(20, 30)), ["--whole-season"] if draw % 2 else []
+    option, count = ("--week", 7) if draw % 4 > 1 else ("--date", 1)
+    file, day, new = EXAMPLE / "season.ssim", scratch / "day", scratch / "new"
+    call("tables", file, day, option, first.isoformat(), "--fleets", fleets)
+    filed = [it.split(",") for it in records(day, "plan.csv")]
+    rows = [(it, chance.choice(types) if chance.random() < 0.4 else kind) for it, kind in filed]
+    plan = "flight,fleet\n" + "".join(f"{it},{kind}\n" for it, kind in rows)
+    (day / "plan.csv").write_text(plan, encoding="ascii")
+    status, told = call("plan", file, day, new, *words)
+    assert not status, told
+    for date in (first, *([first + datetime.timedelta(14)] if words else [])):
+        status, told = call("tables", new, scratch / "again", option, date.isoformat(), "--fleets", fleets)
+        assert not status, told
+        assert (scratch / "again" / "plan.csv").read_text(encoding="ascii") == plan
+    assert not others(scratch, file, new, first, count, bool(words), fleets)
 
 
 def others(folder: Path, file: Path, new: Path, first: datetime.date, count: int, is_whole_season: bool, fleets: Path) -> Optional[str]:
@@ -271,41 +252,40 @@ def others(folder: Path, file: Path, new: Path, first: datetime.date, count: int
     return None
 
 
-def try_refusals(tally: Tally) -> None:
+# Of each fault the file of DIR, the line that tells it, and what is put there, or None.
+REFUSED = {
+    "another order": ("plan.csv", "plan.csv record 2: the flight is ZZ2, it should be ZZ1 as in names.csv", "flight,fleet\nZZ2,320\nZZ1,320\n"),
+    "one flight less": ("plan.csv", "plan.csv has 1 flights, it should have the 2 of names.csv", "flight,fleet\nZZ1,320\n"),
+    "no aircraft type": (
+        "plan.csv", "plan.csv record 3: the fleet of ZZ2 is A320, it should be an aircraft type of three letters A to Z and digits",
+        "flight,fleet\nZZ1,320\nZZ2,A320\n",
+    ),
+    "an empty plan": ("plan.csv", "plan.csv is empty, it should begin with flight,fleet or flight,fleet,shift", ""),
+    "names of another file": (
+        "names.csv", "names.csv record 2: ZZ 1  01 1 on 2026-11-30 isn't the leg of line 4 of season, it should be the file that the tables are of",
+        "flight,airline,number,suffix,variation,leg,line,operates\nZZ1,ZZ,1,,01,1,4,2026-11-30\nZZ2,ZZ,2,,01,1,4,2026-11-30\n",
+    ),
+    "no names": ("names.csv", "names.csv can't be read: No such file or directory", None),
+}  # fmt: skip
+
+
+@pytest.mark.parametrize("name", REFUSED)
+def test_refused(name: str, scratch: Path) -> None:
     """Files of DIR that don't belong together: one line, and no new file."""
-    for name, line, put in (
-        ("plan.csv", "plan.csv record 2: the flight is ZZ2, it should be ZZ1 as in names.csv", "flight,fleet\nZZ2,320\nZZ1,320\n"),
-        ("plan.csv", "plan.csv has 1 flights, it should have the 2 of names.csv", "flight,fleet\nZZ1,320\n"),
-        ("plan.csv", "plan.csv record 3: the fleet of ZZ2 is A320, it should be an aircraft type of three letters A to Z and digits",
-         "flight,fleet\nZZ1,320\nZZ2,A320\n"),
-        ("plan.csv", "plan.csv is empty, it should begin with flight,fleet or flight,fleet,shift", ""),
-        ("names.csv", "names.csv record 2: ZZ 1  01 1 on 2026-11-30 isn't the leg of line 4 of season, it should be the file that the tables are of",
-         "flight,airline,number,suffix,variation,leg,line,operates\nZZ1,ZZ,1,,01,1,4,2026-11-30\nZZ2,ZZ,2,,01,1,4,2026-11-30\n"),
-        ("names.csv", None, None),
-    ):  # fmt: skip
-        with scratch() as folder:
-            planned(folder, file_of(ONE, TWO), {})
-            (folder / "new").unlink()
-            if put is None:
-                (folder / "day" / name).unlink()
-                line = "names.csv can't be read: No such file or directory"
-            else:
-                (folder / "day" / name).write_text(put, encoding="ascii")
-            before = standing(folder)
-            status, told = call("plan", folder / "season", folder / "day", folder / "new")
-            told = told.replace(f"{folder}/", "")
-            came = status, told, standing(folder) == before
-            tally.equal(f"plan: {line}", (7 if put is None else 6, f"ssim: day/{line}\n", True), came)
+    file, line, put = REFUSED[name]
+    planned(scratch, file_of(ONE, TWO), {})
+    (scratch / "new").unlink()
+    if put is None:
+        (scratch / "day" / file).unlink()
+    else:
+        (scratch / "day" / file).write_text(put, encoding="ascii")
+    before = standing(scratch)
+    status, told = call("plan", scratch / "season", scratch / "day", scratch / "new")
+    assert (status, told.replace(f"{scratch}/", "")) == (7 if put is None else 6, f"ssim: day/{line}\n")
+    assert standing(scratch) == before
+
+
+def test_wrong_word() -> None:
+    """An option of the other command is none of this one."""
     status, told = call("plan", "a", "b", "c", "--week", DATE)
-    tally.equal("plan --week", (2, "ssim: --week is no option"), (status, told.splitlines()[0]))
-
-
-def try_all(tally: Tally) -> None:
-    """Tries all cases."""
-    try_cases(tally)
-    try_blocks(tally)
-    try_ends(tally)
-    try_carriers(tally)
-    try_hundreds(tally)
-    try_draws(tally)
-    try_refusals(tally)
+    assert (status, told.splitlines()[0]) == (2, "ssim: --week is no option")

@@ -3,13 +3,15 @@ flight to one date twice."""
 
 from __future__ import annotations
 
-from typing import Dict, List, Optional, Tuple
+from typing import Dict, List, Optional, Sequence, Tuple
 
 from pathlib import Path
+
+import pytest
 from schedule_lines import leg
-from ssim_tests.features import DATE, back, out
-from ssim_tests.plans import file_of, planned
-from ssim_tests.trying import Tally, call, records, scratch, standing
+from ssim_tests.test_features import DATE, back, out
+from ssim_tests.test_plans import file_of, planned
+from ssim_tests.trying import call, records, standing
 
 FLEETS = "fleet,aircraft,turn\n320,9,30\n"
 TWO = [out(), back(), out(7, "ZRH 0700 +0100 GVA 0745 +0100"), out(7, "GVA 0830 +0100 LIS 1010 +0000", sequence=2)]
@@ -83,79 +85,78 @@ def given(folder: Path, season: str, option: str, windows: Optional[str], option
     return status, told.replace(f"{folder}/", "")
 
 
-def try_given(tally: Tally) -> None:
-    """Tables that options have read, by a caller's files."""
-    season = "".join(f"{it}\n" for it in file_of(*TWO))
-    for name, (option, windows, optional, wanted) in GIVEN.items():
-        with scratch() as folder:
-            status, told = given(folder, season, option, windows, optional)
-            tally.equal(name, wanted, {it: records(folder / "day", it) for it in wanted} if not status else told)
-            status, told = call("plan", folder / "season", folder / "day", folder / "new")
-            is_same = not status and (folder / "new").read_bytes() == (folder / "season").read_bytes()
-            tally.equal(f"{name}, as filed", (True, told), (is_same, told))
-    for windows, line in REFUSED.items():
-        with scratch() as folder:
-            came = given(folder, season, "--date", windows, None)
-            says = "windows has" if line.endswith("at most") else "windows"
-            tally.equal(f"other times {line}", (6, f"ssim: {says} {line}\n", None), (*came, standing(folder / "day")))
+SEASON = "".join(f"{it}\n" for it in file_of(*TWO))
 
 
-def try_told(tally: Tally) -> None:
+@pytest.mark.parametrize("name", GIVEN)
+def test_given(name: str, scratch: Path) -> None:
+    """Tables that options have read, by a caller's files. The plan as filed leaves the file as it is."""
+    option, windows, optional, wanted = GIVEN[name]
+    status, told = given(scratch, SEASON, option, windows, optional)
+    assert not status, told
+    assert {it: records(scratch / "day", it) for it in wanted} == wanted
+    status, told = call("plan", scratch / "season", scratch / "day", scratch / "new")
+    assert not status and (scratch / "new").read_bytes() == (scratch / "season").read_bytes(), told
+
+
+@pytest.mark.parametrize("windows, line", REFUSED.items(), ids=REFUSED.values())
+def test_refused(windows: str, line: str, scratch: Path) -> None:
+    """Other times that can't be: one line, and nothing is written."""
+    says = "windows has" if line.endswith("at most") else "windows"
+    assert given(scratch, SEASON, "--date", windows, None) == (6, f"ssim: {says} {line}\n")
+    assert standing(scratch / "day") is None
+
+
+def test_told(scratch: Path) -> None:
     """What is told of such tables, and of those that stand there already."""
-    season = "".join(f"{it}\n" for it in file_of(*TWO))
-    with scratch() as folder:
-        _, first = given(folder, season, "--date", "flight,shift,extra\nZZ1,5,0\nZZ3,5,0\n", "flight,skip\n*,0\n")
-        told = "4 legs depart on 2026-11-30 in UTC: 4 stations, 1 aircraft types\n"
-        both = "windows.csv has 1 records, for calls with --windows\n1 flights of windows aren't among these legs: ZZ3\n"
-        wanted = f"{told}{both}optional.csv has 4 records, for calls with --optional\n"
-        tally.equal("what is told of other times", wanted, first.replace("ssim: ", ""))
-        held = (folder / "day" / "optional.csv").read_bytes()
-        _, then = given(folder, season, "--date", "flight,shift,extra\n*,5,0\n", None)
-        wanted = f"{told}windows.csv has 4 records, for calls with --windows\noptional.csv stays in day as it was\n"
-        tally.equal("what is told of a table that stays", (wanted, held), (then.replace("ssim: ", ""), (folder / "day" / "optional.csv").read_bytes()))
-    legs = [out(it, kind="320") for it in range(1, 301)]
-    with scratch() as folder:
-        (folder / "costs").write_text("fleet,departure,minute,longest,closed\n" + "".join(f"3{it},1,1,,\n" for it in range(20, 29)), encoding="ascii")
-        (folder / "many").write_text("fleet,aircraft,turn\n" + "".join(f"3{it},9,30\n" for it in range(20, 29)), encoding="ascii")
-        (folder / "windows").write_text("flight,shift,extra\n" + "".join(f"*,{it},0\n" for it in range(1, 9)), encoding="ascii")
-        (folder / "season").write_text("".join(f"{it}\n" for it in file_of(*legs)), encoding="ascii")
-        words = [it for name, file in (("fleets", "many"), ("costs", "costs"), ("windows", "windows")) for it in (f"--{name}", folder / file)]
-        status, told = call("tables", folder / "season", folder / "day", "--date", DATE, *words)
-        line = "24,300 pairs of a leg and a fleet at their times, and tables have 20,000 at most: ask for fewer legs, or give fewer times or fleets"
-        tally.equal("too many times", (6, f"ssim: {folder}/windows: {line}\n", None), (status, told, standing(folder / "day")))
+    _, first = given(scratch, SEASON, "--date", "flight,shift,extra\nZZ1,5,0\nZZ3,5,0\n", "flight,skip\n*,0\n")
+    told = "4 legs depart on 2026-11-30 in UTC: 4 stations, 1 aircraft types\n"
+    both = "windows.csv has 1 records, for calls with --windows\n1 flights of windows aren't among these legs: ZZ3\n"
+    assert first.replace("ssim: ", "") == f"{told}{both}optional.csv has 4 records, for calls with --optional\n"
+    held = (scratch / "day" / "optional.csv").read_bytes()
+    _, then = given(scratch, SEASON, "--date", "flight,shift,extra\n*,5,0\n", None)
+    wanted = f"{told}windows.csv has 4 records, for calls with --windows\noptional.csv stays in day as it was\n"
+    assert (then.replace("ssim: ", ""), (scratch / "day" / "optional.csv").read_bytes()) == (wanted, held)
 
 
-def try_changed(tally: Tally) -> None:
+def test_too_many_times(scratch: Path) -> None:
+    """More pairs of a leg and a fleet at their times than tables may have are refused."""
+    files = {
+        "costs": "fleet,departure,minute,longest,closed\n" + "".join(f"3{it},1,1,,\n" for it in range(20, 29)),
+        "fleets": "fleet,aircraft,turn\n" + "".join(f"3{it},9,30\n" for it in range(20, 29)),
+        "windows": "flight,shift,extra\n" + "".join(f"*,{it},0\n" for it in range(1, 9)),
+    }
+    for name, data in files.items():
+        (scratch / name).write_text(data, encoding="ascii")
+    (scratch / "season").write_text("".join(f"{it}\n" for it in file_of(*(out(it, kind="320") for it in range(1, 301)))), encoding="ascii")
+    words = [it for name in files for it in (f"--{name}", scratch / name)]
+    line = "24,300 pairs of a leg and a fleet at their times, and tables have 20,000 at most: ask for fewer legs, or give fewer times or fleets"
+    assert call("tables", scratch / "season", scratch / "day", "--date", DATE, *words) == (6, f"ssim: {scratch}/windows: {line}\n")
+    assert standing(scratch / "day") is None
+
+
+@pytest.mark.parametrize("name", CHANGED)
+def test_changed(name: str, scratch: Path) -> None:
     """Legs that a planner adds to legs.csv or changes there."""
-    for name, (changes, status, line) in CHANGED.items():
-        with scratch() as folder:
-            lines = file_of(out(), back())
-            planned(folder, lines, {}, option="--week" if "a day" in name else "--date")
-            for table, (old, new) in zip(("legs.csv", "plan.csv"), changes):
-                path = folder / "day" / table
-                path.write_text(path.read_text(encoding="ascii").replace(old, new, 1), encoding="ascii")
-            (folder / "new").unlink()
-            came, told = call("plan", folder / "season", folder / "day", folder / "new")
-            is_written = (folder / "new").exists() and (folder / "new").read_bytes() == (folder / "season").read_bytes()
-            tally.equal(name, (status, f"ssim: {line}\n", status == 0), (came, told.replace(f"{folder}/", ""), is_written))
+    changes, status, line = CHANGED[name]
+    planned(scratch, file_of(out(), back()), {}, option="--week" if "a day" in name else "--date")
+    for table, (old, new) in zip(("legs.csv", "plan.csv"), changes):
+        path = scratch / "day" / table
+        path.write_text(path.read_text(encoding="ascii").replace(old, new, 1), encoding="ascii")
+    (scratch / "new").unlink()
+    came, told = call("plan", scratch / "season", scratch / "day", scratch / "new")
+    assert (came, told.replace(f"{scratch}/", "")) == (status, f"ssim: {line}\n")
+    assert standing(scratch).get("new") == (None if status else (scratch / "season").read_bytes())
 
 
-def try_doubled(tally: Tally) -> None:
+TWICE = "1 flights have a date of operation twice, which date variations can't say otherwise: ZZ 1 on 2026-11-30"
+
+
+@pytest.mark.parametrize("days, words, wanted", [("12", (), [TWICE]), ("2", (), []), ("12", ("--whole-season",), [TWICE.replace("11-30", "10-26")])])
+def test_twice_on_a_date(days: str, words: Sequence[str], wanted: List[str], scratch: Path) -> None:
     """At 00:05 a leg arrives on the day before, over the date line. Twelve hours earlier no date variation says when it arrives, so its
     dates of operation are moved: to those of Mondays, where it has them."""
-    line = "1 flights have a date of operation twice, which date variations can't say otherwise: ZZ 1 on 2026-11-30"
-    for days, words, wanted in (("12", (), [line]), ("2", (), []), ("12", ("--whole-season",), [line.replace("11-30", "10-26")])):
-        with scratch() as folder:
-            one = leg("ZZ", 1, "AKL 0005 +1300 HNL 0835 -1000", "320", days, shifts="0A")
-            planned(folder, file_of(one, out(2)), {}, shifts={"ZZ1": -720})
-            _, told = call("plan", folder / "season", folder / "day", folder / "new", *words)
-            came = [it[6:] for it in told.splitlines() if "twice" in it]
-            tally.equal(f"a flight twice on a date, of {days} {words}", wanted, came)
-
-
-def try_all(tally: Tally) -> None:
-    """Tries all cases."""
-    try_given(tally)
-    try_told(tally)
-    try_changed(tally)
-    try_doubled(tally)
+    one = leg("ZZ", 1, "AKL 0005 +1300 HNL 0835 -1000", "320", days, shifts="0A")
+    planned(scratch, file_of(one, out(2)), {}, shifts={"ZZ1": -720})
+    _, told = call("plan", scratch / "season", scratch / "day", scratch / "new", *words)
+    assert [it[6:] for it in told.splitlines() if "twice" in it] == wanted
