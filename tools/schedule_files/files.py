@@ -3,26 +3,18 @@
 from __future__ import annotations
 
 import os
-from typing import Callable, List, Mapping, Optional, Sequence, Set, Tuple
+from typing import Mapping, Optional, Sequence
 
+from fleetplan import judged as judging
 from fleetplan.errors import FAULT, Unread
 from fleetplan.files import Data, new_folder, told_of, write, write_all
 from fleetplan.forms import Wrong
-from fleetplan.records import Rows, Saying, bytes_of, read_table
+from fleetplan.judged import SAYING, Key
+from fleetplan.records import Rows, bytes_of, read_table
 from fleetplan.tables import Header
-from fleetplan.texts import printed
 
-# What stands once in a table, by a record.
-Key = Callable[[List[str]], Tuple[object, ...]]
 # The most bytes of a schedule file: 999,999 lines and more.
 MOST_BYTES = 1 << 30
-SAYING = Saying(
-    "record 1: {printed}, it should be {wanted}",
-    "record {number}: {printed}, it should be {width} fields",
-    "should be a table of plain letters and digits",
-    "is empty, it should begin with {wanted}",
-    "ascii",
-)
 
 
 def schedule_bytes(path: str) -> bytes:
@@ -37,17 +29,7 @@ def rows(path: str, *headers: Header) -> Rows:
 
 def judged(path: str, header: Header, forms: Sequence[Wrong], key: Optional[Key] = None) -> Rows:
     """Returns the records of a table whose fields all have their form, each first field once, or each key."""
-    known: Set[Tuple[object, ...]] = set()
-    found = rows(path, header)
-    for number, row in enumerate(found, 2):
-        for name, text, wrong in zip(header, row, forms):
-            if wrong(text):
-                raise Unread.at(path, number, f'{name} is "{printed(text)}": {wrong(text)}', name)
-        own = key(row) if key else (row[0],)
-        if own in known:
-            raise Unread.at(path, number, f"{' '.join(map(str, own))} stands twice, it should stand once")
-        known.add(own)
-    return found
+    return judging.judged(path, {header: forms}, key)[1]
 
 
 def write_whole(path: str, data: Data) -> None:

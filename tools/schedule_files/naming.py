@@ -11,6 +11,8 @@ from schedule_files.days import Dates
 from schedule_files.reading import Leg, Schedule
 from schedule_files.selecting import Flown
 
+# The header of names.csv: of which leg of which line, on which date, each name is.
+NAMES = ("flight", "airline", "number", "suffix", "variation", "leg", "line", "operates")
 MOST_BYTES = 8
 LETTERS = "ABCDEFGHIJKLMNOPQRSTUVWXYZ"
 
@@ -36,6 +38,18 @@ def wished(leg: Leg, has_letter: bool, day: str = "") -> Optional[str]:
         return None
     name = f"{leg.airline.strip()}{leg.flight}{leg.suffix.strip()}{LETTERS[leg.sequence - 1] if has_letter else ''}{day}"
     return name if len(name) <= MOST_BYTES else None
+
+
+def plain_names(rows: Sequence[Sequence[str]]) -> Dict[str, str]:
+    """Returns of each leg of the records of a names.csv its name without the day, as far as that fits. A flight has a letter where another
+    one of its legs stands there."""
+    several = {tuple(row[1:4]) for row in rows if row[5] != "1"}
+    found = {}
+    for flight, *number, _, sequence, _, _ in rows:
+        if tuple(number) not in several or sequence.isdigit() and 1 <= int(sequence) <= len(LETTERS):
+            plain = "".join([*number, LETTERS[int(sequence) - 1] if tuple(number) in several else ""])
+            found.update({flight: plain} if len(plain) <= MOST_BYTES else {})
+    return found
 
 
 def _rank(flown: Flown, places: Mapping[str, int], to: Flown) -> Tuple[bool, int]:

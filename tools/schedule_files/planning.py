@@ -18,10 +18,10 @@ from fleetplan.times import DAY, clock
 from schedule_files.days import iso, text_of
 from schedule_files.files import rows
 from schedule_files.layout import BadLine, ZEROS
+from schedule_files.naming import NAMES
 from schedule_files.reading import MOST_RECORDS, Leg, Schedule, read_schedule
 from schedule_files.retiming import common_dates, move_of, moved, retimed
 from schedule_files.splitting import LEFT_OUT, Changes, Chosen, Held, Part, Planned, parts_by_date, parts_by_weekday
-from schedule_files.tables import NAMES
 
 # How many records fill a block, with lines of zeros where there are too few.
 BLOCK = 5

@@ -16,10 +16,9 @@ from fleetplan.times import clock
 from schedule_files import choosing, costing, judging, naming, selecting
 from schedule_files.days import Dates, iso
 from schedule_files.files import write_tables
+from schedule_files.naming import NAMES
 from schedule_files.reading import Schedule
 from schedule_files.selecting import Choice, Flown
-
-NAMES = ("flight", "airline", "number", "suffix", "variation", "leg", "line", "operates")
 
 
 class Sources:
