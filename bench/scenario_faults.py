@@ -36,7 +36,7 @@ def faults(tries: Tries, scratch: Path, _: int) -> None:
 
 
 def slips(tries: Tries, scratch: Path) -> None:
-    """Tables that don't read and changes that can't be are rows of the summary, and no fault of the run."""
+    """Tables that don't read and changes that can't be are rows of the summary, which the run tells, and the others are solved."""
     bad = scratch / "slips" / "bad"
     bad.mkdir(parents=True)
     lines = (HUB_DAY / "costs.csv").read_text(encoding="utf-8").splitlines()
@@ -45,7 +45,11 @@ def slips(tries: Tries, scratch: Path) -> None:
     rows += [("words", "--days 31", "", ""), ("week", "--period 7", "", ""), ("day", "", "", "only-day 3"), ("where", "", "", "parking ZZZ 2")]
     rows += [("none", "", "", "aircraft A320 0; aircraft A220 0; aircraft E190 0")]
     run = Run(scratch / "slips", HUB_DAY, rows)
-    tries("slips are rows, and the run ends well", run.on(2) == 0)
+    status, engine = run.on(2), (run.folder / "engine").read_text(encoding="utf-8")
+    slipped = ("bad", "many", "who", "words", "week", "day", "where")
+    is_told = "DON'T RELY ON 7 OF THE SCENARIOS" in engine and all(f"  {it}: refused, " in engine for it in slipped)
+    is_first = [it["scenario"] for it in run.summary()] == [*slipped, "as-is", "none"]
+    tries("slips are told, and stand first", status != 0 and is_told and is_first and "Each proof holds (2)." in engine)
     told = {it["scenario"]: (it["outcome"], it["told"]) for it in run.summary()}
     tries("a bad table", told["bad"] == ("refused", "bad input: costs.csv record 4 kind 7"), told["bad"][1])
     tries("fewer aircraft than none", told["many"][0] == "refused", told["many"][1])
@@ -55,7 +59,7 @@ def slips(tries: Tries, scratch: Path) -> None:
     for name in ("week", "day"):
         tries("a period of days that legs don't tell", told[name] == ("refused", "bad input: legs.csv record 1 kind 1"), told[name][1])
     tries("no aircraft at all", told["none"] == ("infeasible", "") and run.row("none")["check"] == "holds: infeasible")
-    for change in ("parking ZRH +2", "aircraft A320", "cost A320 1.1", "turn A320 +5", "only-day 8"):
+    for change in ("parking ZRH +2", "aircraft A320", "cost A320 1.1", "turn A320 5.5", "only-day 8"):
         other = Run(scratch / "slips", HUB_DAY, [AS_IS, ("new", "", "", change)])
         status, said = other.on(1), (other.folder / "engine").read_text(encoding="utf-8").rsplit("WorkflowError", 1)[-1]
         tries(f"a change that doesn't read ends the run before it begins: {change}", status != 0 and change.split()[0] in said)

@@ -13,12 +13,12 @@ from typing import Dict, Iterable, List, Mapping, Tuple
 import pytest
 from fleetplan.errors import Unread
 from fleetplan.words import Call
-from scenario_tests.rows import ASKED, ASKED_TEXT, CHANGES, CHECKED, FLAGS, HEADER, OUTCOMES, PERIODS, REFUSED, SOLVED, TABLES, UNREAD
-from scenario_tests.rows import ended
+from scenario_tests.rows import ASKED, ASKED_TEXT, CHANGES, CHECKED, FLAGS, HEADER, OUTCOMES, PERIODS, PLAIN, REFUSED, SOLVED, TABLES
+from scenario_tests.rows import UNREAD, ended
 from steps.laying import changed
 from steps.listing import Scenario, scenarios_of
 from steps.solving import read_json, solve, sums_of, write_json
-from steps.page import alike, start_of
+from steps.page import alike
 from steps.rows import Row
 from steps.running import Limits
 from steps.summary import summarize
@@ -116,7 +116,7 @@ def lay_outcomes(folder: Path) -> None:
     """Lays scenarios that ended in each way."""
     for name, (answer, check, _) in OUTCOMES.items():
         own = folder / "scenarios" / name
-        lay(own / "solved", TABLES)
+        lay(own / "solved", {**TABLES, **({"plan.csv": PLAIN} if answer.get("solved", {}).get("cost") else {})})
         sums = {"sums": sums_of(str(own / "solved"))}
         write_json(str(own / "solved" / "answer.json"), {**SOLVED, **answer})
         if check is not None:
@@ -128,10 +128,14 @@ def test_summary(scratch: Path) -> None:
     lay_outcomes(scratch)
     is_sound, said = summed(scratch, OUTCOMES)
     header, *lines = (scratch / "summary.csv").read_text(encoding="utf-8").splitlines()
-    unsound = [name for name, (_, _, row) in OUTCOMES.items() if row.startswith("NOT ")]
+    unsound = [name for name, (_, _, row) in OUTCOMES.items() if row.startswith(("NOT ", "refused"))]
     assert header == HEADER
     assert [it.split(",")[0] for it in lines] == [*unsound, *(it for it in OUTCOMES if it not in unsound)]
     assert f"DON'T RELY ON {len(unsound)} OF THE SCENARIOS:" in said and not is_sound
+    assert all(f"\n  {it}: " in said for it in unsound)
+    assert said.splitlines()[-1] == (
+        "10 scenarios: 1 refused, 1 NOT SOLVED, 4 NOT PROVED, 1 optimal, 1 gap, 1 infeasible, 1 unsettled. 4 of 8 proofs hold."
+    )
     assert not list((scratch / "scenarios" / "fault").iterdir())
 
 
@@ -159,14 +163,8 @@ def test_asked(scratch: Path) -> None:
     assert "Call it again" in said and not is_sound
     standing = sorted(str(it.relative_to(scratch)) for name in ("sizes.json", "drawn") for it in scratch.glob(f"scenarios/*/{name}"))
     assert standing == ["scenarios/plain/sizes.json", "scenarios/timed/sizes.json"]
-    row = '<td class="name">timed</td><td class="n">20</td><td class="n">infeasible</td>'
+    row = '<th scope="row">timed</th><td class="n">20</td><td class="n">infeasible</td>'
     assert row in (scratch / "summary.html").read_text(encoding="utf-8")
-
-
-@pytest.mark.parametrize("costs, wanted", [([200, 300], 179), ([200, 3000], 0), ([0, 0], -1), ([-5, 100], -27), ([7], 6)])
-def test_start_of_bars(costs: List[int], wanted: int) -> None:
-    """Bars begin below 0 only where a cost is."""
-    assert start_of(costs) == wanted
 
 
 CHARTS: Dict[Tuple[int, ...], List[List[int]]] = {(70, 30, 80, 31): [[70, 80], [30, 31]], (-5, 0, 9, 18): [[-5, 0, 9, 18]], (): []}
@@ -180,11 +178,12 @@ def test_charts(costs: Tuple[int, ...]) -> None:
 
 
 def summed(folder: Path, names: Iterable[str]) -> Tuple[bool, str]:
-    """Sums up scenarios of a folder, and returns whether all is well, and what is told."""
+    """Sums up scenarios of a folder, each compared with the first, and returns whether all is well, and what is told."""
+    lay(folder, {"scenarios.csv": "".join(f"{it}\n" for it in ["scenario,words,folder,changes", *(f"{name},,," for name in names)])})
     said, before = io.StringIO(), Path.cwd()
     os.chdir(folder)
     try:
         with contextlib.redirect_stderr(said):
-            return summarize(list(names), "scenarios"), said.getvalue()
+            return summarize(scenarios_of("scenarios.csv"), "scenarios"), said.getvalue()
     finally:
         os.chdir(before)

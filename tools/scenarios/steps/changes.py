@@ -4,23 +4,36 @@ from __future__ import annotations
 
 import re
 from fractions import Fraction
-from typing import Callable, Dict, List, Optional, Sequence, Set, Tuple
+from typing import Callable, Dict, List, NamedTuple, Optional, Sequence, Set, Tuple
 
 from fleetplan.errors import Unread
-from fleetplan.forms import MOST_AIRCRAFT, MOST_PARKED, TRILLION
+from fleetplan.forms import MOST_AIRCRAFT, MOST_PARKED, MOST_TURN, TRILLION
 from fleetplan.records import Rows
 from fleetplan.tables import DATED, HEADERS
+from fleetplan.times import DAY, clock, minute_of
 from steps.flagged import FLAGGED
 
-# Of each file's name its records, and what changes them.
+# Of each file's name its records.
 Tables = Dict[str, Rows]
-Change = Callable[[Tables], None]
 # Where a record of a station has its limit, if it has one.
 PARKING = len(HEADERS["stations.csv"])
+NAME = "([A-Z0-9]{1,8})"
+CODE = "([A-Z]{3})"
+FACTOR = r"\*([0-9]{1,6}(?:\.[0-9]{1,6})?)"
+
+
+class Change(NamedTuple):
+    """What a text changes, as a function on tables, and what it tells in words."""
+
+    make: Callable[[Tables], None]
+    told: str
+
+
+Reader = Callable[[Sequence[str]], Optional[Change]]
 
 
 def read_change(text: str) -> Change:
-    """Returns what a text changes, as a function on tables (of each file's name its records), or raises Unread."""
+    """Returns what a text changes, or raises Unread."""
     name, *words = text.split() or [""]
     if name not in CHANGES:
         raise Unread(f'no change is named "{name}", there are: {", ".join(form for form, _ in CHANGES.values())}')
@@ -31,27 +44,82 @@ def read_change(text: str) -> Change:
     return found
 
 
+class Step(NamedTuple):
+    """Another whole number: so many more (`+`), less (`-`), or just so many."""
+
+    sign: str
+    number: int
+
+    def of(self, has: int) -> int:
+        """Returns the number in the place of one."""
+        return {"": self.number, "+": has + self.number, "-": has - self.number}[self.sign]
+
+    def told(self, in_all: str, more: str, less: str, as_it_is: str) -> str:
+        """Returns the words for just so many, so many more, so many less, or none of these."""
+        return as_it_is if self.sign and not self.number else {"": in_all, "+": more, "-": less}[self.sign]
+
+
 def aircraft(words: Sequence[str]) -> Optional[Change]:
-    """Another number of aircraft: so many more or less, or just so many."""
-    found = re.fullmatch(r"([A-Z0-9]{1,8}) ([+-]?)([0-9]{1,3})", " ".join(words))
+    """Another number of aircraft."""
+    found = re.fullmatch(f"{NAME} ([+-]?)([0-9]{{1,3}})", " ".join(words))
     if not found:
         return None
-    fleet, sign, number = found[1], found[2], int(found[3])
+    fleet, step = found[1], Step(found[2], int(found[3]))
 
     def change(tables: Tables) -> None:
         row = record_of(tables, "fleets.csv", fleet)
-        has = int(row[1])
-        count = {"": number, "+": has + number, "-": has - number}[sign]
+        count = step.of(int(row[1]))
         if not 0 <= count <= MOST_AIRCRAFT:
-            raise Unread(f"fleets.csv gives {fleet} {has} aircraft, and it may have 0 to {MOST_AIRCRAFT}")
+            raise Unread(f"fleets.csv gives {fleet} {row[1]} aircraft, and it may have 0 to {MOST_AIRCRAFT}")
         row[1] = str(count)
 
-    return change
+    number = "one" if step.number == 1 else str(step.number)
+    return Change(change, step.told(f"{number} {fleet} in all", f"{number} {fleet} more", f"{number} {fleet} less", f"as many {fleet}"))
+
+
+def turn(words: Sequence[str]) -> Optional[Change]:
+    """Another number of minutes from landing to the next departure."""
+    found = re.fullmatch(f"{NAME} ([+-]?)([0-9]{{1,3}})", " ".join(words))
+    if not found:
+        return None
+    fleet, step = found[1], Step(found[2], int(found[3]))
+
+    def change(tables: Tables) -> None:
+        row = record_of(tables, "fleets.csv", fleet)
+        minutes = step.of(int(row[2]))
+        if not 0 <= minutes <= MOST_TURN:
+            raise Unread(f"fleets.csv gives {fleet} a turn of {row[2]} minutes, and it may have 0 to {MOST_TURN}")
+        row[2] = str(minutes)
+
+    minutes_told = f"{step.number} minutes"
+    told = step.told(f"in {minutes_told}", f"{minutes_told} slower", f"{minutes_told} faster", "as fast")
+    return Change(change, f"{fleet} turns {told}")
+
+
+def block(words: Sequence[str]) -> Optional[Change]:
+    """So many minutes more or less in the air, from one station to another: the legs depart when they do, and arrive later or earlier."""
+    found = re.fullmatch(f"{CODE} {CODE} ([+-])([0-9]{{1,3}})", " ".join(words))
+    if not found:
+        return None
+    start, end, step = found[1], found[2], Step(found[3], int(found[4]))
+
+    def change(tables: Tables) -> None:
+        legs = [it for it in tables["legs.csv"] if (it[-4], it[-2]) == (start, end)]
+        if not legs:
+            raise Unread(f"legs.csv has no flight from {start} to {end}")
+        for row in legs:
+            departs, has = minute_of(row[-3]), (minute_of(row[-1]) - minute_of(row[-3])) % DAY
+            if not 0 < step.of(has) < DAY:
+                raise Unread(f"{row[0]} takes {has} minutes, and a leg may take 1 to {DAY - 1}")
+            row[-1] = clock(departs + step.of(has))
+
+    told = step.told("", f"{step.number} minutes longer", f"{step.number} minutes less", "as long")
+    return Change(change, f"{start} to {end} takes {told}")
 
 
 def cost(words: Sequence[str]) -> Optional[Change]:
     """All costs of a fleet times a factor."""
-    found = re.fullmatch(r"([A-Z0-9]{1,8}) \*([0-9]{1,6}(?:\.[0-9]{1,6})?)", " ".join(words))
+    found = re.fullmatch(f"{NAME} {FACTOR}", " ".join(words))
     if not found:
         return None
     fleet, factor = found[1], Fraction(found[2])
@@ -65,7 +133,7 @@ def cost(words: Sequence[str]) -> Optional[Change]:
                     raise Unread(f"{row[0]} would cost {price} with {fleet}, and a cost is {TRILLION} at most")
                 row[2] = str(price)
 
-    return change
+    return Change(change, f"{fleet} costs {by_part(factor)}")
 
 
 def drop_leg(words: Sequence[str]) -> Optional[Change]:
@@ -78,7 +146,7 @@ def drop_leg(words: Sequence[str]) -> Optional[Change]:
         record_of(tables, "legs.csv", flight)
         drop(tables, {flight})
 
-    return change
+    return Change(change, f"{flight} isn't flown")
 
 
 def parking(words: Sequence[str]) -> Optional[Change]:
@@ -95,7 +163,7 @@ def parking(words: Sequence[str]) -> Optional[Change]:
             it[PARKING:] = it[PARKING:] or ["-"]
         row[PARKING] = limit
 
-    return change
+    return Change(change, f"{station} has room for {'any number' if limit == '-' else limit} at night")
 
 
 def only_day(words: Sequence[str]) -> Optional[Change]:
@@ -112,20 +180,25 @@ def only_day(words: Sequence[str]) -> Optional[Change]:
         for it in legs:
             it[1] = "1"
 
-    return change
+    return Change(change, f"day {day} alone")
 
 
 def window(words: Sequence[str]) -> Optional[Change]:
     """A leg that may depart so many minutes later, or earlier, for so much more."""
-    return record_more("windows.csv", words, ("-?[0-9]{1,3}", "-?[0-9]{1,13}"))
+    make = record_more("windows.csv", words, ("-?[0-9]{1,3}", "-?[0-9]{1,13}"))
+    if not make:
+        return None
+    flight, minutes, extra = words[0], int(words[1]), int(words[2])
+    return Change(make, f"{flight} may depart {abs(minutes)} minutes {'earlier' if minutes < 0 else 'later'} for {extra}")
 
 
 def optional(words: Sequence[str]) -> Optional[Change]:
     """A leg that may be left out, for so much."""
-    return record_more("optional.csv", words, ("-?[0-9]{1,13}",))
+    make = record_more("optional.csv", words, ("-?[0-9]{1,13}",))
+    return Change(make, f"{words[0]} may be left out for {int(words[1])}") if make else None
 
 
-def record_more(name: str, words: Sequence[str], forms: Tuple[str, ...]) -> Optional[Change]:
+def record_more(name: str, words: Sequence[str], forms: Tuple[str, ...]) -> Optional[Callable[[Tables], None]]:
     """Returns what adds a record of a leg, with numbers of these forms, to a table that may not stand there yet."""
     if len(words) != 1 + len(forms) or not all(re.fullmatch(form, it) for form, it in zip(forms, words[1:])):
         return None
@@ -145,8 +218,10 @@ def drop(tables: Tables, flights: Set[str]) -> None:
 
 
 # Of each change the form that is told, and what reads its words.
-CHANGES = {
+CHANGES: Dict[str, Tuple[str, Reader]] = {
     "aircraft": ("aircraft FLEET -1 (or +1, or 5)", aircraft),
+    "turn": ("turn FLEET +5 (or -5, or 40)", turn),
+    "block": ("block STATION STATION +10 (or -10)", block),
     "cost": ("cost FLEET *1.1", cost),
     "drop-leg": ("drop-leg FLIGHT", drop_leg),
     "parking": ("parking STATION 2 (or -)", parking),
@@ -163,6 +238,14 @@ def times(price: int, factor: Fraction) -> int:
     count, rest = divmod(abs(price) * factor.numerator, factor.denominator)
     count += 2 * rest >= factor.denominator
     return count if price >= 0 else -count
+
+
+def by_part(factor: Fraction) -> str:
+    """Returns a factor, which has an end as a decimal, as percents more or less."""
+    parts = abs(factor - 1) * 100
+    whole, rest = divmod(parts.numerator * 10**6 // parts.denominator, 10**6)
+    digits = f"{whole}.{rest:06}".rstrip("0").rstrip(".")
+    return "as much" if factor == 1 else f"{digits} % {'more' if factor > 1 else 'less'}"
 
 
 def record_of(tables: Tables, name: str, key: str) -> List[str]:

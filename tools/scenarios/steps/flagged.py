@@ -3,9 +3,9 @@
 from __future__ import annotations
 
 import os
-from typing import List, Optional, Sequence, Tuple
+from typing import Dict, List, Optional, Sequence, Tuple
 
-from fleetplan.records import table_of
+from fleetplan.records import Rows, table_of
 from fleetplan.tables import ASKED, HEADERS, NO_FLEET, SHIFTED, TABLES
 
 # Of each flag its table.
@@ -22,12 +22,19 @@ def tables_in(folder: str) -> List[str]:
     return [*TABLES, *(FLAGGED[it] for it in flags_of(folder))]
 
 
-def moved_and_left_out(folder: str, words: Sequence[str]) -> Tuple[Optional[int], Optional[int]]:
-    """Returns how many legs of a folder's plan depart at another time than their own, and how many it leaves out; None of each where
-    the words of the call don't let it."""
-    if not FLAGGED.keys() & set(words):
-        return None, None
-    _, rows = table_of(folder, "plan.csv", (HEADERS["plan.csv"], SHIFTED))
+def planned(folder: str) -> Rows:
+    """Returns the records of a folder's plan."""
+    return table_of(folder, "plan.csv", (HEADERS["plan.csv"], SHIFTED))[1]
+
+
+def choice_of(rows: Rows) -> Dict[str, str]:
+    """Returns of each flight of a plan its fleet, or `-`."""
+    return {it[0]: it[1] for it in rows}
+
+
+def moved_and_left_out(rows: Rows, words: Sequence[str]) -> Tuple[Optional[int], Optional[int]]:
+    """Returns how many legs of a plan depart at another time than their own, and how many it leaves out; None of each where the words of
+    the call don't let it."""
     moved = sum(it[2] != "0" for it in rows) if "--windows" in words else None
     left_out = sum(it[1] == NO_FLEET for it in rows) if "--optional" in words else None
     return moved, left_out

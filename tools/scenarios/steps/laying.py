@@ -59,7 +59,7 @@ def changed(folder: str, texts: Sequence[str]) -> Optional[str]:
     tables = {it: rows for it, (_, rows) in read.items()}
     for text in texts:
         try:
-            read_change(text)(tables)
+            read_change(text).make(tables)
         except Unread as error:
             return f"{text}: {error}"
     for name, rows in tables.items():

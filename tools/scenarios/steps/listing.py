@@ -5,7 +5,7 @@ from __future__ import annotations
 import os
 import re
 import shlex
-from typing import Dict, List, Optional, Sequence
+from typing import Dict, List, NamedTuple, Optional, Sequence
 
 from fleetplan.errors import Unread
 from fleetplan.records import records_of
@@ -14,16 +14,34 @@ from fleetplan.tables import MOST_DAYS, TABLES
 from fleetplan.words import Call
 from steps.changes import FLAG_OF, read_change
 from steps.flagged import FLAGGED
+from steps.products import MOST, named, placed, products, too_many
 
+# The columns that each file has, and those that it may have behind them.
 HEADER = ("scenario", "words", "folder", "changes")
+MORE = ("base", "times")
+HEADERS = (HEADER, (*HEADER, "base"), (*HEADER, "times"), (*HEADER, *MORE))
+FORM = f"{','.join(HEADER)}, and maybe {' and '.join(MORE)} behind them"
 NAME = re.compile(r"[A-Za-z0-9][A-Za-z0-9_.+-]{0,63}")
+TIMES = re.compile("[0-9]{0,6}")
+
+
+class Told(NamedTuple):
+    """What a record tells of a scenario, as it stands there: its words, its folder, and its changes."""
+
+    words: List[str]
+    folder: str
+    changes: List[str]
 
 
 class Scenario:
-    """A scenario: its name, the words for `solve`, the folder that is laid over the base (None: none), and the texts of its changes."""
+    """A scenario: its name, the words for `solve`, the folder that is laid over the base (None: none), the texts of its changes; `told`, the
+    same as its record has it; `base`, the name of the scenario that it is compared with, its own where that is itself; and how many `times`
+    a year such a day is flown, None where that isn't told."""
 
-    def __init__(self, name: str, words: List[str], folder: Optional[str], changes: List[str]) -> None:
-        self.name, self.words, self.folder, self.changes = name, words, folder, changes
+    def __init__(self, name: str, told: Told, words: List[str], folder: Optional[str]) -> None:
+        self.name, self.told, self.words, self.folder, self.changes = name, told, words, folder, told.changes
+        self.base = name
+        self.times: Optional[int] = None
 
     def files(self, base: str) -> List[str]:
         """Returns the files that its tables come from: those of its own folder, and for the others those of the base."""
@@ -50,28 +68,69 @@ class Scenario:
 def scenarios_of(path: str, base: Optional[str] = None) -> Dict[str, Scenario]:
     """Returns the scenarios of a file by their names, in its order, or raises Unread with the record that is wrong. What their words don't
     say the settings of the base tables do, where there is such a folder."""
-    found, settings = {}, Settings(base) if base else None
+    found: Dict[str, Scenario] = {}
+    records: Dict[str, int] = {}
+    settings = Settings(base) if base else None
+    header: Sequence[str] = HEADER
     for record in records_of(path):
+        texts = tuple(record.texts)
         if record.number == 1:
-            if tuple(record.texts) != HEADER:
-                raise Unread.at(path, 1, f"{record}, it should be {','.join(HEADER)}")
+            if texts not in HEADERS:
+                raise Unread.at(path, 1, f"{record}, it should be {FORM}")
+            header = texts
             continue
         try:
-            scenario = scenario_of(record.texts, os.path.dirname(path), settings)
-            if scenario.name in found:
-                raise Unread(f"{scenario.name} stands twice")
+            for scenario in scenarios_in(fields_of(texts, header), os.path.dirname(path), settings):
+                if scenario.name in found:
+                    raise Unread(f"{scenario.name} stands twice")
+                found[scenario.name], records[scenario.name] = scenario, record.number
+                if len(found) > MOST:
+                    raise Unread(too_many(len(found)))
         except Unread as error:
             raise Unread.at(path, record.number, str(error)) from None
-        found[scenario.name] = scenario
     if not found:
         raise Unread.of(path, f"has no scenario below a header {','.join(HEADER)}")
+    settle(path, found, records)
     return found
 
 
+def fields_of(texts: Sequence[str], header: Sequence[str]) -> Dict[str, str]:
+    """Returns the fields of a record by the names of their columns, empty where a column isn't there, or raises Unread."""
+    if len(texts) != len(header):
+        raise Unread(f"it has {len(texts)} fields, it should have {len(header)}")
+    return {**dict.fromkeys(MORE, ""), **dict(zip(header, texts))}
+
+
+def scenarios_in(fields: Dict[str, str], beside: str, settings: Optional[Settings]) -> List[Scenario]:
+    """Returns the scenarios of a record: one, or one for each choice of its lists and ranges."""
+    if not TIMES.fullmatch(fields["times"]):
+        raise Unread(f'it is flown "{fields["times"]}" times a year, it should be a whole number of 6 digits at most')
+    made = []
+    for words, folder, changes in products(fields["words"], fields["folder"], fields["changes"]):
+        chosen = (*words.chosen, *folder.chosen, *changes.chosen)
+        name = named(fields["scenario"], chosen)
+        scenario = scenario_of((name, words.text, folder.text, changes.text), beside, settings)
+        scenario.base = placed(fields["base"].strip(), chosen)
+        scenario.times = int(fields["times"]) if fields["times"] else None
+        made.append(scenario)
+    return made
+
+
+def settle(path: str, found: Dict[str, Scenario], records: Dict[str, int]) -> None:
+    """Gives each scenario its base, which is the first one where its record names none, and the times of that where it has none of its
+    own; or raises Unread."""
+    first = next(iter(found))
+    for name, it in found.items():
+        it.base = it.base or first
+        if it.base not in found:
+            raise Unread.at(path, records[name], f"{name} is compared with {it.base}, and no scenario has that name", "base")
+    for it in found.values():
+        if it.times is None and it.base != it.name:
+            it.times = found[it.base].times
+
+
 def scenario_of(fields: Sequence[str], beside: str, settings: Optional[Settings] = None) -> Scenario:
-    """Returns the scenario of a record. Its folder counts from the file's own one."""
-    if len(fields) != len(HEADER):
-        raise Unread(f"it has {len(fields)} fields, it should have {len(HEADER)}")
+    """Returns the scenario of a name, words, a folder and changes. Its folder counts from the file's own one."""
     name, words, folder, changes = fields
     if not NAME.fullmatch(name):
         raise Unread(f'a scenario is named "{name}", it should be 1 to 64 of A to Z, a to z, 0 to 9, ".", "_", "+" and "-"')
@@ -85,7 +144,7 @@ def scenario_of(fields: Sequence[str], beside: str, settings: Optional[Settings]
     if is_one_day(texts) and period_in(words_of(words)):
         raise Unread("only-day leaves a schedule of one day, so the words may not have --period")
     whole = [*words_of(words), *(added_to(words_of(words), texts, settings) if settings else [])]
-    return Scenario(name, with_flags(whole, texts), place, texts)
+    return Scenario(name, Told(words_of(words), folder, texts), with_flags(whole, texts), place)
 
 
 def added_to(words: Sequence[str], texts: Sequence[str], settings: Settings) -> List[str]:

@@ -5,20 +5,32 @@ from __future__ import annotations
 import os
 import sys
 from collections import Counter
-from typing import Any, List, Mapping, Optional, Sequence
+from typing import Any, Dict, List, Mapping, Optional, Sequence
 
+from fleetplan.errors import Unread
 from fleetplan.files import remove, write
-from fleetplan.records import text_of as table_text
-from steps.flagged import moved_and_left_out
+from steps.flagged import choice_of, moved_and_left_out, planned
 from steps.laying import FAULT
+from steps.listing import Scenario
 from steps.page import page
-from steps.rows import UNPROVED, UNSOLVED, Row, asked_of, columns_of
-from steps.sizes import CHANGES
+from steps.rows import REFUSED, UNPROVED, UNSOLVED, Row
+from steps.sheet import Sheet
 from steps.solving import ANSWER, CHECK, DRAWN, SIZES, Answer, read_json, sums_of, text_in
+from steps.sums import sums_of as days_added
+from steps.telling import told_of
 
-REFUSED = "refused"
 RULE = "*" * 78
 MOST_TOLD = 20
+
+
+def rows_of(scenarios: Mapping[str, Scenario], folder: str) -> List[Row]:
+    """Returns the rows of scenarios, each with the one that it is compared with, in their order."""
+    rows = {name: row_of(name, os.path.join(folder, name)) for name in scenarios}
+    for name, it in scenarios.items():
+        row = rows[name]
+        row.base, row.times = rows[it.base], it.times
+        row.changes = told_of(it, scenarios[it.base])
+    return list(rows.values())
 
 
 def row_of(name: str, folder: str) -> Row:
@@ -34,15 +46,26 @@ def row_of(name: str, folder: str) -> Row:
         wrong = wrong_with(answer["solved"], check, solved)
         said = check.get("told", "")
         row = Row(name, UNPROVED, wrong, said) if wrong else Row(name, answer["solved"]["outcome"], "", said, answer["solved"])
+    if row.solved and row.cost is not None:
+        row = add_plan(row, solved, answer["reading"])
     if row.solved:
         add_asked(row, os.path.join(folder, SIZES))
         undrawn = text_in(os.path.join(folder, DRAWN, FAULT))
         if undrawn:
             row.add_fault(f"it wasn't drawn: {undrawn}")
-    if row.cost is not None:
-        row.moved, row.left_out = moved_and_left_out(solved, answer["reading"])
     row.seconds = answer["seconds"] + check.get("seconds", 0)
     row.memory = max(answer["memory"], check.get("memory", 0))
+    return row
+
+
+def add_plan(row: Row, solved: str, reading: Sequence[str]) -> Row:
+    """Returns the row of a scenario with what its plan says, or, where that doesn't read, one that isn't proved."""
+    try:
+        flown = planned(solved)
+    except Unread as error:
+        return Row(row.name, UNPROVED, str(error), row.check)
+    row.choice = choice_of(flown)
+    row.moved, row.left_out = moved_and_left_out(flown, reading)
     return row
 
 
@@ -80,36 +103,30 @@ def claim(solved: Mapping[str, Any]) -> str:
     return f"holds: {cost}bound {solved['bound']}"
 
 
-def text_of(rows: Sequence[Row]) -> str:
-    """Returns the summary as a table."""
-    names = columns_of(rows)
-    asked = [(change, fleet) for fleet in asked_of(rows) for change in CHANGES]
-    head = ["scenario", "outcome", *names, *(f"one {change} {fleet}" for change, fleet in asked)]
-    head += ["rotations", "check", "told", "seconds", "memory MB"]
-    records = []
-    for it in rows:
-        numbers = [it.numbers.get(name) for name in names]
-        bounds = [it.bound_with(change, fleet) for change, fleet in asked]
-        took = ["", ""] if it.seconds is None or it.memory is None else [f"{it.seconds:.2f}", f"{it.memory / 1000:.1f}"]
-        shown = ("" if at is None else at for at in numbers)
-        records.append([it.name, it.outcome, *shown, *bounds, it.rotations, it.check, it.told, *took])
-    return table_text(tuple(head), records)
-
-
-def summarize(names: Sequence[str], folder: str) -> bool:
+def summarize(scenarios: Mapping[str, Scenario], folder: str) -> bool:
     """Writes the summary of the scenarios, and returns whether each was solved, each proof holds, and no step failed."""
-    rows = [row_of(it, os.path.join(folder, it)) for it in names]
+    rows = rows_of(scenarios, folder)
     rows.sort(key=lambda it: it.is_sound)
-    write("summary.csv", text_of(rows))
-    write("summary.html", page(rows, folder))
-    for it in names:
+    sums = days_added(rows)
+    write("summary.csv", Sheet(rows, sums).text())
+    write("summary.html", page(rows, sums, folder))
+    for it in scenarios:
         forget_faults(os.path.join(folder, it))
     unsound, partial = [it for it in rows if not it.is_sound], [it for it in rows if not it.is_whole]
-    counts = ", ".join(f"{number} {outcome}" for outcome, number in Counter(it.outcome for it in rows).items())
-    print(warning(unsound) if unsound else f"{len(rows)} scenarios: {counts}. Each proof holds.", file=sys.stderr)
+    told = [warning(unsound)] if unsound else []
     if partial:
-        print("\n".join(["Call it again, since not each step ended:", *listed(partial)]), file=sys.stderr)
+        told += ["Call it again, since not each step ended:", *listed(partial)]
+    print("\n".join([*told, counted(rows)]), file=sys.stderr)
     return not unsound and not partial
+
+
+def counted(rows: Sequence[Row]) -> str:
+    """Returns how many scenarios ended how, and how many proofs hold of those that there are."""
+    counts: Dict[str, int] = Counter(it.outcome for it in rows)
+    proofs = [it for it in rows if it.outcome not in (REFUSED, UNSOLVED)]
+    hold = sum(it.is_sound for it in proofs)
+    proved = f"{hold} of {len(proofs)} proofs hold." if hold < len(proofs) else f"Each proof holds ({hold})." if proofs else "There is no proof."
+    return f"{len(rows)} scenarios: {', '.join(f'{number} {outcome}' for outcome, number in counts.items())}. {proved}"
 
 
 def forget_faults(folder: str) -> None:
