@@ -4,32 +4,18 @@ from __future__ import annotations
 
 import re
 from fractions import Fraction
-from typing import Callable, Dict, List, NamedTuple, Optional, Sequence, Set, Tuple
+from typing import Callable, Dict, Optional, Sequence, Set, Tuple
 
 from fleetplan.errors import Unread
 from fleetplan.forms import MOST_AIRCRAFT, MOST_PARKED, MOST_TURN, TRILLION
-from fleetplan.records import Rows
 from fleetplan.tables import DATED, HEADERS
 from fleetplan.times import DAY, clock, minute_of
+from steps.changing import CODE, FACTOR, NAME, Change, Reader, Step, Tables, by_part, record_of, times
+from steps.figures import demand, fuel
 from steps.flagged import FLAGGED
 
-# Of each file's name its records.
-Tables = Dict[str, Rows]
 # Where a record of a station has its limit, if it has one.
 PARKING = len(HEADERS["stations.csv"])
-NAME = "([A-Z0-9]{1,8})"
-CODE = "([A-Z]{3})"
-FACTOR = r"\*([0-9]{1,6}(?:\.[0-9]{1,6})?)"
-
-
-class Change(NamedTuple):
-    """What a text changes, as a function on tables, and what it tells in words."""
-
-    make: Callable[[Tables], None]
-    told: str
-
-
-Reader = Callable[[Sequence[str]], Optional[Change]]
 
 
 def read_change(text: str) -> Change:
@@ -42,21 +28,6 @@ def read_change(text: str) -> Change:
     if not found:
         raise Unread(f'"{text}" doesn\'t read, it should be as {form}')
     return found
-
-
-class Step(NamedTuple):
-    """Another whole number: so many more (`+`), less (`-`), or just so many."""
-
-    sign: str
-    number: int
-
-    def of(self, has: int) -> int:
-        """Returns the number in the place of one."""
-        return {"": self.number, "+": has + self.number, "-": has - self.number}[self.sign]
-
-    def told(self, in_all: str, more: str, less: str, as_it_is: str) -> str:
-        """Returns the words for just so many, so many more, so many less, or none of these."""
-        return as_it_is if self.sign and not self.number else {"": in_all, "+": more, "-": less}[self.sign]
 
 
 def aircraft(words: Sequence[str]) -> Optional[Change]:
@@ -228,29 +199,8 @@ CHANGES: Dict[str, Tuple[str, Reader]] = {
     "only-day": ("only-day DAY", only_day),
     "window": ("window FLIGHT 10 5", window),
     "optional": ("optional FLIGHT 30", optional),
+    "demand": ("demand *0.8 (or demand FLIGHT *0.8, or demand market 0.15 seed 7, or demand day 0.15 seed 7)", demand),
+    "fuel": ("fuel *1.5", fuel),
 }
 # The flag without which the program wouldn't read the table that a change adds to.
 FLAG_OF = {"window": "--windows", "optional": "--optional"}
-
-
-def times(price: int, factor: Fraction) -> int:
-    """Returns a cost times a factor, as the nearest whole number, and of two as near the one further from 0."""
-    count, rest = divmod(abs(price) * factor.numerator, factor.denominator)
-    count += 2 * rest >= factor.denominator
-    return count if price >= 0 else -count
-
-
-def by_part(factor: Fraction) -> str:
-    """Returns a factor, which has an end as a decimal, as percents more or less."""
-    parts = abs(factor - 1) * 100
-    whole, rest = divmod(parts.numerator * 10**6 // parts.denominator, 10**6)
-    digits = f"{whole}.{rest:06}".rstrip("0").rstrip(".")
-    return "as much" if factor == 1 else f"{digits} % {'more' if factor > 1 else 'less'}"
-
-
-def record_of(tables: Tables, name: str, key: str) -> List[str]:
-    """Returns the record of a station, a fleet or a flight, or raises Unread."""
-    found = next((it for it in tables[name] if it[0] == key), None)
-    if found is None:
-        raise Unread(f"{name} has no {key}")
-    return found

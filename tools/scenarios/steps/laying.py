@@ -7,10 +7,12 @@ import shutil
 from typing import Optional, Sequence
 
 from fleetplan.errors import Unread
-from fleetplan.files import write
+from fleetplan.files import remove, write
 from fleetplan.records import table_of, text_of
 from fleetplan.tables import HEADERS, LIMITED, headers_of
 from steps.changes import read_change
+from steps.changing import Tables
+from steps.figures import FILES
 from steps.flagged import flags_of, tables_in
 from steps.running import Fault, Limits, run
 from steps.whole import folder
@@ -34,6 +36,8 @@ def lay(program: str, files: Sequence[str], texts: Sequence[str], period: str, p
                 raise
             write(os.path.join(beside, FAULT), str(error))
             return
+        for it in FILES:
+            remove(os.path.join(beside, it))
         if refusal:
             write(os.path.join(beside, REFUSED), refusal)
 
@@ -55,16 +59,21 @@ def changed(folder: str, texts: Sequence[str]) -> Optional[str]:
     try:
         read = {it: table_of(folder, it, headers_of(it)) for it in tables_in(folder)}
     except Unread as error:
-        return f"{texts[0]}: {error}"
-    tables = {it: rows for it, (_, rows) in read.items()}
+        return told(folder, texts[0], error)
+    tables = Tables(folder, {it: rows for it, (_, rows) in read.items()})
     for text in texts:
         try:
             read_change(text).make(tables)
         except Unread as error:
-            return f"{text}: {error}"
+            return told(folder, text, error)
     for name, rows in tables.items():
         header = read[name][0] if name in read else HEADERS[name]
         if name == "stations.csv" and len(rows[0] if rows else ()) == len(LIMITED):
             header = LIMITED
         write(os.path.join(folder, name), text_of(header, rows))
     return None
+
+
+def told(folder: str, text: str, error: Unread) -> str:
+    """Returns why a change can't be made. Files are named without the folder, which has another name at each try."""
+    return f"{text}: {str(error).replace(os.path.join(folder, ''), '')}"

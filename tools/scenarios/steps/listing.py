@@ -13,6 +13,7 @@ from fleetplan.settings import Settings
 from fleetplan.tables import MOST_DAYS, TABLES
 from fleetplan.words import Call
 from steps.changes import FLAG_OF, read_change
+from steps.figures import FILES, NEEDED, PRICING, UNDONE
 from steps.flagged import FLAGGED
 from steps.products import MOST, named, placed, products, too_many
 
@@ -45,7 +46,13 @@ class Scenario:
 
     def files(self, base: str) -> List[str]:
         """Returns the files that its tables come from: those of its own folder, and for the others those of the base."""
-        return [self.own(it) or os.path.join(base, it) for it in (*TABLES, *self.flagged(base))]
+        return [self.own(it) or os.path.join(base, it) for it in (*TABLES, *self.flagged(base), *self.figures(base))]
+
+    def figures(self, base: str) -> List[str]:
+        """Returns the files of a planner's own figures by which its changes price pairs, none where they don't."""
+        if not any(it.split()[0] in PRICING for it in self.changes):
+            return []
+        return [it for it in FILES if it in NEEDED or self.own(it) or os.path.lexists(os.path.join(base, it))]
 
     def flagged(self, base: str) -> List[str]:
         """Returns the tables that its words want beside the five, but those that its changes alone fill."""
@@ -135,16 +142,25 @@ def scenario_of(fields: Sequence[str], beside: str, settings: Optional[Settings]
     if not NAME.fullmatch(name):
         raise Unread(f'a scenario is named "{name}", it should be 1 to 64 of A to Z, a to z, 0 to 9, ".", "_", "+" and "-"')
     place = os.path.join(beside, folder) if folder else None
-    names = (*TABLES, *FLAGGED.values())
+    names = (*TABLES, *FLAGGED.values(), *FILES)
     if place and not any(os.path.isfile(os.path.join(place, it)) for it in names):
         raise Unread(f"the folder {place} has none of {', '.join(names)}")
     texts = [it.strip() for it in changes.split(";") if it.strip()]
     for it in texts:
         read_change(it)
+    want_order(texts)
     if is_one_day(texts) and period_in(words_of(words)):
         raise Unread("only-day leaves a schedule of one day, so the words may not have --period")
     whole = [*words_of(words), *(added_to(words_of(words), texts, settings) if settings else [])]
     return Scenario(name, Told(words_of(words), folder, texts), with_flags(whole, texts), place)
+
+
+def want_order(texts: Sequence[str]) -> None:
+    """Raises Unread where a change would price pairs whose costs another one has changed before."""
+    names = [it.split()[0] for it in texts]
+    late = [it for at, it in enumerate(texts) if names[at] in PRICING and UNDONE in names[:at]]
+    if late:
+        raise Unread(f'"{late[0]}" prices all pairs anew, so it stands before a change of {UNDONE}')
 
 
 def added_to(words: Sequence[str], texts: Sequence[str], settings: Settings) -> List[str]:
