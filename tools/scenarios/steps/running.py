@@ -5,7 +5,6 @@ from __future__ import annotations
 import os
 import shutil
 import subprocess
-import tempfile
 from typing import List, Sequence
 
 # What the program ends with where it answers; all else is a fault of the machine, which another try may not meet.
@@ -43,9 +42,15 @@ def run(program: str, words: Sequence[str], limits: Limits) -> Ran:
     timer = shutil.which("time")
     if timer is None:
         raise Fault("GNU time isn't on the PATH (Debian's package time)")
-    with tempfile.NamedTemporaryFile("r", encoding="ascii") as note:
-        timed = [timer, "-q", "-f", "%U %S %M", "-o", note.name, os.path.abspath(program), *words]
-        ran = subprocess.run([*limits.words, *timed], stdin=subprocess.DEVNULL, stdout=subprocess.PIPE, check=False)
+    # The note comes by a pipe, since the disk of a machine may be full.
+    ours, theirs = os.pipe()
+    with os.fdopen(ours, encoding="ascii") as note:
+        try:
+            timed = [timer, "-q", "-f", "%U %S %M", "-o", f"/dev/fd/{theirs}", os.path.abspath(program), *words]
+            nothing, pipe = subprocess.DEVNULL, subprocess.PIPE
+            ran = subprocess.run([*limits.words, *timed], stdin=nothing, stdout=pipe, pass_fds=[theirs], check=False)
+        finally:
+            os.close(theirs)
         # A shell that may not set its limits ends with 2 as well, and without the program's line.
         if ran.returncode not in ANSWERS or (ran.returncode == 2 and not ran.stdout.startswith(b"usage: ")):
             raise Fault(f"{words[0]} ended with {ran.returncode}: {why(ran)} (it might take {limits.memory} MB, {limits.minutes} minutes)")
