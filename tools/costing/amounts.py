@@ -4,7 +4,7 @@ from __future__ import annotations
 
 import re
 from fractions import Fraction
-from typing import Optional
+from typing import Dict, Optional
 
 from fleetplan.forms import MOST_DIGITS, TRILLION, Wrong, oddity
 
@@ -36,21 +36,41 @@ def rounded(number: Fraction) -> int:
     return halves_up(number.numerator, number.denominator)
 
 
-def decimals_of(number: Fraction) -> Optional[int]:
-    """Returns how many decimals write a number in full, or None where none do."""
-    rest, twos, fives = number.denominator, 0, 0
-    while rest % 2 == 0:
-        rest, twos = rest // 2, twos + 1
-    while rest % 5 == 0:
-        rest, fives = rest // 5, fives + 1
-    return max(twos, fives) if rest == 1 else None
+class Writer:
+    """Writes counts of a unit's parts as decimals. The unit has so many parts that at most one factor of them is 3, and all others are 2 or
+    5, as what is reckoned from decimals and minutes of an hour has."""
+
+    def __init__(self, unit: int) -> None:
+        self.unit = unit
+        self.thirds = 3 if unit % 3 == 0 else 1
+        self.places = _places(unit // self.thirds)
+        self.factor = 10**self.places // (unit // self.thirds)
+        self.known: Dict[int, str] = {}
+
+    def text(self, count: int) -> str:
+        """Returns a count in full where that ends, and else with one decimal more than any that ends has. So the sum of some texts lies on the
+        same side of each half, or on it, as the sum of the counts."""
+        if count not in self.known:
+            own, rest = divmod(count, self.thirds)
+            places = self.places + (rest > 0)
+            number = halves_up(count * 10**places, self.unit) if rest else own * self.factor
+            whole, part = divmod(number, 10**places)
+            decimals = f"{part:0{places}}".rstrip("0") if part else ""
+            self.known[count] = f"{whole}.{decimals}" if decimals else str(whole)
+        return self.known[count]
 
 
-def written(number: Fraction, most: Optional[int] = None) -> str:
-    """Returns a number of 0 or more in full, or, where that takes more than so many decimals, rounded to these."""
-    own = decimals_of(number)
-    places = own if own is not None and (most is None or own <= most) else most
-    if places is None:
-        raise ValueError(f"{number} has no end")
-    whole, part = divmod(rounded(number * 10**places), 10**places)
-    return f"{whole}.{part:0{places}}" if places else str(whole)
+def _places(unit: int) -> int:
+    """Returns how many decimals write each count of a unit's parts, or raises ValueError where none do."""
+    rest, factors = unit, {2: 0, 5: 0}
+    for factor in factors:
+        while rest % factor == 0:
+            rest, factors[factor] = rest // factor, factors[factor] + 1
+    if rest != 1:
+        raise ValueError(f"parts of {unit} have no decimals")
+    return max(factors.values())
+
+
+def written(number: Fraction) -> str:
+    """Returns a number of 0 or more in full."""
+    return Writer(number.denominator).text(number.numerator)

@@ -11,7 +11,6 @@ from fleetplan.judged import judged
 from fleetplan.records import read_table
 from fleetplan.tables import DATED, HEADERS, MOST_DAYS, TABLE, forms_of
 from fleetplan.times import DAY, clock, minute_of
-from schedule_files import naming
 
 # What stands for each leg that has no record of its own.
 EACH = "*"
@@ -112,4 +111,6 @@ def plain_names(folder: str, rows: Sequence[Sequence[str]]) -> Dict[str, str]:
     path = os.path.join(folder, "names.csv")
     if all(len(it) != len(DATED) or it[0].endswith(f"D{it[1]}") for it in rows) or not os.path.lexists(path):
         return {}
+    from schedule_files import naming
+
     return naming.plain_names(read_table(path, (naming.NAMES,))[1])

@@ -9,10 +9,10 @@ import math
 from fractions import Fraction
 from typing import Dict, Iterable, List, Mapping, NamedTuple, Optional, Sequence, Tuple
 
-from costing.amounts import decimals_of, halves_up, rounded, written
+from costing.amounts import Writer, halves_up, rounded
 from costing.figures import Demand, Figures
 from costing.legs import Leg, key_of
-from costing.spilling import THOUSAND, spilled
+from costing.spilling import THOUSAND, Law
 from costing.types import Type
 from fleetplan.forms import TRILLION
 
@@ -23,26 +23,18 @@ PARTS = ("departure", "minutes", "fuel", "fee", "spill")
 
 
 class Priced(NamedTuple):
-    """A pair with its cost, the thousandths of a passenger who find no seat, and the parts of the cost, each a count of `unit`-ths."""
+    """A pair with its cost, the thousandths of a passenger who find no seat, and the parts of the cost, each a count of the pricer's unit."""
 
     leg: Leg
     fleet: str
     cost: int
     spilled: int
     parts: Tuple[int, ...]
-    unit: int
 
     @property
     def operating(self) -> int:
-        """The parts but for the last, as a count of the same."""
+        """All parts but the last, as a count of the same."""
         return sum(self.parts[:-1])
-
-    def texts(self) -> List[str]:
-        """Returns the parts as texts whose sum, rounded halves up, is the cost. They are exact, but for thirds: a part that no decimals
-        write has one more of them than three times the sum, so the sum of the texts lies on the same side of each half."""
-        places = decimals_of(Fraction(3 * sum(self.parts), self.unit))
-        most = None if places is None else places + 1
-        return [written(Fraction(it, self.unit), most if it % self.unit else None) for it in self.parts]
 
 
 class Demands:
@@ -81,11 +73,13 @@ class Pricer:
         self.demands = Demands(figures, legs, factors or {})
         self.rates = rates_of(figures, {it.start for it in legs}, fleets)
         self.unit = self._unit(fleets)
+        self.writer = Writer(self.unit)
         self.types = {it: self._counted(figures.types[it]) for it in fleets}
         self.minutes = {key: self._count(it) for key, it in self.rates.items()}
         self.fees = {key: self._count(it) for key, it in figures.fees.items() if key[1] in self.types}
         self.worths = {flight: self._count(it.worth / THOUSAND) for flight, it in self.demands.of.items()}
-        self.known: Dict[Tuple[str, Fraction], int] = {}
+        self.laws = {flight: Law(it.mean, it.sd) for flight, it in self.demands.of.items()}
+        self.known: Dict[Tuple[str, int, int], int] = {}
 
     def _unit(self, fleets: Sequence[str]) -> int:
         """Returns in how many parts a unit of currency is divided, so that each figure is a whole number of them."""
@@ -101,22 +95,22 @@ class Pricer:
         """Returns how many of these parts a number is."""
         return number.numerator * (self.unit // number.denominator)
 
-    def _counted(self, own: Type) -> Tuple[Fraction, int, int]:
-        """Returns the seats of a fleet, and what a departure and a minute are."""
-        return own.seats, self._count(own.departure), self._count(own.minute)
+    def _counted(self, own: Type) -> Tuple[int, int, int, int]:
+        """Returns the seats of a fleet as a fraction's two numbers, and what a departure and a minute are."""
+        return own.seats.numerator, own.seats.denominator, self._count(own.departure), self._count(own.minute)
 
-    def spilled(self, leg: Leg, seats: Fraction) -> int:
+    def spilled(self, leg: Leg, seats: int, of: int) -> int:
         """Returns how many passengers of a leg find no seat among so many, in thousandths; or raises Unread."""
-        key = (leg.flight, seats)
+        key = (leg.flight, seats, of)
         if key not in self.known:
-            demand = self.demands.of_leg(leg)
-            self.known[key] = spilled(demand.mean, demand.sd, seats)
+            self.demands.of_leg(leg)
+            self.known[key] = self.laws[leg.flight].spilled(seats, of)
         return self.known[key]
 
     def price(self, leg: Leg, fleet: str) -> Priced:
         """Returns a pair with its cost and parts, or raises Unread where demand or a price of fuel is missing, or the cost is too high."""
-        seats, departure, minute = self.types[fleet]
-        turned_away = self.spilled(leg, seats)
+        *seats, departure, minute = self.types[fleet]
+        turned_away = self.spilled(leg, *seats)
         rate = self.minutes.get((leg.start, fleet))
         if rate is None:
             raise leg.place.fault(f"{self.figures.paths.fuel or 'no file'} has no price of fuel at {leg.start}, and {fleet} burns it", "from")
@@ -125,7 +119,7 @@ class Pricer:
         cost = halves_up(sum(parts), self.unit)
         if cost > TRILLION:
             raise leg.place.fault(f"{leg.flight} costs {cost} with {fleet}, and a cost is {TRILLION} at most")
-        return Priced(leg, fleet, cost, turned_away, parts, self.unit)
+        return Priced(leg, fleet, cost, turned_away, parts)
 
     def skip(self, leg: Leg) -> int:
         """Returns what it costs not to fly a leg: the spill without a seat; or raises Unread."""

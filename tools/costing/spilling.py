@@ -24,42 +24,59 @@ def loss(z: float) -> float:
     return max(_HEIGHT * math.exp(-z * z / 2) - z * math.erfc(z / _ROOT) / 2, 0.0)
 
 
-def tail(mean: Fraction, sd: Fraction, seats: Fraction) -> float:
-    """Returns what the spread adds to the passengers who find no seat by the mean alone."""
-    if not sd:
-        return 0.0
-    gap = abs(seats.numerator * mean.denominator - mean.numerator * seats.denominator)
-    return float(sd) * loss(gap * sd.denominator / (mean.denominator * seats.denominator * sd.numerator))
+class Law:
+    """A normal law of passengers: its mean and spread, as whole counts of a part of a passenger."""
+
+    __slots__ = ("mean", "sd", "unit", "spread")
+
+    def __init__(self, mean: Fraction, sd: Fraction) -> None:
+        self.unit = mean.denominator * sd.denominator
+        self.mean, self.sd, self.spread = mean.numerator * sd.denominator, sd.numerator * mean.denominator, float(sd)
+
+    def spilled(self, seats: int, of: int = 1) -> int:
+        """Returns the mean of max(demand - seats, 0) in thousandths of a passenger, with `seats` of `of` seats. With z = (seats - mean) / sd it is
+        sd (f(z) - z (1 - F(z))): max(mean - seats, 0), which is exact, and sd times the loss of |z|, which is a float."""
+        gap = seats * self.unit - self.mean * of
+        over, unit = max(-gap, 0), self.unit * of
+        if not self.sd:
+            return halves_up(THOUSAND * over, unit)
+        part, parts = (self.spread * loss(abs(gap) / (self.sd * of))).as_integer_ratio()
+        return halves_up(THOUSAND * (over * parts + part * unit), unit * parts)
 
 
 def spilled(mean: Fraction, sd: Fraction, seats: Fraction) -> int:
-    """Returns the mean of max(demand - seats, 0) in thousandths of a passenger. It is sd (f(z) - z (1 - F(z))) with z = (seats - mean) / sd,
-    which is max(mean - seats, 0) and the loss of |z|: the first is exact, and of a float is the second alone."""
-    over = max(mean.numerator * seats.denominator - seats.numerator * mean.denominator, 0)
-    unit = mean.denominator * seats.denominator
-    part, of = tail(mean, sd, seats).as_integer_ratio()
-    return halves_up(THOUSAND * (over * of + part * unit), unit * of)
+    """Returns how many passengers of a mean and a spread find no seat among some, in thousandths."""
+    return Law(mean, sd).spilled(seats.numerator, seats.denominator)
 
 
-def carried(mean: Fraction, factor: Fraction, seats: Fraction) -> Fraction:
-    """Returns the mean number of passengers who find a seat, where the spread is `factor` times the mean."""
-    return min(mean, seats) - Fraction(tail(mean, factor * mean, seats))
+def unseated(mean: Fraction, factor: Fraction, seats: Fraction) -> float:
+    """Returns what the spread, which is `factor` times the mean, adds to the passengers who find no seat by the mean alone."""
+    if not factor or not mean:
+        return 0.0
+    return float(factor * mean) * loss(abs(float((seats - mean) / (factor * mean))))
 
 
 def most_carried(factor: Fraction, seats: Fraction) -> Fraction:
     """Returns how many are carried where twice as many as there are seats want one."""
-    return carried(2 * seats, factor, seats)
+    return seats - Fraction(unseated(2 * seats, factor, seats))
 
 
 def mean_of(has: Fraction, factor: Fraction, seats: Fraction) -> Optional[Fraction]:
     """Returns the mean demand up to 2 x seats of which so many are carried, to a thousandth; None where no such mean is. Up to there and
-    for a factor to 0.5 what is carried grows with the mean, so the mean is bisected."""
+    for a factor to 0.5 what is carried grows with the mean, so the mean is bisected, in halves of a thousandth."""
     if most_carried(factor, seats) < has:
         return None
+    # All in parts of which there are so many in half a thousandth.
+    unit = has.denominator * seats.denominator * factor.denominator
+    own, most = (2 * THOUSAND * unit * it.numerator // it.denominator for it in (has, seats))
+    spread = factor.numerator * unit // factor.denominator
     low, high = 0, rounded(2 * seats * THOUSAND)
     while low < high:
         middle = (low + high + 1) // 2
-        if carried(Fraction(2 * middle - 1, 2 * THOUSAND), factor, seats) <= has:
+        half = 2 * middle - 1
+        z = abs(most - half * unit) / (spread * half) if spread else 0.0
+        added = float(factor) * half / (2 * THOUSAND) * loss(z) if spread else 0.0
+        if (min(half * unit, most) - own) / (2 * THOUSAND * unit) <= added:
             low = middle
         else:
             high = middle - 1

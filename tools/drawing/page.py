@@ -2,11 +2,9 @@
 
 from __future__ import annotations
 
-import os
 from dataclasses import asdict, dataclass
 from typing import Any, Dict, List, Optional
 
-import jinja2
 from markupsafe import Markup
 
 from drawing import charts, colours, figures, grounds, heads
@@ -15,11 +13,11 @@ from drawing.charts import Bar, Chart, Drawer, Scale
 from drawing.flights import Chain, Departure, window
 from drawing.library import Library
 from drawing.plans import Fleet, Plan, Row
+from drawing.templating import environment, script, styles
 from drawing.telling import Leg, Teller, legs_of, legs_out
 from fleetplan.tables import NO_FLEET
 from fleetplan.times import DAY
 
-TEMPLATES = os.path.join(os.path.dirname(os.path.realpath(__file__)), "templates")
 # Pixels of the rows of a chart that stands by itself.
 ALONE = 1104
 # What the script has to know of the charts: pixels, and letters. A row has 950 pixels on paper (A4).
@@ -63,23 +61,6 @@ class Few:
     fleet: str
     first: str
     last: str
-
-
-def environment() -> jinja2.Environment:
-    """Returns the environment of the templates, in which all that is put in is escaped."""
-    loader = jinja2.FileSystemLoader(TEMPLATES)
-    return jinja2.Environment(loader=loader, autoescape=True, undefined=jinja2.StrictUndefined, trim_blocks=True, lstrip_blocks=True)
-
-
-def styles(env: jinja2.Environment, name: str, **pixels: int) -> Markup:
-    """Returns a style sheet, which holds no text of a table."""
-    return Markup(env.get_template(name).render(**pixels))
-
-
-def script() -> Markup:
-    """Returns the script of the page."""
-    with open(os.path.join(TEMPLATES, "page.js"), encoding="utf-8") as it:
-        return Markup(it.read())
 
 
 class Pages:
@@ -130,7 +111,7 @@ class Pages:
             library=library,
             library_text=Markup(library.text) if library else "",
             data=self.data([*legs, *out], bars, tall),
-            script=script() if library else "",
+            script=script("page.js") if library else "",
             **self.stations(),
         )
 

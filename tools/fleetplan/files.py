@@ -35,6 +35,50 @@ def write_all(folder: str, files: Mapping[str, Data]) -> None:
         raise
 
 
+def write_together(folder: str, files: Mapping[str, Data]) -> None:
+    """Writes files of a folder, or raises OSError and leaves all as they were. They come into their places in their order: only a process that
+    is killed between two of them leaves the first ones new and the others old."""
+    beside: Dict[str, str] = {}
+    older: Dict[str, Optional[str]] = {}
+    try:
+        for name, data in files.items():
+            beside[name] = _written(os.path.join(folder, name), data)
+        for name in list(beside):
+            path = os.path.join(folder, name)
+            older[name] = _kept(path) if os.path.lexists(path) else None
+            os.replace(beside[name], path)
+            del beside[name]
+    except BaseException:
+        for name in [it for it in older if it not in beside]:
+            _put_back(older.pop(name), os.path.join(folder, name))
+        raise
+    finally:
+        for it in (*beside.values(), *filter(None, older.values())):
+            with contextlib.suppress(OSError):
+                os.remove(it)
+
+
+def _kept(path: str) -> str:
+    """Keeps what stands in a file under another name beside it, and returns that."""
+    handle, place = tempfile.mkstemp(prefix=f".{os.path.basename(path)}-", dir=os.path.dirname(path) or ".")
+    os.close(handle)
+    os.remove(place)
+    try:
+        os.link(path, place, follow_symlinks=False)
+    except OSError:
+        shutil.copy2(path, place, follow_symlinks=False)
+    return place
+
+
+def _put_back(older: Optional[str], path: str) -> None:
+    """Puts back what stood in a file, or takes the file away where none did."""
+    with contextlib.suppress(OSError):
+        if older is None:
+            os.remove(path)
+        else:
+            os.replace(older, path)
+
+
 def _written(path: str, data: Data) -> str:
     """Writes a file beside its place, and returns its path there. It keeps the mode of the one that it is to replace."""
     handle, beside = tempfile.mkstemp(prefix=f".{os.path.basename(path)}-", dir=os.path.dirname(path) or ".")

@@ -6,6 +6,7 @@ reading     a whole file, each line judged
 selecting   the legs of a date or a week
 naming      their names, and which follow each other as one flight
 costing     what a plan may use, and what it costs, by files of the caller's
+figures     what it costs by a planner's own figures
 choosing    other times and legs that may be left out, by files of the caller's
 tables      the tables of a folder
 splitting   an itinerary that a plan changes on some of its dates, in parts

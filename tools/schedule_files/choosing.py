@@ -2,10 +2,11 @@
 
 from __future__ import annotations
 
-from typing import Dict, List, Optional, Sequence, Tuple
+from typing import Dict, List, Sequence, Tuple
 
+from costing import legs
+from costing.legs import EACH, flight_or_each
 from fleetplan.errors import Unread
-from fleetplan.forms import name
 from fleetplan.tables import ASKED, HEADERS, MOST_TRIPLES, MOST_WINDOWS, TABLE
 from schedule_files.costing import Cost
 from schedule_files.files import judged
@@ -13,8 +14,6 @@ from schedule_files.selecting import Flown
 
 # Of each flight of a caller's file the rest of its records.
 Found = Dict[str, List[List[str]]]
-# What stands for each leg that has no record of its own.
-EACH = "*"
 
 
 class Asked:
@@ -50,19 +49,14 @@ class Asked:
             raise Unread(f"{self.path}: {count:,} pairs of a leg and a fleet at their times, and tables have {MOST_TRIPLES:,} at most: {ways}")
 
 
-def keys_of(flown: Flown) -> Tuple[Optional[str], ...]:
+def keys_of(flown: Flown) -> Tuple[str, ...]:
     """Returns what may stand for a leg, the first one that does being taken."""
-    return flown.name, flown.plain, EACH
+    return legs.keys_of(flown.name, flown.plain)
 
 
 def own_of(flown: Flown, found: Found) -> List[List[str]]:
     """Returns the records of a leg."""
     return next((found[it] for it in keys_of(flown) if it in found), [])
-
-
-def flight_or_each(text: str) -> Optional[str]:
-    """Says what is wrong with a flight, or with what stands for each, or returns None."""
-    return None if text == EACH else name(text)
 
 
 def pair(row: Sequence[str]) -> Tuple[object, ...]:

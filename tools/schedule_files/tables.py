@@ -4,8 +4,9 @@ from __future__ import annotations
 
 import os
 from collections import Counter
-from typing import Dict, Iterable, Iterator, List, Mapping, Optional, Sequence, Tuple
+from typing import Dict, Iterable, Iterator, List, Mapping, Optional, Sequence, Set, Tuple
 
+from costing.making import PARTED
 from fleetplan.forms import MOST_AIRCRAFT
 from fleetplan.records import text_of
 from fleetplan.settings import FIRST_DAY, NO, YES, renewed
@@ -15,6 +16,7 @@ from fleetplan.texts import some
 from fleetplan.times import clock
 from schedule_files import choosing, costing, judging, naming, selecting
 from schedule_files.days import Dates, iso
+from schedule_files.figures import Figured, Priced
 from schedule_files.files import write_tables
 from schedule_files.naming import NAMES
 from schedule_files.reading import Schedule
@@ -22,7 +24,8 @@ from schedule_files.selecting import Choice, Flown
 
 
 class Sources:
-    """The files of the caller's, each a path or None, the value of a through pair, and the paths of tables that options have read."""
+    """The files of the caller's, each a path or None, the value of a through pair, the paths of tables that options have read, and the files
+    of figures that stand in the place of prices."""
 
     def __init__(
         self,
@@ -31,9 +34,15 @@ class Sources:
         costs: Optional[str] = None,
         through_value: int = 0,
         asked: Optional[Mapping[str, str]] = None,
+        figured: Optional[Figured] = None,
     ) -> None:
         self.stations, self.fleets, self.costs, self.through_value = stations, fleets, costs, through_value
-        self.asked = asked or {}
+        self.asked, self.figured = asked or {}, figured
+
+    @property
+    def options(self) -> Set[str]:
+        """The options of the program whose tables are written."""
+        return {*self.asked, *(["optional"] if self.figured and self.figured.skips else [])}
 
 
 class Made:
@@ -45,12 +54,23 @@ class Made:
         naming.name_all(schedule, self.flown, dates)
         self.stations = costing.stations_of(sources.stations, schedule, self.flown)
         self.fleets = costing.fleets_of(sources.fleets, schedule, self.flown)
-        self.costs = costing.costs_of(sources.costs, schedule, self.flown, self.fleets)
+        self.priced = self.price(sources.figured) if sources.figured else None
+        self.costs = self.priced.records if self.priced else costing.costs_of(sources.costs, schedule, self.flown, self.fleets)
         self.throughs = naming.throughs(self.flown, dates)
         self.asked = [choosing.Asked(option, path, self.flown, self.costs) for option, path in sources.asked.items()]
+        if self.priced:
+            self.priced.want_pairs({it[0] for it in self.records_of("optional")})
         self.unjudged: Optional[str] = None
         if sources.fleets is None:
             self.count_aircraft()
+
+    def price(self, figured: Figured) -> Priced:
+        """Returns the costs by figures."""
+        return Priced(figured, self.schedule, self.flown, [it[0] for it in self.fleets], self.sources.fleets)
+
+    def records_of(self, option: str) -> Sequence[Sequence[str]]:
+        """Returns the records of the table that an option has read, by a file of the caller's; none where it isn't asked for."""
+        return [record for it in self.asked if it.option == option for record in it.records]
 
     def count_aircraft(self) -> None:
         """Gives each fleet as many aircraft as the plan as filed uses, by the program; or as many as a fleet may have."""
@@ -83,11 +103,12 @@ class Made:
         texts = {it.table: encoded(it.table, it.records) for it in self.asked}
         if "windows" in self.sources.asked:
             texts["plan.csv"] = text_of(SHIFTED, [(it.name, it.leg.type, 0) for it in self.flown])
-        return {**self.tables(), **texts, "names.csv": text_of(NAMES, [named(it) for it in self.flown])}
+        parts = self.priced.texts() if self.priced else {}
+        return {**self.tables(), **texts, **parts, "names.csv": text_of(NAMES, [named(it) for it in self.flown])}
 
     def settings(self, folder: str) -> str:
         """Returns the text of the settings by which the tables are read, where the folder's other ones stay."""
-        read = {option: YES if option in self.sources.asked else NO for option in ASKED}
+        read = {option: YES if option in self.sources.options else NO for option in ASKED}
         return renewed(folder, {"period": str(self.dates.count), FIRST_DAY: iso(self.dates.first), **read})
 
     def leg(self, it: Flown) -> Tuple[object, ...]:
@@ -116,7 +137,11 @@ class Made:
         allowed = {(flight, fleet) for flight, fleet, _ in self.costs}
         lacking = [it.name for it in self.flown if (it.name, it.leg.type) not in allowed]
         if lacking:
-            yield f"{len(lacking)} legs may not be flown by their filed type by {self.sources.costs}, the first is {lacking[0]}"
+            path = self.sources.figured.paths.types if self.sources.figured else self.sources.costs
+            yield f"{len(lacking)} legs may not be flown by their filed type by {path}, the first is {lacking[0]}"
+        if self.priced:
+            shifts = [(it[0], int(it[1])) for it in self.records_of("windows")]
+            yield from self.priced.told(shifts, {it.name: it.leg.type for it in self.flown})
 
     def told_of_asked(self) -> Iterator[str]:
         """Tells of the tables that options of the program have read."""
@@ -148,6 +173,7 @@ def named(it: Flown) -> Tuple[object, ...]:
 def make_tables(schedule: Schedule, folder: str, dates: Dates, choice: Choice, sources: Sources) -> List[str]:
     """Writes the tables of some dates into a folder, and returns what is told of them."""
     made = Made(schedule, dates, choice, sources)
-    older = [it for option, it in ASKED.items() if option not in sources.asked and os.path.lexists(os.path.join(folder, it))]
+    left = [it for option, it in ASKED.items() if option not in sources.options] + ([] if sources.figured else [PARTED])
+    older = [it for it in left if os.path.lexists(os.path.join(folder, it))]
     write_tables(folder, {**made.texts(), SETTINGS: made.settings(folder)})
     return [*made.told(), *made.told_of_asked(), *(f"{it} stays in {folder} as it was" for it in older)]

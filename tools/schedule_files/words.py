@@ -6,10 +6,12 @@ import datetime
 import re
 from typing import Dict, FrozenSet, List, Mapping, Optional, Sequence, Tuple, Union
 
+from costing.figures import Paths
 from fleetplan.forms import TRILLION
 from fleetplan.tables import ASKED
 from schedule_files.days import Dates
 from schedule_files.selecting import Choice
+from schedule_files.figures import FIGURES, Figured
 from schedule_files.tables import Sources
 
 TABLES = {
@@ -21,12 +23,15 @@ TABLES = {
     "windows": "FILE",
     "optional": "FILE",
     "types": "T,..",
+    "types-only": "T,..",
     "stations-only": "S,..",
     "service": "LETTERS",
     "through-value": "V",
     "surface": None,
 }
 PLAN = {"whole-season": None}
+# The files of figures that stand in the place of --costs. With them --types is one, and --types-only says what it says else.
+NEW = {it: "FILE" for it in FIGURES if it not in TABLES}
 # How many days tables are of, by the option that says the first one.
 DAYS = {"date": 1, "week": 7}
 
@@ -47,6 +52,7 @@ def shown(options: Options) -> str:
 
 USAGE = f"""usage: tools/ssim tables FILE DIR {" | ".join(f"--{it} {TABLES[it]}" for it in DAYS)}
                   {shown(TABLES)}
+                  [{" ".join(f"--{it} FILE" for it in FIGURES[:2])} {" ".join(f"[--{it} FILE]" for it in FIGURES[2:])}]
        tools/ssim plan FILE DIR NEW {shown(PLAN)}
 docs/formats.md#schedule-files says what they do"""
 
@@ -102,6 +108,22 @@ def day(option: str, text: str) -> int:
     raise Usage(f"--{option} {text}: a day as 2026-11-30 is wanted, of the years 2000 to 2099")
 
 
+def figures(found: Mapping[str, str]) -> Optional[Figured]:
+    """Returns the files of figures that a call names, or None."""
+    demand, types, *others = FIGURES
+    if demand not in found:
+        for it in others:
+            if it in found:
+                raise Usage(f"--{it} wants --{demand} FILE and --{types} FILE too")
+        return None
+    if types not in found:
+        raise Usage(f"--{demand} wants --{types} FILE too")
+    for it, other in ((demand, "costs"), ("skips", "optional")):
+        if it in found and other in found:
+            raise Usage(f"--{it} and --{other} stand both")
+    return Figured(Paths(found[demand], found[types], found.get("fuel"), found.get("fees")), found.get("skips"))
+
+
 def listed(found: Mapping[str, str], name: str, form: str) -> Optional[FrozenSet[str]]:
     """Returns the set of an option's values between commas, or None where it isn't given."""
     if name not in found:
@@ -117,20 +139,24 @@ class TablesCall:
     """A call of `tables`: its file, its folder, the days, the choice of legs and the caller's files."""
 
     def __init__(self, words: Sequence[str]) -> None:
-        rest, found = given(words, TABLES)
+        rest, found = given(words, {**TABLES, **NEW})
         if len(rest) != 2:
             raise Usage
         self.path, self.folder = rest
+        figured = figures(found)
         self.dates = dates(found)
         services = listed(found, "service", "[A-Z]+")
         services = services and frozenset("".join(services))
-        types, stations = listed(found, "types", "[A-Z0-9]{3}"), listed(found, "stations-only", "[A-Z]{3}")
+        if not figured and {"types", "types-only"} <= found.keys():
+            raise Usage("--types and --types-only stand both")
+        chosen = "types" if not figured and "types" in found else "types-only"
+        types, stations = listed(found, chosen, "[A-Z0-9]{3}"), listed(found, "stations-only", "[A-Z]{3}")
         self.choice = Choice("surface" in found, services, types, stations)
         value = found.get("through-value", "0")
         if not re.fullmatch("[0-9]{1,20}", value) or int(value) > TRILLION:
             raise Usage(f"--through-value {value}: a whole number from 0 to {TRILLION} is wanted")
         asked = {it: found[it] for it in ASKED if it in found}
-        self.sources = Sources(found.get("stations"), found.get("fleets"), found.get("costs"), int(value), asked)
+        self.sources = Sources(found.get("stations"), found.get("fleets"), found.get("costs"), int(value), asked, figured)
 
 
 class PlanCall:

@@ -9,7 +9,7 @@ from typing import Dict, List, NamedTuple, Optional, Sequence, Union
 
 import jinja2
 
-from drawing.page import TEMPLATES, styles
+from drawing.templating import TEMPLATES, styles
 from steps.differences import Interval
 from steps.rows import Row, asked_of, columns_of, compared_fleets
 from steps.sums import Sum

@@ -7,7 +7,7 @@ from typing import Optional
 
 import pytest
 
-from costing.amounts import halves_up, written
+from costing.amounts import Writer, halves_up, written
 from costing.spilling import mean_of, spilled
 
 # Mean, spread and seats, and the thousandths of a passenger who find no seat.
@@ -67,4 +67,4 @@ def test_halves_go_up() -> None:
 def test_numbers_are_written_in_full() -> None:
     """A number is written in full, and where that has no end to so many decimals."""
     assert [written(Fraction(it)) for it in ("0", "5", "1/8", "120.000001")] == ["0", "5", "0.125", "120.000001"]
-    assert written(Fraction(11000, 3), 4) == "3666.6667"
+    assert [Writer(3000).text(it) for it in (11_000_000, 3, 1000)] == ["3666.6667", "0.001", "0.3333"]

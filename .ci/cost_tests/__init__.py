@@ -1,0 +1,1 @@
+"""Tests of tools/costs, and of what prices pairs anew."""

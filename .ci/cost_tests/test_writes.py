@@ -1,0 +1,163 @@
+"""All files or none: writes that fail, a process that is killed in the midst of them, and what a call leaves alone."""
+
+from __future__ import annotations
+
+import os
+import resource
+import signal
+import subprocess
+import sys
+from pathlib import Path
+from typing import Any, Callable, ContextManager, Dict, NoReturn
+from unittest import mock
+
+import pytest
+
+from cost_tests.calling import TOP, WRITTEN, call, standing
+from cost_tests.days import COSTS, DAY, lay
+
+OTHER = DAY["fuel.csv"].replace("800", "900")
+FULL = "can't be written: No space left on device"
+
+
+def full() -> NoReturn:
+    """The disk is full."""
+    raise OSError(28, "No space left on device")
+
+
+def interrupt() -> NoReturn:
+    """Ctrl-C comes."""
+    raise KeyboardInterrupt
+
+
+def kill() -> None:
+    """The process is killed."""
+    os.kill(os.getpid(), signal.SIGKILL)
+
+
+def failing(name: str, number: int, end: Callable[[], None]) -> ContextManager[Any]:
+    """Has a call of os end so, that of a number, and those before and behind it not."""
+    real, seen = getattr(os, name), []
+
+    def fails(*words: Any, **more: Any) -> Any:
+        seen.append(words)
+        if len(seen) == number:
+            end()
+        return real(*words, **more)
+
+    return mock.patch.object(os, name, fails)
+
+
+def whole(folder: Path, **changed: str) -> Dict[str, bytes]:
+    """Returns what a call writes into a new folder of the name of another one, so that the page has the same name."""
+    place = folder / "whole" / "day"
+    place.parent.mkdir(exist_ok=True)
+    call(lay(place, **changed))
+    return {it: standing(place)[it] for it in WRITTEN}
+
+
+STEPS = [(name, number) for name in ("chmod", "replace") for number in (1, 2, 3)]
+
+
+@pytest.mark.parametrize("name, number", STEPS)
+@pytest.mark.parametrize("is_new", [True, False])
+def test_failing(name: str, number: int, is_new: bool, scratch: Path) -> None:
+    """Each step of a write fails once: all stands as it was, whether older files stood there or none, and nothing is left beside."""
+    folder = lay(scratch / "day")
+    if not is_new:
+        call(folder)
+    (folder / "fuel.csv").write_text(OTHER, encoding="ascii")
+    before = standing(folder)
+    with failing(name, number, full):
+        assert call(folder) == (7, [f"{folder} {FULL}"])
+    assert standing(folder) == before
+    assert call(folder).status == 0
+    assert {it: standing(folder)[it] for it in WRITTEN} == whole(scratch, fuel=OTHER)
+
+
+@pytest.mark.parametrize("name, number", STEPS)
+def test_interrupted(name: str, number: int, scratch: Path) -> None:
+    """At a Ctrl-C too all stands as it was."""
+    folder = lay(scratch / "day")
+    before = standing(folder)
+    with failing(name, number, interrupt), pytest.raises(KeyboardInterrupt):
+        call(folder)
+    assert standing(folder) == before
+
+
+@pytest.mark.parametrize("name, number", STEPS)
+def test_killed(name: str, number: int, scratch: Path) -> None:
+    """A process that is killed leaves each file whole, an older one or a new one. Before the first is put into its place all are older ones, and
+    costs.csv is new only where all are. The next call makes all anew."""
+    folder = lay(scratch / "day")
+    call(folder)
+    before = standing(folder)
+    (folder / "fuel.csv").write_text(OTHER, encoding="ascii")
+    new = whole(scratch, fuel=OTHER)
+    process = os.fork()
+    if not process:
+        with failing(name, number, kill):
+            call(folder)
+        os._exit(0)
+    assert os.WIFSIGNALED(os.waitpid(process, 0)[1])
+    after = standing(folder)
+    count = number - 1 if name == "replace" else 0
+    wanted = {it: new[it] if at < count else before[it] for at, it in enumerate(WRITTEN)}
+    assert {it: after[it] for it in WRITTEN} == wanted
+    assert WRITTEN[-1] == "costs.csv"
+    assert call(folder).status == 0
+    assert {it: standing(folder)[it] for it in WRITTEN} == new
+
+
+def test_a_disk_that_fills(scratch: Path) -> None:
+    """A write that breaks off in the middle of a file: no part of it is left."""
+    folder = lay(scratch / "day")
+    before, limits = standing(folder), resource.getrlimit(resource.RLIMIT_FSIZE)
+    resource.setrlimit(resource.RLIMIT_FSIZE, (1000, limits[1]))
+    try:
+        assert call(folder) == (7, [f"{folder} can't be written: File too large"])
+    finally:
+        resource.setrlimit(resource.RLIMIT_FSIZE, limits)
+    assert standing(folder) == before
+
+
+@pytest.mark.parametrize("name", [*WRITTEN, "optional.csv"])
+def test_a_folder_in_a_files_place(name: str, scratch: Path) -> None:
+    """Nothing is written where a folder has the name of a file."""
+    folder = lay(scratch / "day")
+    (folder / "skips").write_text("flight\n", encoding="ascii")
+    (folder / name).mkdir()
+    before = standing(folder)
+    answer = call(folder, "--skips", folder / "skips")
+    assert answer == (7, [f"{folder}/{name} can't be written: it is a folder"])
+    assert standing(folder) == before
+
+
+def test_what_a_call_leaves_alone(scratch: Path) -> None:
+    """Only its own files are written, with the mode that they had."""
+    folder = lay(scratch / "day", windows="flight,shift,extra\n", plan="flight,fleet\n", settings="word,value\nperiod,1\n")
+    (folder / "optional.csv").write_text("flight,skip\nFP1,1\n", encoding="ascii")
+    (folder / "costs.csv").write_text("mine\n", encoding="ascii")
+    (folder / "costs.csv").chmod(0o640)
+    before = standing(folder)
+    assert call(folder).status == 0
+    after = standing(folder)
+    assert {it for it in after if after[it] != before.get(it)} == set(WRITTEN)
+    assert (folder / "costs.csv").stat().st_mode & 0o777 == 0o640
+
+
+def test_the_tool_itself(scratch: Path) -> None:
+    """As a command, in a locale with a decimal comma: the same bytes, its help, and its status."""
+    folder = lay(scratch / "day")
+    tool = [sys.executable, str(TOP / "tools" / "costs")]
+    more = {**os.environ, "LC_ALL": "de_DE.UTF-8", "LANG": "de_DE.UTF-8"}
+    ran = subprocess.run([*tool, str(folder)], stdout=subprocess.PIPE, stderr=subprocess.PIPE, text=True, env=more, check=False)
+    assert (ran.returncode, ran.stdout, ran.stderr) == (0, "", "costs: 4 legs, 2 fleets: 8 pairs may be flown\n")
+    assert {it: standing(folder)[it] for it in WRITTEN} == whole(scratch)
+    rows = [f"{pair},{cost}" for pair, cost in COSTS.items()]
+    assert (folder / "costs.csv").read_text(encoding="ascii").splitlines() == ["flight,fleet,cost", *rows]
+    ran = subprocess.run([*tool, "--help"], stdout=subprocess.PIPE, stderr=subprocess.PIPE, text=True, check=False)
+    assert (ran.returncode, ran.stderr) == (0, "")
+    assert ran.stdout.startswith("Makes costs of a planner's own figures")
+    ran = subprocess.run([*tool, str(folder / "no")], stdout=subprocess.PIPE, stderr=subprocess.PIPE, text=True, check=False)
+    assert (ran.returncode, ran.stderr) == (7, f"costs: {folder}/no/legs.csv can't be read: No such file or directory\n")
