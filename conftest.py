@@ -1,9 +1,10 @@
 """What all tests share: the program that they try, and the count of each part.
 
-usage: /usr/bin/python3 -B -m pytest [--program PATH] [-k NAME] [FILE ..]
+usage: /usr/bin/python3 -B -m pytest [--program=PATH ..] [--no-preview] [-k NAME] [FILE ..]
 
-The tests stand in .ci: in files `test_*.py`, and in folders `*_tests` of such files. `.ci/run` calls all of them behind `rt ci`. setup.cfg
-has pytest's settings. The last lines are `NAME: N passed, M failed`, one for each part: a file or a folder of tests. .ci/least has the least
+The tests stand in .ci: in files `test_*.py`, and in folders `*_tests` of such files. Tests are also the rows of .ci/rows, and the commands
+of README.md, of docs/formats.md and of files `expected` (.ci/collecting.py). `.ci/run` calls all of them behind `rt ci`. setup.cfg has
+pytest's settings. The last lines are `NAME: N passed, M failed`, one for each part: a file or a folder of tests. .ci/least has the least
 number of each. A test that is skipped is told, and counts as neither."""
 
 from __future__ import annotations
@@ -16,9 +17,10 @@ from pathlib import Path
 from typing import Any, Iterator
 
 import pytest
+from collecting import Commands, Rows, lacking, programs
+from command_runs.reading import has_cases
 
 TOP = Path(__file__).resolve().parent
-BUILT = TOP / "crates" / "fleetplan" / "out" / "fleetplan"
 MEMORY = "/dev/shm" if os.access("/dev/shm", os.W_OK) else None
 # What pytest and hypothesis would keep in the clone goes elsewhere.
 os.environ["HYPOTHESIS_STORAGE_DIRECTORY"] = os.path.join(tempfile.gettempdir(), "fleetplan-hypothesis")
@@ -26,14 +28,25 @@ os.environ["HYPOTHESIS_STORAGE_DIRECTORY"] = os.path.join(tempfile.gettempdir(),
 
 def pytest_addoption(parser: Any) -> None:
     """Adds the word by which a program is named."""
-    parser.addoption("--program", metavar="PATH", help="the program under test (else what rt ci left in crates/fleetplan/out)")
+    told = "the program under test, also several (else what rt ci left in crates/fleetplan/out, as each compiler built it)"
+    parser.addoption("--program", metavar="PATH", action="append", help=told)
+    parser.addoption("--no-preview", action="store_true", help="leaves out the one call that compiles the program without proofs")
 
 
 def pytest_configure(config: Any) -> None:
-    """Begins to count."""
+    """Begins to count. The tools call the program under test, too."""
+    os.environ["FLEETPLAN"] = str(programs(config)[0])
     settle_hypothesis()
     if not hasattr(config, "workerinput"):
         config.pluginmanager.register(Counts(config), "fleetplan-counts")
+
+
+def pytest_collect_file(file_path: Path, parent: Any) -> Any:
+    """Collects commands of pages and of files `expected`, and rows."""
+    place = file_path.relative_to(TOP).as_posix()
+    if has_cases(place):
+        return Commands.from_parent(parent, path=file_path)
+    return Rows.from_parent(parent, path=file_path) if re.fullmatch(r"\.ci/rows/[\w-]+\.txt", place) else None
 
 
 def settle_hypothesis() -> None:
@@ -48,11 +61,11 @@ def settle_hypothesis() -> None:
 
 @pytest.fixture(scope="session")
 def program(request: Any) -> Path:
-    """The program under test. The tools call it too, by the environment's FLEETPLAN. A test that asks for it fails where it isn't there."""
-    found = Path(request.config.getoption("--program", None) or BUILT).resolve()
-    if not os.access(found, os.X_OK) or found.is_dir():
-        pytest.fail(f"there is no program {found}: --program PATH names one, and `rt ci fleetplan` builds it", pytrace=False)
-    os.environ["FLEETPLAN"] = str(found)
+    """The program under test. A test that asks for it fails where it isn't there."""
+    found = programs(request.config)[0]
+    lacks = lacking(found)
+    if lacks:
+        pytest.fail(lacks, pytrace=False)
     return found
 
 
@@ -64,10 +77,11 @@ def scratch() -> Iterator[Path]:
 
 
 def part_of(place: str) -> str:
-    """Returns the name of the part that a test belongs to: of its folder or its file below .ci, without `test`."""
+    """Returns the name of the part that a test belongs to: of its folder or its file below .ci, without `test`; `examples` for commands,
+    and `terminal` for those in a terminal."""
     names = place.partition("::")[0].split("/")
-    own = names[1] if names[0] == ".ci" and len(names) > 1 else names[0]
-    return re.sub(r"^test_|_tests$|\.py$", "", re.sub(r"\.py$", "", own))
+    own = names[1] if names[0] == ".ci" and len(names) > 1 else "expected"
+    return {"expected": "examples", "expected-terminal": "terminal"}.get(own, re.sub(r"^test_|_tests$", "", re.sub(r"\.py$", "", own)))
 
 
 class Counts:

@@ -1,1 +1,1 @@
-"""Cases of .ci/gate."""
+"""Tests of the scripts that the gate is made of."""

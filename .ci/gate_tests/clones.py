@@ -9,7 +9,7 @@ from pathlib import Path
 from typing import List, NamedTuple
 
 from fleetplan import origin
-from gate_tests.scratch import TOP, Ended, lay, lay_command, run
+from gate_tests.laying import TOP, Ended, lay, lay_command, run
 
 SOURCE = "crates/entries/src/list.rt"
 SOURCES = {

@@ -1,30 +1,26 @@
-"""What the cases share: the program, the plans that are drawn, and the browser."""
+"""What the cases share: the plans that are drawn, and the browser."""
 
 from __future__ import annotations
 
-import sys
 from pathlib import Path
 from typing import Any, Iterator
 
 import pytest
 
-sys.path.insert(0, str(Path(__file__).resolve().parent.parent))
-
 from page_tests.browsing import Browser, missing
-from page_tests.plans import PROGRAM, Desk
+from page_tests.plans import Desk, lay_tree
+
+
+@pytest.fixture(scope="session", autouse=True)
+def tree() -> None:
+    """The tools lie beside the program."""
+    lay_tree()
 
 
 @pytest.fixture(scope="session")
-def program() -> str:
-    """The program, which has to be there."""
-    assert PROGRAM.is_file(), f"there is no program {PROGRAM}"
-    return str(PROGRAM)
-
-
-@pytest.fixture(scope="session")
-def desk(tmp_path_factory: Any, program: str) -> Desk:
+def desk(tmp_path_factory: Any, program: Path) -> Desk:
     """Where plans are drawn."""
-    return Desk(tmp_path_factory.mktemp("page"), program)
+    return Desk(tmp_path_factory.mktemp("page"), str(program))
 
 
 @pytest.fixture(scope="session")

@@ -12,7 +12,6 @@ from pathlib import Path
 from typing import Any, Dict, List, Optional
 
 TOP = Path(__file__).resolve().parent.parent.parent
-PROGRAM = Path(os.environ.get("FLEETPLAN") or TOP / "crates" / "fleetplan" / "out" / "fleetplan")
 # Where the tools and the program lie side by side, as in a clone in which it was built.
 TREE = Path(tempfile.mkdtemp(prefix="fleetplan-page-"))
 SECONDS = 120
@@ -24,19 +23,16 @@ def lay_tree() -> None:
     shutil.copytree(TOP / "tools", TREE / "tools")
     built = TREE / "crates" / "fleetplan" / "out"
     built.mkdir(parents=True)
-    if PROGRAM.is_file():
-        shutil.copy(PROGRAM, built / "fleetplan")
+    program = Path(os.environ["FLEETPLAN"])
+    if program.is_file():
+        shutil.copy(program, built / "fleetplan")
         os.chmod(built / "fleetplan", 0o755)
-
-
-lay_tree()
 
 
 def run(words: List[str], status: int = 0) -> str:
     """Runs a command, and returns what it printed, errors and all. Its status has to be the one that is wanted."""
-    where = {**os.environ, "FLEETPLAN": str(PROGRAM)}
     how: Dict[str, Any] = {"stdin": subprocess.DEVNULL, "stdout": subprocess.PIPE, "stderr": subprocess.STDOUT, "timeout": SECONDS}
-    ran = subprocess.run(words, env=where, check=False, **how)
+    ran = subprocess.run(words, check=False, **how)
     said = str(ran.stdout.decode("utf-8", "replace"))
     assert ran.returncode == status, f"{' '.join(words)}: status {ran.returncode}, and it said\n{said}"
     return said

@@ -1,6 +1,5 @@
-"""Runs rows on a built program, several side by side, and compares output, status, and all that stands then."""
+"""Runs rows on a built program, and compares output, status, and all that stands then."""
 
-import multiprocessing
 import os
 import subprocess
 import tempfile
@@ -98,9 +97,8 @@ def run_once(program: str, row: Row) -> Tuple[List[Seen], List[str]]:
     return all_seen, faults
 
 
-def try_row(job: Tuple[str, Row]) -> Optional[str]:
-    """Runs a row, and returns what is wrong, or None."""
-    program, row = job
+def try_row(program: str, row: Row) -> Optional[str]:
+    """Runs a row on a program, and returns what is wrong, or None."""
     try:
         first, faults = run_once(program, row)
         if row.is_twice and not faults and run_once(program, row)[0] != first:
@@ -110,14 +108,3 @@ def try_row(job: Tuple[str, Row]) -> Optional[str]:
     except OSError as error:
         faults = [str(error)]
     return "\n".join([row.place, *faults]) if faults else None
-
-
-def try_rows(program: Path, rows: List[Row]) -> Tuple[int, int]:
-    """Runs all rows on a program, and returns how many passed and failed."""
-    failed = 0
-    with multiprocessing.Pool() as pool:
-        for told in pool.imap(try_row, [(str(program), row) for row in rows], chunksize=8):
-            if told:
-                failed += 1
-                print(told, flush=True)
-    return len(rows) - failed, failed

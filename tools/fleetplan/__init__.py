@@ -10,14 +10,15 @@ from typing import TYPE_CHECKING, Any
 if TYPE_CHECKING:
     from fleetplan.calls import Flying, Held, Solution, Verdict, check, due, judge, make, solve, tails, whatif
     from fleetplan.errors import Answered, Broken, Fault, Refused, Unread
-    from fleetplan.frames import frames, write_frames
+    from fleetplan.framing import frames, write_frames
     from fleetplan.schedule import Schedule
 
-# Where each name stands. It is loaded when it is wanted first, since a hint has to come at once.
+# Where each name stands. It is loaded when it is wanted first, since a hint has to come at once. No module has the name of one of these: it
+# would take its place.
 _PLACES = {
     "calls": ("Flying", "Held", "Solution", "Verdict", "check", "due", "judge", "make", "solve", "tails", "whatif"),
     "errors": ("Answered", "Broken", "Fault", "Refused", "Unread"),
-    "frames": ("frames", "write_frames"),
+    "framing": ("frames", "write_frames"),
     "schedule": ("Schedule",),
 }
 __all__ = [

@@ -1,7 +1,4 @@
-#!/usr/bin/env python3
-"""Wants each clause, law, record and function that docs/promises.md names to stand in the crate under whose heading it is named.
-
-usage: .ci/promises
+"""Each clause, law, record and function that docs/promises.md names stands in the crate under whose heading it is named.
 
 Below `## Crate by crate` a heading `### NAME, NAME` names crates of crates.txt, and a line `- CALLS: SAYS` has calls, and what they
 say with its clauses in parentheses.
@@ -13,15 +10,16 @@ say with its clauses in parentheses.
 - Of each call a clause is named, or it has one without a name, or the line says `one clause each`.
 - Any other name (with a capital, an underscore, a slash or `::`) is a crate, a word of the crate, or a path there or at the top.
 
-Elsewhere in the page such a name is a crate, a word of some crate, or a path. The page names each crate of crates.txt. What doesn't
-stand is printed with its line. The last line is `promises: N passed, M failed`, and the status is 0 where M is 0."""
+Elsewhere in the page such a name is a crate, a word of some crate, or a path. The page names each crate of crates.txt."""
 
 from __future__ import annotations
 
 import re
-import sys
+from functools import lru_cache
 from pathlib import Path
 from typing import Dict, List, Optional, Set, Tuple
+
+import pytest
 
 TOP = Path(__file__).resolve().parent.parent
 PAGE = TOP / "docs" / "promises.md"
@@ -115,23 +113,52 @@ class Crate:
 Functions = List[Tuple[str, List[Function]]]
 
 
+@lru_cache(maxsize=None)
+def crates() -> Dict[str, Crate]:
+    """Returns the crates of crates.txt by their names."""
+    return {name: Crate(name) for name in re.findall(r"(?m)^(\w+):", (TOP / "crates.txt").read_text(encoding="utf-8"))}
+
+
+@lru_cache(maxsize=None)
+def all_words() -> Set[str]:
+    """Returns the words of all crates."""
+    return set().union(*(crate.words for crate in crates().values()))
+
+
+class Section:
+    """A heading of the page and the lines below it up to the next one, and whether they stand below `## Crate by crate`."""
+
+    def __init__(self, number: int, heading: str, is_of_crates: bool) -> None:
+        self.number, self.heading, self.is_of_crates = number, heading, is_of_crates
+        self.lines: List[str] = []
+
+
+def sections() -> List[Section]:
+    """Returns the sections of the page."""
+    found, part = [Section(1, "", False)], ""
+    for number, line in enumerate(PAGE.read_text(encoding="utf-8").splitlines(), 1):
+        heading = re.match(r"(#+) (.*)", line)
+        if heading:
+            part = heading[2] if len(heading[1]) < 3 else part
+            found.append(Section(number, heading[2], part == PART and len(heading[1]) == 3))
+        else:
+            found[-1].lines.append(line)
+    return found
+
+
 class Page:
-    """A reading of the page, with the counts of what stands and what doesn't."""
+    """A reading of a section, and what doesn't stand."""
 
     def __init__(self) -> None:
-        lines = (TOP / "crates.txt").read_text(encoding="utf-8").splitlines()
-        self.crates = {name: Crate(name) for name in re.findall(r"(?m)^(\w+):", "\n".join(lines))}
-        self.all_words: Set[str] = set().union(*(crate.words for crate in self.crates.values()))
+        self.crates, self.all_words = crates(), all_words()
         self.here: List[Crate] = []
-        self.passed = self.failed = self.line = 0
+        self.line = 0
+        self.lacks: List[str] = []
 
     def want(self, stands: object, told: str) -> None:
-        """Counts whether something stands, and prints what doesn't."""
-        if stands:
-            self.passed += 1
-        else:
-            self.failed += 1
-            print(f"docs/promises.md:{self.line}: {told}")
+        """Notes what doesn't stand."""
+        if not stands:
+            self.lacks.append(f"docs/promises.md:{self.line}: {told}")
 
     def where(self) -> str:
         """Returns the crates under whose heading a line stands."""
@@ -200,38 +227,33 @@ class Page:
                 self.want(stands, f"`{name}` is no clause of these calls, and no definition of {self.where()}")
         return names
 
-    def read(self, text: str) -> None:
-        """Reads the page."""
-        part, calls = "", 0
-        for self.line, line in enumerate(text.splitlines(), 1):
-            heading, call = re.match(r"(#+) (.*)", line), CALL.fullmatch(line)
-            if heading:
-                part = heading[2] if len(heading[1]) < 3 else part
-                self.here = []
-                if part == PART and len(heading[1]) == 3:
-                    names = heading[2].split(", ")
-                    for name in names:
-                        self.want(name in self.crates, f"`{name}` is no crate of crates.txt")
-                    self.here = [self.crates[name] for name in names if name in self.crates]
-            elif self.here and line.startswith("- "):
+    def read(self, section: Section) -> List[str]:
+        """Reads a section, and returns what doesn't stand."""
+        self.line = section.number
+        if section.is_of_crates:
+            names = section.heading.split(", ")
+            for name in names:
+                self.want(name in self.crates, f"`{name}` is no crate of crates.txt")
+            self.here = [self.crates[name] for name in names if name in self.crates]
+        for self.line, line in enumerate(section.lines, section.number + bool(section.heading)):
+            call = CALL.fullmatch(line)
+            if self.here and line.startswith("- "):
                 self.want(call, "this is no line `- CALLS: SAYS`")
                 if call:
-                    calls += 1
                     self.read_call(call[1], call[2])
             else:
                 self.read_words(line)
-        self.want(calls, f"no calls stand below `## {PART}`")
-        for name in self.crates:
-            self.want(re.search(rf"`{name}\b|^### (\w+, )*{name}\b", text, re.M), f"the crate `{name}` isn't named")
+        return self.lacks
 
 
-def main() -> int:
-    """Looks at all promises, and returns the status."""
-    page = Page()
-    page.read(PAGE.read_text(encoding="utf-8"))
-    print(f"promises: {page.passed} passed, {page.failed} failed")
-    return 1 if page.failed else 0
+@pytest.mark.parametrize("section", [pytest.param(it, id=it.heading or "the beginning") for it in sections()])
+def test_section(section: Section) -> None:
+    """Each name stands in the crates under whose heading it is named."""
+    assert not Page().read(section)
 
 
-if __name__ == "__main__":
-    sys.exit(main())
+def test_crates() -> None:
+    """The page names each crate, and calls of some."""
+    text, own = PAGE.read_text(encoding="utf-8"), [it for it in sections() if it.is_of_crates]
+    assert not [name for name in crates() if not re.search(rf"`{name}\b|^### (\w+, )*{name}\b", text, re.M)]
+    assert any(CALL.fullmatch(line) for section in own for line in section.lines)

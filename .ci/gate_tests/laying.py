@@ -1,15 +1,11 @@
 """Folders and commands that stand in for the repository and for rt."""
 
-import contextlib
 import os
 import subprocess
-import tempfile
 from pathlib import Path
-from typing import Dict, Iterator, List, NamedTuple
+from typing import Dict, List, NamedTuple
 
 TOP = Path(__file__).resolve().parent.parent.parent
-# Many small files are written: in memory, where there is such a place.
-MEMORY = "/dev/shm" if os.access("/dev/shm", os.W_OK) else None
 SECONDS = 60
 
 
@@ -19,13 +15,6 @@ class Ended(NamedTuple):
     status: int
     lines: List[str]
     told: str
-
-
-@contextlib.contextmanager
-def scratch() -> Iterator[Path]:
-    """Gives an empty folder, and removes it at the end."""
-    with tempfile.TemporaryDirectory(prefix="fleetplan-gate-", dir=MEMORY) as folder:
-        yield Path(folder)
 
 
 def lay(folder: Path, texts: Dict[str, str]) -> None:

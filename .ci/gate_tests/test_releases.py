@@ -1,12 +1,14 @@
-"""tools/release and .ci/release, in a small clone with commands in the place of rt and of the gate."""
+"""tools/release, and how a release is compared, in a small clone with commands in the place of rt and of the gate."""
 
-import shutil
+import os
+from pathlib import Path
 from typing import Callable, Dict, List, NamedTuple, Tuple
 
+import pytest
 from fleetplan import origin
 from gate_tests.clones import SOURCE, Clone, write
-from gate_tests.scratch import TOP, Ended, lay, lay_command, run, scratch
-from gate_tests.tally import Tally
+from gate_tests.laying import lay, lay_command, run
+from gate_tests.released import compared
 
 # A gate that passes where rt does, and one that does something more.
 GATE = "rt ci && echo '3 passed, 0 failed'"
@@ -32,8 +34,6 @@ WAYS = {
 def lay_out(clone: Clone) -> None:
     """Lays the gate and a first commit."""
     lay(clone.top, {".gitignore": "out/\n__pycache__/\ncalled\n"})
-    shutil.copytree(TOP / ".ci" / "gate_tests", clone.top / ".ci" / "gate_tests", ignore=shutil.ignore_patterns("__pycache__"))
-    shutil.copy2(TOP / ".ci" / "release", clone.top / ".ci" / "release")
     lay_gate(clone, GATE)
     run(clone.top, "git", "init", "-q")
     commit(clone)
@@ -50,62 +50,56 @@ def commit(clone: Clone) -> None:
     run(clone.top, "git", "-c", "user.name=a", "-c", "user.email=a@example.org", "commit", "-q", "-m", "stand")
 
 
-def end_of(ended: Ended) -> str:
-    """Returns the last line of a call."""
-    return ended.lines[-1] if ended.lines else ""
+@pytest.fixture
+def clone(scratch: Path) -> Clone:
+    """A small clone."""
+    return Clone(scratch)
 
 
-def try_making(tally: Tally, clone: Clone) -> None:
+def test_making(clone: Clone) -> None:
     """Wants a release to be made from a gate that passed, on a tree without changes."""
     lay_out(clone)
     for words in WRONG:
-        tally.equal(f"tools/release {' '.join(words)}", (2, []), (clone.call("tools/release", *words).status, clone.calls()))
+        assert (clone.call("tools/release", *words).status, clone.calls()) == (2, []), f"tools/release {' '.join(words)}"
     for name, way in WAYS.items():
         lay_gate(clone, way.gate)
         commit(clone)
         ended = clone.call("tools/release", "1.0")
-        tally.equal(f"tools/release where the gate {name}", (1, True, False), (ended.status, way.told in ended.told, clone.places.release.exists()))
+        assert (ended.status, way.told in ended.told, clone.places.release.exists()) == (1, True, False), f"tools/release where the gate {name}"
         run(clone.top, "git", "checkout", "-q", ".")
         run(clone.top, "git", "clean", "-q", "-f")
     lay_gate(clone, GATE)
     ended = clone.call("tools/release", "1.0")
-    tally.equal("tools/release on a tree with changes", (1, True), (ended.status, "the tree has changes" in ended.told))
+    assert (ended.status, "the tree has changes" in ended.told) == (1, True), "tools/release on a tree with changes"
     commit(clone)
     head = run(clone.top, "git", "rev-parse", "HEAD").lines[0]
     ended = clone.call("tools/release", "1.0")
     sums = [run(clone.top, "sha256sum", "crates/fleetplan/out/fleetplan").lines[0].split()[0], origin.source_sum(clone.places)]
     wanted = ["version: 1.0", f"commit: {head}", "kit: rattle-kit-of-tests", f"program: {sums[0]}", f"sources: {sums[1]}"]
-    tally.equal("tools/release", (0, wanted), (ended.status, clone.places.manifest.read_text(encoding="ascii").splitlines()))
+    assert (ended.status, clone.places.manifest.read_text(encoding="ascii").splitlines()) == (0, wanted), "tools/release"
     commit(clone)
 
 
-def try_comparing(tally: Tally, clone: Clone) -> None:
-    """Wants .ci/release to compare the program that was built with the released one of its sources."""
+def test_comparing(clone: Clone, monkeypatch: pytest.MonkeyPatch) -> None:
+    """The program that was built is compared with the released one of its sources."""
     lay_out(clone)
-    tally.equal(".ci/release without a release", "release: 0 passed, 0 failed", end_of(clone.call(".ci/release")))
+    monkeypatch.setenv("PATH", f"{clone.top / 'bin'}{os.pathsep}{os.environ['PATH']}")
+    assert not compared(clone.places), "without a release"
     clone.call("tools/release", "1.0")
-    tally.equal(".ci/release", "release: 2 passed, 0 failed", end_of(clone.call(".ci/release")))
+    assert list(compared(clone.places).values()) == [None, None]
     built, released, told = clone.places.program, clone.places.released, clone.places.manifest
     text, manifest = built.read_text(encoding="ascii"), told.read_text(encoding="ascii")
-    plants: Dict[str, Tuple[Callable[[], object], str]] = {
-        "another program is built": (lambda: write(built, f"{text}#"), "release: 1 passed, 1 failed"),
-        "no program is built": (built.unlink, "release: 1 passed, 1 failed"),
-        "the released program has a byte more": (lambda: write(released, f"{text}#"), "release: 0 passed, 2 failed"),
-        "the manifest isn't whole": (lambda: write(told, manifest.replace("version", "verse")), "release: 0 passed, 1 failed"),
-        "the manifest is missing": (told.unlink, "release: 0 passed, 1 failed"),
-        "the kit is another": (lambda: write(told, manifest.replace("kit-of", "kit-before")), "release: 1 passed, 0 failed"),
-        "the sources are others": (lambda: write(clone.top / SOURCE, "other\n"), "release: 0 passed, 0 failed"),
+    plants: Dict[str, Tuple[Callable[[], object], List[bool]]] = {
+        "another program is built": (lambda: write(built, f"{text}#"), [True, False]),
+        "no program is built": (built.unlink, [True, False]),
+        "the released program has a byte more": (lambda: write(released, f"{text}#"), [False, False]),
+        "the manifest isn't whole": (lambda: write(told, manifest.replace("version", "verse")), [False]),
+        "the manifest is missing": (told.unlink, [False]),
+        "the kit is another": (lambda: write(told, manifest.replace("kit-of", "kit-before")), [True]),
+        "the sources are others": (lambda: write(clone.top / SOURCE, "other\n"), []),
     }
-    for name, (plant, last) in plants.items():
+    for name, (plant, wanted) in plants.items():
         plant()
-        ended = clone.call(".ci/release")
-        tally.equal(f".ci/release where {name}", (last, int(" 0 failed" not in last)), (end_of(ended), ended.status))
+        assert [why is None for why in compared(clone.places).values()] == wanted, name
         for file, was in ((built, text), (released, text), (told, manifest)):
             file.write_text(was, encoding="ascii")
-
-
-def try_all(tally: Tally) -> None:
-    """Tries all of it."""
-    for part in (try_making, try_comparing):
-        with scratch() as top:
-            part(tally, Clone(top))

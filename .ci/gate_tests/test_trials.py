@@ -5,8 +5,8 @@ import shutil
 from pathlib import Path
 from typing import Dict, List, Optional
 
-from gate_tests.scratch import TOP, Ended, lay, lay_command, run, scratch
-from gate_tests.tally import Tally
+import pytest
+from gate_tests.laying import TOP, Ended, lay, lay_command, run
 
 CRATES = "low:\nmiddle: low\nhigh: middle\nbeside:\nbare: low\n"
 # Each edit is refused, but for those whose names say something else.
@@ -61,20 +61,27 @@ def tried(ended: Ended) -> List[str]:
     return [line.split("\t")[1] for line in ended.lines[:-1]]
 
 
-def want(tally: Tally, name: str, ended: Ended, edits: Optional[List[str]], status: int = 0) -> None:
+def want(name: str, ended: Ended, edits: Optional[List[str]], status: int = 0) -> None:
     """Wants a call to have tried some edits, all of them refused, and to have a status."""
     last = f"{len(edits or ())} refused, 0 NOT REFUSED, 0 BAD EDIT, 0 NOT TRIED"
     wanted = (status, [] if edits is None else edits, last if edits is not None else "")
-    tally.equal(f"trials/run {name}", wanted, (ended.status, tried(ended) if ended.lines else [], (ended.lines or [""])[-1]))
+    assert (ended.status, tried(ended) if ended.lines else [], (ended.lines or [""])[-1]) == wanted, f"trials/run {name}"
 
 
-def try_words(tally: Tally, top: Path) -> None:
+@pytest.fixture
+def top(scratch: Path) -> Path:
+    """A repository with trials."""
+    lay_out(scratch)
+    return scratch
+
+
+def test_words(top: Path) -> None:
     """Wants right words to name edits, and wrong ones to end with 2."""
     everything = sorted(EDITS)
-    want(tally, "", call(top), everything)
-    want(tally, "low high", call(top, "low", "high"), ["high/three", "low/one", "low/two"])
-    want(tally, "--only one", call(top, "--only", "one"), ["beside/one", "low/one", "middle/one"])
-    want(tally, "--only one low", call(top, "--only", "one", "low"), ["low/one"])
+    want("", call(top), everything)
+    want("low high", call(top, "low", "high"), ["high/three", "low/one", "low/two"])
+    want("--only one", call(top, "--only", "one"), ["beside/one", "low/one", "middle/one"])
+    want("--only one low", call(top, "--only", "one", "low"), ["low/one"])
     for words in (
         ["bare"],
         ["../crates/low"],
@@ -89,40 +96,40 @@ def try_words(tally: Tally, top: Path) -> None:
         ["--other"],
     ):
         ended = call(top, *words)
-        want(tally, " ".join(words), ended, None, 2)
-        tally.equal(f"trials/run {' '.join(words)} says what is wrong", True, ended.told.startswith("trials/run: "))
+        want(" ".join(words), ended, None, 2)
+        assert ended.told.startswith("trials/run: "), f"trials/run {' '.join(words)} says what is wrong"
 
 
-def try_parts(tally: Tally, top: Path) -> None:
+def test_parts(top: Path) -> None:
     """Wants the shares to make the whole, none twice, and an edit more to move no other."""
     shares = [tried(call(top, "--part", f"{k}/3")) for k in (1, 2, 3)]
-    tally.equal("trials/run --part: the whole", sorted(EDITS), sorted(it for share in shares for it in share))
-    want(tally, "--part 1/1", call(top, "--part", "1/1"), sorted(EDITS))
+    assert sorted(it for share in shares for it in share) == sorted(EDITS), "trials/run --part: the whole"
+    want("--part 1/1", call(top, "--part", "1/1"), sorted(EDITS))
     lay(top, {"trials/beside/another.edit": "file: src/lib.rt\nold: code\nnew: other\n"})
     grown = [[it for it in tried(call(top, "--part", f"{k}/3")) if it != "beside/another"] for k in (1, 2, 3)]
     (top / "trials" / "beside" / "another.edit").unlink()
-    tally.equal("trials/run --part: with one edit more", shares, grown)
+    assert grown == shares, "trials/run --part: with one edit more"
     both = [tried(call(top, "--part", f"{k}/2", "--only", "one", "low", "beside")) for k in (1, 2)]
-    tally.equal("trials/run --part with other words", ["beside/one", "low/one"], sorted(both[0] + both[1]))
+    assert sorted(both[0] + both[1]) == ["beside/one", "low/one"], "trials/run --part with other words"
 
 
-def try_changes(tally: Tally, top: Path) -> None:
+def test_changes(top: Path) -> None:
     """Wants what changed since a commit to be tried, with what stands on it."""
-    want(tally, "--changed with no change", call(top, "--changed", "HEAD"), [])
+    want("--changed with no change", call(top, "--changed", "HEAD"), [])
     for file, edits in CHANGES.items():
         lay(top, {file: "changed\n"})
-        want(tally, f"--changed with another {file}", call(top, "--changed", "HEAD"), edits)
+        want(f"--changed with another {file}", call(top, "--changed", "HEAD"), edits)
         commit(top)
-        want(tally, f"--changed with {file} in a commit", call(top, "--changed", "HEAD~1"), edits)
-        want(tally, f"--changed with {file} before", call(top, "--changed", "HEAD"), [])
-    want(tally, "--changed --only", call(top, "--changed", "HEAD~6", "--only", "one"), ["low/one", "middle/one"])
+        want(f"--changed with {file} in a commit", call(top, "--changed", "HEAD~1"), edits)
+        want(f"--changed with {file} before", call(top, "--changed", "HEAD"), [])
+    want("--changed --only", call(top, "--changed", "HEAD~6", "--only", "one"), ["low/one", "middle/one"])
     lay(top, {"crates.txt": CRATES.replace("high: middle", "high: beside")})
-    want(tally, "--changed with another line of crates.txt", call(top, "--changed", "HEAD"), ["high/three"])
+    want("--changed with another line of crates.txt", call(top, "--changed", "HEAD"), ["high/three"])
     (top / "crates" / "beside" / "src" / "lib.rt").unlink()
-    want(tally, "--changed with a file less", call(top, "--changed", "HEAD"), ["beside/one", "high/three"])
+    want("--changed with a file less", call(top, "--changed", "HEAD"), ["beside/one", "high/three"])
 
 
-def try_ends(tally: Tally, top: Path) -> None:
+def test_ends(top: Path) -> None:
     """Wants each edit that isn't refused to be counted, and to have the status 1."""
     ends = {
         "weak": "0 refused, 1 NOT REFUSED, 0 BAD EDIT, 0 NOT TRIED",
@@ -135,14 +142,6 @@ def try_ends(tally: Tally, top: Path) -> None:
         lay(top, {file: "file: src/lib.rt\nold: code\nnew: other\n"})
         ended = call(top, "--only", name)
         (top / file).unlink()
-        tally.equal(f"trials/run with an edit that ends as {name}", (1, last), (ended.status, ended.lines[-1]))
-        tally.equal(f"trials/run tells what else rt said of {name}", True, "tells of no edit" in ended.told)
-    tally.equal("trials/run leaves the checkout as it is", "", "".join(run(top, "git", "status", "--short").lines))
-
-
-def try_all(tally: Tally) -> None:
-    """Tries all of it."""
-    for part in (try_words, try_parts, try_ends, try_changes):
-        with scratch() as top:
-            lay_out(top)
-            part(tally, top)
+        assert (ended.status, ended.lines[-1]) == (1, last), f"trials/run with an edit that ends as {name}"
+        assert "tells of no edit" in ended.told, f"trials/run tells what else rt said of {name}"
+    assert "".join(run(top, "git", "status", "--short").lines) == "", "trials/run leaves the checkout as it is"

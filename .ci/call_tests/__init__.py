@@ -1,1 +1,0 @@
-"""The calls that .ci/calls compares with the program."""
