@@ -17,11 +17,11 @@ from pathlib import Path
 from typing import Any, Iterator
 
 import pytest
+from breaking import MEMORY
 from collecting import Commands, Rows, lacking, programs
 from command_runs.reading import has_cases
 
 TOP = Path(__file__).resolve().parent
-MEMORY = "/dev/shm" if os.access("/dev/shm", os.W_OK) else None
 # What pytest and hypothesis would keep in the clone goes elsewhere.
 os.environ["HYPOTHESIS_STORAGE_DIRECTORY"] = os.path.join(tempfile.gettempdir(), "fleetplan-hypothesis")
 

@@ -17,7 +17,7 @@ from typing import Any, Callable, Dict, Sequence, Tuple
 
 import fleetplan
 import pytest
-from conftest import MEMORY
+from breaking import MEMORY
 from fleetplan.files import write_all
 from fleetplan.program import program as found_program
 from fleetplan.records import text_of

@@ -18,7 +18,7 @@ PAGES = ("README.md", "examples/README.md", "docs/formats.md")
 FILES = re.compile(r"\.ci/expected(-terminal)?|examples/[\w-]+/expected")
 COMMAND = re.compile(r"\$ |(\./fleetplan|tools/ssim|cat|cp|mkdir|rt) ")
 # Commands that stand on a page to be read.
-READ = ("rt ", "snakemake ")
+READ = ("rt ", "bash .ci/run", "snakemake ")
 
 
 class Case:

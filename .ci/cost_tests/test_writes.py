@@ -3,49 +3,20 @@
 from __future__ import annotations
 
 import os
-import resource
-import signal
 import subprocess
 import sys
+from functools import partial
 from pathlib import Path
-from typing import Any, Callable, ContextManager, Dict, NoReturn
-from unittest import mock
+from typing import Dict
 
 import pytest
 
+from breaking import failing, full, interrupt, killed, small_files
 from cost_tests.calling import TOP, WRITTEN, call, standing
 from cost_tests.days import COSTS, DAY, lay
 
 OTHER = DAY["fuel.csv"].replace("800", "900")
 FULL = "can't be written: No space left on device"
-
-
-def full() -> NoReturn:
-    """The disk is full."""
-    raise OSError(28, "No space left on device")
-
-
-def interrupt() -> NoReturn:
-    """Ctrl-C comes."""
-    raise KeyboardInterrupt
-
-
-def kill() -> None:
-    """The process is killed."""
-    os.kill(os.getpid(), signal.SIGKILL)
-
-
-def failing(name: str, number: int, end: Callable[[], None]) -> ContextManager[Any]:
-    """Has a call of os end so, that of a number, and those before and behind it not."""
-    real, seen = getattr(os, name), []
-
-    def fails(*words: Any, **more: Any) -> Any:
-        seen.append(words)
-        if len(seen) == number:
-            end()
-        return real(*words, **more)
-
-    return mock.patch.object(os, name, fails)
 
 
 def whole(folder: Path, **changed: str) -> Dict[str, bytes]:
@@ -94,12 +65,7 @@ def test_killed(name: str, number: int, scratch: Path) -> None:
     before = standing(folder)
     (folder / "fuel.csv").write_text(OTHER, encoding="ascii")
     new = whole(scratch, fuel=OTHER)
-    process = os.fork()
-    if not process:
-        with failing(name, number, kill):
-            call(folder)
-        os._exit(0)
-    assert os.WIFSIGNALED(os.waitpid(process, 0)[1])
+    assert killed(name, number, partial(call, folder))
     after = standing(folder)
     count = number - 1 if name == "replace" else 0
     wanted = {it: new[it] if at < count else before[it] for at, it in enumerate(WRITTEN)}
@@ -112,12 +78,9 @@ def test_killed(name: str, number: int, scratch: Path) -> None:
 def test_a_disk_that_fills(scratch: Path) -> None:
     """A write that breaks off in the middle of a file: no part of it is left."""
     folder = lay(scratch / "day")
-    before, limits = standing(folder), resource.getrlimit(resource.RLIMIT_FSIZE)
-    resource.setrlimit(resource.RLIMIT_FSIZE, (1000, limits[1]))
-    try:
+    before = standing(folder)
+    with small_files(1000):
         assert call(folder) == (7, [f"{folder} can't be written: File too large"])
-    finally:
-        resource.setrlimit(resource.RLIMIT_FSIZE, limits)
     assert standing(folder) == before
 
 

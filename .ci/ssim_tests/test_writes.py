@@ -2,18 +2,16 @@
 
 from __future__ import annotations
 
-import contextlib
 import os
-import resource
 import shutil
-import signal
 from functools import partial
-from typing import Any, Callable, ContextManager, Iterator, NoReturn, Optional, Tuple
+from typing import Optional, Tuple
 from unittest import mock
 
 from pathlib import Path
 
 import pytest
+from breaking import failing, interrupt, killed, small_files
 from ssim_tests.trying import EXAMPLE, call, standing
 
 DATE = "2026-11-30"
@@ -31,34 +29,6 @@ def tables(folder: Path, *words: object, fleets: bool = True) -> Tuple[int, str]
 def lay(folder: Path) -> None:
     """Lays what tables are made with."""
     (folder / "fleets").write_text("fleet,aircraft,turn\n223,9,30\n320,9,30\n333,9,30\nE90,9,30\n", encoding="ascii")
-
-
-def full() -> NoReturn:
-    """The disk is full."""
-    raise OSError(28, "No space left on device")
-
-
-def interrupt() -> NoReturn:
-    """Ctrl-C comes."""
-    raise KeyboardInterrupt
-
-
-def kill() -> None:
-    """The process is killed."""
-    os.kill(os.getpid(), signal.SIGKILL)
-
-
-def failing(name: str, number: int, end: Callable[[], None] = full) -> ContextManager[Any]:
-    """Has a call of os end so, that of a number, and those before and behind it not."""
-    real, seen = getattr(os, name), []
-
-    def fails(*words: Any, **more: Any) -> Any:
-        seen.append(words)
-        if len(seen) == number:
-            end()
-        return real(*words, **more)
-
-    return mock.patch.object(os, name, fails)
 
 
 # The steps of a write, each by its call of os and the number of that; `rename` is a new folder's alone.
@@ -93,16 +63,6 @@ def test_interrupted(name: str, number: int, scratch: Path) -> None:
     assert os.listdir(scratch) == ["fleets"]
 
 
-def killed(name: str, number: int, run: Callable[[], object]) -> bool:
-    """Has a process of its own run, and killed at a call of os, that of a number. Returns whether it was."""
-    process = os.fork()
-    if not process:
-        with failing(name, number, kill):
-            run()
-        os._exit(0)
-    return os.WIFSIGNALED(os.waitpid(process, 0)[1])
-
-
 @pytest.mark.parametrize("name, number, is_new", NEW_OR_OLD)
 def test_killed(name: str, number: int, is_new: bool, scratch: Path) -> None:
     """A process that is killed at a step of writing tables: a new folder isn't there, and in an older one each file is an older one or a
@@ -133,17 +93,6 @@ def test_killed_plan(name: str, before: Optional[bytes], scratch: Path) -> None:
         new.write_bytes(before)
     assert killed(name, 1, partial(call, "plan", FILE, scratch / "day", new))
     assert (new.read_bytes() if new.exists() else None) == before
-
-
-@contextlib.contextmanager
-def small_files(most: int) -> Iterator[None]:
-    """Has each write fail that would make a file of more bytes, as on a full disk."""
-    limits = resource.getrlimit(resource.RLIMIT_FSIZE)
-    resource.setrlimit(resource.RLIMIT_FSIZE, (most, limits[1]))
-    try:
-        yield
-    finally:
-        resource.setrlimit(resource.RLIMIT_FSIZE, limits)
 
 
 def test_full(scratch: Path) -> None:

@@ -12,7 +12,7 @@ from costing.legs import Leg, read_fleets, read_legs
 from costing.making import COSTS, OPTIONAL, PAGE, PARTED, costs_text, parted_text, skipped, skips_text
 from costing.telling import Sums
 from fleetplan.errors import Unread
-from fleetplan.files import told_of, write_together
+from fleetplan.files import told_of, write_all
 from fleetplan.judged import judged
 from fleetplan.records import rows_of, table_of
 from fleetplan.tables import HEADERS, SHIFTED, TABLE
@@ -87,7 +87,7 @@ class Call:
         for name in texts:
             want_no_folder(os.path.join(self.folder, name))
         with told_of(self.folder):
-            write_together(self.folder, texts)
+            write_all(self.folder, texts)
         if found is None:
             yield f"the page has no charts, since D3 isn't there: {INSTALL}"
         yield from self._told()

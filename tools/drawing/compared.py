@@ -10,6 +10,7 @@ from fleetplan.errors import REFUSED, Unread
 from fleetplan.records import table_of
 from fleetplan.schedule import Plan, Schedule
 from fleetplan.tables import HEADERS, NO_FLEET, SHIFTED
+from fleetplan.texts import shown
 
 
 @dataclass(frozen=True)
@@ -45,7 +46,7 @@ class Comparison:
 
     def __init__(self, folder: str, here: Schedule, choice: Plan) -> None:
         self.folder = folder
-        self.name = os.path.basename(os.path.realpath(folder)) or folder
+        self.name = shown(os.path.basename(os.path.realpath(folder)) or folder)
         there, other = planned(folder, here)
         self.only_here = [it for it in choice if it not in other]
         self.only_there = [it for it in other if it not in choice]

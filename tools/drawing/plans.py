@@ -19,7 +19,7 @@ from fleetplan.records import rows_of
 from fleetplan.rotations import refuse
 from fleetplan.schedule import Schedule
 from fleetplan.tables import NO_FLEET
-from fleetplan.texts import counted
+from fleetplan.texts import counted, shown
 from fleetplan.times import DAY
 from fleetplan.words import MOST_DATES
 
@@ -105,7 +105,7 @@ class Plan:
     def __init__(self, wanted: Wanted, asker: Asker) -> None:
         self.wanted, self.asker = wanted, asker
         self.folder = wanted.folder
-        self.name = os.path.basename(os.path.realpath(wanted.folder)) or wanted.folder
+        self.name = shown(os.path.basename(os.path.realpath(wanted.folder)) or wanted.folder)
         self.filed = Schedule(wanted.folder, wanted.day_start, wanted.period, wanted.asked)
         if not os.path.lexists(os.path.join(wanted.folder, "plan.csv")):
             why = f"is missing: ./fleetplan solve {wanted.folder} writes it, where there is a plan"

@@ -1,9 +1,11 @@
-"""Texts from files and words of calls, as they are shown in one line."""
+"""Texts from files and words of calls, as they are shown in one line and told."""
 
 from __future__ import annotations
 
+import os
 import shlex
-from typing import Callable, Iterable, Optional, Sequence, TypeVar
+import sys
+from typing import Callable, Iterable, Optional, Sequence, TextIO, TypeVar
 
 # How many letters of a text from a file are shown, and how many names of a list.
 MOST_LETTERS = 100
@@ -11,15 +13,49 @@ MOST_NAMES = 6
 Found = TypeVar("Found")
 
 
+def shown(text: str) -> str:
+    """Returns a text in one line of letters that a terminal can show, where any other letter has its number. All that is told goes through
+    this, since names and words may hold anything."""
+    return text if text.isprintable() else "".join(it if it.isprintable() else _number(it) for it in text)
+
+
+def tell(*lines: str, to: Optional[TextIO] = None) -> None:
+    """Tells lines, on standard error where nothing else is said, each of them `shown`."""
+    stream = to or sys.stderr
+    for it in lines:
+        stream.write(f"{shown(it)}\n".encode(stream.encoding or "utf-8", "backslashreplace").decode(stream.encoding or "utf-8"))
+    stream.flush()
+
+
+def _number(letter: str) -> str:
+    """Returns a letter that can't be shown as its number. One of "surrogateescape" is a byte."""
+    at = ord(letter) - 0xDC00 if 0xDC80 <= ord(letter) <= 0xDCFF else ord(letter)
+    return f"\\x{at:02x}" if at < 256 else f"\\u{at:04x}" if at < 0x10000 else f"\\U{at:08x}"
+
+
+def can_be_typed(words: Iterable[str]) -> bool:
+    """Returns whether words can be typed in one line of a shell: those that end with a line feed can't."""
+    return not any(it.endswith("\n") for it in words)
+
+
 def typed(words: Iterable[str]) -> str:
-    """Returns words as they are typed in a shell."""
-    return " ".join(it if it and all(c.isalnum() or c in "-_./:=,+@%" for c in it) else shlex.quote(it) for it in words)
+    """Returns words as they are typed in one line of a shell, which `can_be_typed` asks for."""
+    return " ".join(map(_quoted, words))
+
+
+def _quoted(word: str) -> str:
+    if word and all(it.isalnum() or it in "-_./:=,+@%" for it in word):
+        return word
+    if word.isprintable():
+        return shlex.quote(word)
+    letters = (chr(it) if it < 128 and chr(it).isalnum() or chr(it) in "_./ " else f"\\{it:03o}" for it in os.fsencode(word))
+    return f"\"$(printf '{''.join(letters)}')\""
 
 
 def plain(text: str) -> str:
     """Returns a text from a file in one line of letters that a terminal can show, shortened where it is long."""
-    shown = "".join(it if it.isprintable() else f"\\x{ord(it):02x}" for it in text[: MOST_LETTERS + 1])
-    return shown if len(text) <= MOST_LETTERS else f"{shown[:MOST_LETTERS]} .."
+    told = shown(text[: MOST_LETTERS + 1])
+    return told if len(text) <= MOST_LETTERS else f"{told[:MOST_LETTERS]} .."
 
 
 def printed(text: str) -> str:

@@ -7,6 +7,8 @@ import signal
 import sys
 from typing import Callable, List, NoReturn, Optional
 
+from fleetplan.texts import tell
+
 HELP = ("-h", "--help")
 
 
@@ -26,7 +28,7 @@ def run(main: Callable[[List[str]], int], page: Optional[str]) -> NoReturn:
         signal.signal(signal.SIGINT, signal.SIG_DFL)
         os.kill(os.getpid(), signal.SIGINT)
     except OSError as error:
-        print(f"{os.path.basename(sys.argv[0])}: {error.filename or 'the output'}: {error.strerror}", file=sys.stderr)
+        tell(f"{os.path.basename(sys.argv[0])}: {error.filename or 'the output'}: {error.strerror}")
         ended = 1
     sys.stderr.flush()
     # What couldn't be written is not tried once more.

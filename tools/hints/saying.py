@@ -7,7 +7,7 @@ import os
 import sys
 from typing import Dict, List, NamedTuple, Optional, Sequence, Tuple
 
-from fleetplan.texts import typed
+from fleetplan.texts import can_be_typed, shown, typed
 
 # What is said, by the values of FLEETPLAN_HINTS. With other values all of it stands on a terminal, and elsewhere what is brief.
 SILENT, BRIEF, WHOLE, JSON = "0", "brief", "1", "json"
@@ -67,7 +67,7 @@ class Hint:
 
     def mend(self, words: Sequence[str]) -> None:
         """Adds words to be typed, which are said in brief too, as is the sentence that leads to them."""
-        call = typed(words)
+        call = typed(words) if can_be_typed(words) else "(a word of the call ends with a line feed, which can't be typed in one line)"
         if self.lines and self.lines[-1][0].endswith(":"):
             self.lines[-1] = (self.lines[-1][0], True)
         if self.notes and self.notes[-1].call is None:
@@ -91,7 +91,7 @@ class Hint:
         if how == JSON:
             return "".join(f"{json.dumps(self._object(it))}\n" for it in self.notes)
         left_out = {BRIEF: False, WHOLE: None}
-        return "".join(f"{text}\n" for text, is_brief in self.lines if how in left_out and is_brief is not left_out[how])
+        return "".join(f"{shown(text)}\n" for text, is_brief in self.lines if how in left_out and is_brief is not left_out[how])
 
     def _object(self, note: Note) -> Dict[str, object]:
         return {"status": self.status, **note.where._asdict(), "call": note.call, "text": "\n".join(note.texts)}

@@ -5,12 +5,12 @@ from __future__ import annotations
 import os
 import re
 import subprocess
-import sys
 import tempfile
 from typing import Dict, Mapping, Optional, Sequence, Tuple
 
 from fleetplan.errors import FAULT, Unread
 from fleetplan.program import TOP
+from fleetplan.texts import tell
 from schedule_files.files import write_tables
 
 
@@ -42,8 +42,7 @@ def run(words: Sequence[str]) -> Tuple[int, str]:
     try:
         with subprocess.Popen(words, stdin=subprocess.DEVNULL, stdout=subprocess.PIPE, stderr=subprocess.PIPE) as ran:
             for line in ran.stderr or ():
-                sys.stderr.write(line.decode("utf-8", "replace"))
-                sys.stderr.flush()
+                tell(line.decode("utf-8", "replace").rstrip("\r\n"))
             said = ran.stdout.read().decode("utf-8", "replace") if ran.stdout else ""
         return ran.returncode, said
     except OSError as error:

@@ -44,16 +44,16 @@ IN_LINE = 4
 Options = Mapping[str, Optional[str]]
 
 
-def shown(options: Options) -> str:
+def in_lines(options: Options) -> str:
     """Returns options in lines."""
     texts = [f"[--{name}{f' {form}' if form else ''}]" for name, form in options.items() if name not in DAYS]
     return ("\n" + " " * 18).join(" ".join(texts[at : at + IN_LINE]) for at in range(0, len(texts), IN_LINE))
 
 
 USAGE = f"""usage: tools/ssim tables FILE DIR {" | ".join(f"--{it} {TABLES[it]}" for it in DAYS)}
-                  {shown(TABLES)}
+                  {in_lines(TABLES)}
                   [{" ".join(f"--{it} FILE" for it in FIGURES[:2])} {" ".join(f"[--{it} FILE]" for it in FIGURES[2:])}]
-       tools/ssim plan FILE DIR NEW {shown(PLAN)}
+       tools/ssim plan FILE DIR NEW {in_lines(PLAN)}
 docs/formats.md#schedule-files says what they do"""
 
 
@@ -61,7 +61,8 @@ class Usage(Exception):
     """Words that are no call, with what is wrong with them, and what a call looks like."""
 
     def __init__(self, text: str = "") -> None:
-        super().__init__("\n".join(([f"ssim: {text}"] if text else []) + [USAGE]))
+        super().__init__(text)
+        self.lines = [*([f"ssim: {text}"] if text else []), *USAGE.splitlines()]
 
 
 def given(words: Sequence[str], options: Options) -> Tuple[List[str], Dict[str, str]]:

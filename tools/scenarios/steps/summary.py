@@ -3,12 +3,12 @@
 from __future__ import annotations
 
 import os
-import sys
 from collections import Counter
 from typing import Any, Dict, List, Mapping, Optional, Sequence
 
 from fleetplan.errors import Unread
 from fleetplan.files import remove, write
+from fleetplan.texts import tell
 from steps.flagged import choice_of, moved_and_left_out, planned
 from steps.laying import FAULT
 from steps.listing import Scenario
@@ -113,10 +113,10 @@ def summarize(scenarios: Mapping[str, Scenario], folder: str) -> bool:
     for it in scenarios:
         forget_faults(os.path.join(folder, it))
     unsound, partial = [it for it in rows if not it.is_sound], [it for it in rows if not it.is_whole]
-    told = [warning(unsound)] if unsound else []
+    told = warning(unsound) if unsound else []
     if partial:
         told += ["Call it again, since not each step ended:", *listed(partial)]
-    print("\n".join([*told, counted(rows)]), file=sys.stderr)
+    tell(*told, counted(rows))
     return not unsound and not partial
 
 
@@ -154,10 +154,9 @@ def is_fault(path: str) -> bool:
     return "fault" in answer_in(path)
 
 
-def warning(unsound: Sequence[Row]) -> str:
-    """Returns what can't be overlooked."""
-    told = listed(unsound)
-    return "\n".join([RULE, f"DON'T RELY ON {len(unsound)} OF THE SCENARIOS:", *told, "They stand first in summary.csv.", RULE])
+def warning(unsound: Sequence[Row]) -> List[str]:
+    """Returns what can't be overlooked, in lines."""
+    return [RULE, f"DON'T RELY ON {len(unsound)} OF THE SCENARIOS:", *listed(unsound), "They stand first in summary.csv.", RULE]
 
 
 def listed(rows: Sequence[Row]) -> List[str]:
