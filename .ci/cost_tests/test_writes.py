@@ -7,7 +7,7 @@ import subprocess
 import sys
 from functools import partial
 from pathlib import Path
-from typing import Dict
+from typing import Dict, Tuple
 
 import pytest
 
@@ -28,10 +28,11 @@ def whole(folder: Path, **changed: str) -> Dict[str, bytes]:
 
 
 STEPS = [(name, number) for name in ("chmod", "replace") for number in (1, 2, 3)]
+# Where an older costs.csv stands it is put aside first.
+OLDER = [*STEPS, ("replace", 4)]
 
 
-@pytest.mark.parametrize("name, number", STEPS)
-@pytest.mark.parametrize("is_new", [True, False])
+@pytest.mark.parametrize("name, number, is_new", [*((*it, True) for it in STEPS), *((*it, False) for it in OLDER)])
 def test_failing(name: str, number: int, is_new: bool, scratch: Path) -> None:
     """Each step of a write fails once: all stands as it was, whether older files stood there or none, and nothing is left beside."""
     folder = lay(scratch / "day")
@@ -56,21 +57,26 @@ def test_interrupted(name: str, number: int, scratch: Path) -> None:
     assert standing(folder) == before
 
 
-@pytest.mark.parametrize("name, number", STEPS)
-def test_killed(name: str, number: int, scratch: Path) -> None:
-    """A process that is killed leaves each file whole, an older one or a new one. Before the first is put into its place all are older ones, and
-    costs.csv is new only where all are. The next call makes all anew."""
+# Of each step at which a process is killed the files that are new then, and whether costs.csv stands there.
+KILLED = [
+    *((("chmod", number), 0, True) for number in (1, 2, 3)),
+    (("replace", 1), 0, True), (("replace", 2), 0, False), (("replace", 3), 1, False), (("replace", 4), 2, False),
+]  # fmt: skip
+
+
+@pytest.mark.parametrize("step, count, has_costs", KILLED)
+def test_killed(step: Tuple[str, int], count: int, has_costs: bool, scratch: Path) -> None:
+    """A process that is killed leaves all files as they were, or each of them whole, an older one or a new one, and no costs.csv, without which no
+    call reads the others. The next call makes all anew."""
     folder = lay(scratch / "day")
     call(folder)
     before = standing(folder)
     (folder / "fuel.csv").write_text(OTHER, encoding="ascii")
     new = whole(scratch, fuel=OTHER)
-    assert killed(name, number, partial(call, folder))
+    assert killed(*step, partial(call, folder))
     after = standing(folder)
-    count = number - 1 if name == "replace" else 0
-    wanted = {it: new[it] if at < count else before[it] for at, it in enumerate(WRITTEN)}
-    assert {it: after[it] for it in WRITTEN} == wanted
-    assert WRITTEN[-1] == "costs.csv"
+    wanted = {it: new[it] if at < count else before[it] for at, it in enumerate(WRITTEN) if has_costs or it != "costs.csv"}
+    assert {it: after[it] for it in WRITTEN if it in after} == wanted
     assert call(folder).status == 0
     assert {it: standing(folder)[it] for it in WRITTEN} == new
 

@@ -79,7 +79,6 @@ class Call:
         found = library()
         sums = Sums(self.costs, self.plan) if self.plan is not None else None
         before = self._before() if self.skips is not None else set()
-        # costs.csv comes last into its place: where it is new, all are.
         texts = {PARTED: parted_text(self.costs), PAGE: page(self.costs, self.folder, sums, found)}
         if self.skips is not None:
             texts[OPTIONAL] = skips_text(self.skips)
@@ -87,7 +86,7 @@ class Call:
         for name in texts:
             want_no_folder(os.path.join(self.folder, name))
         with told_of(self.folder):
-            write_all(self.folder, texts)
+            write_all(self.folder, texts, COSTS)
         if found is None:
             yield f"the page has no charts, since D3 isn't there: {INSTALL}"
         yield from self._told()
