@@ -42,7 +42,8 @@ def planned(
 ) -> List[str]:
     """Writes a plan of a date or a week with some fleets changed, and returns the lines of the new file."""
     (folder / "season").write_bytes(text(lines).encode("ascii"))
-    fleets = "".join(f"{it},9,30\n" for it in sorted({it[72:75] for it in lines if it[0] == "3"}))
+    types = {it[72:75] for it in lines if it[0] == "3"} | {*changes.values()} - {"-"}
+    fleets = "".join(f"{it},9,30\n" for it in sorted(types) if len(it) == 3)
     (folder / "fleets").write_text(f"fleet,aircraft,turn\n{fleets}", encoding="ascii")
     made = call("tables", folder / "season", folder / "day", option, DATE, "--fleets", folder / "fleets")
     rows = dict(it.split(",") for it in records(folder / "day", "plan.csv"))

@@ -151,13 +151,13 @@ def test_none_left(scratch: Path) -> None:
     first = leg("ZZ", 1, WAY, "320", "1")
     lines = whole("ZZ", [first, segment(first, "010", "XY 1"), leg("ZZ", 2, "LHR 2350 +0000 ZRH 0240 +0100", "E90", "1", shifts="01")])
     new = planned(scratch, lines, {"ZZ1": "-", "ZZ2": "-"}, ("--whole-season",))
-    assert call("plan", scratch / "season", scratch / "day", scratch / "new", "--whole-season")[1] == NONE_LEFT
+    assert call("plan", scratch / "season", scratch / "day", scratch / "new", "--whole-season")[1].startswith(NONE_LEFT)
     assert "".join(it[0] for it in new) == "1000020000" + "50000"
     assert new == numbered(new)
     assert call("tables", scratch / "new", scratch / "again", "--date", DATE, "--fleets", scratch / "fleets")[0] == 0
     assert not records(scratch / "again", "legs.csv")
     (scratch / "day" / "plan.csv").write_text("flight,fleet,shift\nZZ1,-,0\nZZ2,320,10\n", encoding="ascii")
-    assert call("plan", scratch / "season", scratch / "day", scratch / "new")[1] == TOLD
+    assert call("plan", scratch / "season", scratch / "day", scratch / "new")[1].startswith(TOLD)
 
 
 OTHER_DAY = ", 1 of them on another day in UTC"

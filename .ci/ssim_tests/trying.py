@@ -27,6 +27,11 @@ tool = load_tool()
 
 
 def call(*words: object) -> Tuple[int, str]:
+    """Calls the tool as `asked` does. A plan is written whether the fleets can fly it or not."""
+    return asked(*words, *(["--anyway"] if words[:1] == ("plan",) else []))
+
+
+def asked(*words: object) -> Tuple[int, str]:
     """Calls the tool, and returns its status and what stood on standard error."""
     told = io.StringIO()
     with contextlib.redirect_stderr(told):

@@ -13,5 +13,10 @@ splitting   an itinerary that a plan changes on some of its dates, in parts
 retiming    a leg that departs later or earlier
 planning    a plan written back into the file
 judging     what the program says of a plan
+made        how the tables of a folder were made, for the plan later
+weeks       the flights of a file through its weeks
+walking     where an aircraft is missing
+counting    how many aircraft weeks need, by the program
+weighing    whether the fleets can fly the new file
 files       files read, and written whole
 words       the words of a call"""

@@ -34,6 +34,16 @@ def stations_of(path: Optional[str], schedule: Schedule, flown: Sequence[Flown])
     return [it for it in found if it[0] in occurs]
 
 
+def extras_beside(path: Optional[str], schedule: Schedule, stations: Sequence[Row]) -> Dict[str, int]:
+    """Returns the extra minutes of a turn at further stations of the schedule, those beside some, by the file of the caller's."""
+    if path is None:
+        return {}
+    header = station_header(path)
+    known = {it[0] for it in stations}
+    codes = {code for leg in schedule.legs for code in (leg.origin, leg.destination)} - known
+    return {it[0]: int(it[1]) for it in judged(path, header, forms_of("stations.csv", header)) if it[0] in codes}
+
+
 def station_header(path: str) -> Header:
     """Returns which of its headers a caller's file of stations has, or the first."""
     first = record_of(path, 1)

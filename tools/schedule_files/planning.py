@@ -7,7 +7,7 @@ import itertools
 import os
 import re
 from collections import Counter
-from typing import Callable, Dict, Iterator, List, Mapping, Optional, Sequence, Set, Tuple
+from typing import Callable, Dict, Iterator, List, Mapping, NamedTuple, Optional, Sequence, Set, Tuple
 
 from fleetplan.errors import Unread
 from fleetplan.forms import MOST_SHIFT
@@ -15,14 +15,17 @@ from fleetplan.records import Rows
 from fleetplan.tables import DATED, HEADERS, NO_FLEET, SHIFTED, headers_of
 from fleetplan.texts import printed, some
 from fleetplan.times import DAY, clock
-from schedule_files.days import iso, text_of
+from schedule_files.days import WEEK, Dates, iso, text_of, weekday_of
 from schedule_files.files import rows
 from schedule_files.layout import BadLine, ZEROS
 from schedule_files.naming import NAMES
 from schedule_files.reading import MOST_RECORDS, Leg, Schedule, read_schedule
 from schedule_files.retiming import common_dates, move_of, moved, retimed
 from schedule_files.splitting import LEFT_OUT, Changes, Chosen, Held, Part, Planned, parts_by_date, parts_by_weekday
+from schedule_files.weeks import Fleet
 
+# The status where words don't fit the tables.
+WRONG_WORDS = 2
 # How many records fill a block, with lines of zeros where there are too few.
 BLOCK = 5
 # What the legs of an itinerary have in common: the line of their carrier, their flight and its variation.
@@ -34,9 +37,31 @@ LETTERS = " ABCDEFGHIJKLMNOPQRSTUVWXYZ"
 SHIFT = re.compile("0|-?[1-9][0-9]{0,2}")
 
 
-def changes_of(schedule: Schedule, folder: str) -> Tuple[Dict[Itinerary, Changes], Counter[str], Rows]:
-    """Returns of each itinerary that a plan changes its dates, each with what is planned of legs; counts of what is changed; and the
-    records of the plan whose legs the file doesn't have; or raises Unread."""
+class Laying(NamedTuple):
+    """On which dates a plan is laid: on its own, with `is_season` on their days of the week through each record's period, or on days of
+    operation through that, `days`, each as the one date that the plan is of."""
+
+    is_season: bool = False
+    days: str = ""
+
+    @property
+    def is_by_weekday(self) -> bool:
+        """Whether records are split by days of operation."""
+        return self.is_season or bool(self.days)
+
+
+class Planning(NamedTuple):
+    """What a plan changes: of each itinerary its dates, each with what is planned of legs; counts of that; the records of the plan whose
+    legs the file doesn't have; and the dates that it is of, None where it has no leg."""
+
+    changes: Dict[Itinerary, Changes]
+    counts: Counter[str]
+    added: Rows
+    dates: Optional[Dates]
+
+
+def planning_of(schedule: Schedule, folder: str, fleets: Mapping[str, Fleet]) -> Planning:
+    """Returns what the plan of a folder changes, or raises Unread."""
     path = os.path.join(folder, "names.csv")
     named, ways = rows(path, NAMES), ways_of(folder)
     plan, added = plan_of(folder, [it[0] for it in named], ways)
@@ -49,9 +74,37 @@ def changes_of(schedule: Schedule, folder: str) -> Tuple[Dict[Itinerary, Changes
         check_way(f"{path} record {number}: {row[0]}", schedule, leg, way_of(leg, operates, first), ways.get(row[0]))
         planned = plan[row[0]]
         if planned != Planned(leg.type, 0):
+            check_fleet(folder, row[0], leg, planned, fleets)
             changes.setdefault(itinerary_of(leg), {}).setdefault(operates, {})[leg.number] = planned
             counts.update(counted(leg, planned))
-    return changes, counts, added
+    return Planning(changes, counts, added, dates_of(flown, first))
+
+
+def dates_of(flown: Sequence[Tuple[Leg, int]], first: Optional[int]) -> Optional[Dates]:
+    """Returns the dates of tables, by the first day of those that have days; or None where they have no leg."""
+    if first is not None:
+        return Dates(first, WEEK)
+    return Dates(flown[0][1] + flown[0][0].departure // DAY) if flown else None
+
+
+def check_fleet(folder: str, flight: str, leg: Leg, planned: Chosen, fleets: Mapping[str, Fleet]) -> None:
+    """Refuses a leg that changes to a fleet which fleets.csv doesn't have."""
+    if planned is not None and planned.type not in (leg.type, *fleets):
+        should = f"one of {os.path.join(folder, 'fleets.csv')}: {', '.join(fleets)}"
+        raise Unread(f"{os.path.join(folder, 'plan.csv')}: the fleet of {printed(flight)} is {planned.type}, it should be {should}")
+
+
+def laid_on(planning: Planning, days: str) -> Dict[Itinerary, Changes]:
+    """Returns what is planned of one date for days of operation: of each the same as many days beside it as beside that date."""
+    if planning.dates is not None and planning.dates.count > 1:
+        raise Unread(f"--days {days} is for a plan of one date, and this one is of a week: --whole-season lays that on its days", WRONG_WORDS)
+    found: Dict[Itinerary, Changes] = {}
+    for itinerary, changes in planning.changes.items():
+        for date, planned in changes.items():
+            for day in map(int, days):
+                at = date + day - weekday_of(planning.dates.first if planning.dates else date)
+                found.setdefault(itinerary, {}).setdefault(at, {}).update(planned)
+    return found
 
 
 def ways_of(folder: str) -> Ways:
@@ -285,10 +338,19 @@ def varied(line: str, number: Optional[int], at: int) -> str:
     return f"{line[:9]}{number % 100:02}{line[11:at]}{LETTERS[number // 100]}{line[at + 1 :]}"
 
 
-def write_plan(schedule: Schedule, folder: str, is_whole_season: bool) -> Tuple[bytes, List[str]]:
-    """Returns the bytes of the file with what a plan says of its legs, and what is told of it."""
-    changes, counts, added = changes_of(schedule, folder)
-    pieces = pieces_of(schedule, changes, parts_by_weekday if is_whole_season else parts_by_date)
+class Written(NamedTuple):
+    """The bytes of a new file, what is told of it, and the dates that its plan is of, None where it changes nothing."""
+
+    data: bytes
+    told: List[str]
+    dates: Optional[Dates]
+
+
+def write_plan(schedule: Schedule, folder: str, fleets: Mapping[str, Fleet], laying: Laying) -> Written:
+    """Returns a file with what a plan says of its legs, or raises Unread."""
+    planning = planning_of(schedule, folder, fleets)
+    changes = laid_on(planning, laying.days) if laying.days else planning.changes
+    pieces = pieces_of(schedule, changes, parts_by_weekday if laying.is_by_weekday else parts_by_date)
     variations = variations_of(pieces, changes)
     if max(variations.values(), default=0) >= 100 * len(LETTERS):
         raise Unread(f"{schedule.path}: a flight would have more than {100 * len(LETTERS) - 1} itinerary variations")
@@ -297,7 +359,8 @@ def write_plan(schedule: Schedule, folder: str, is_whole_season: bool) -> Tuple[
     if writer.serial > MOST_RECORDS:
         line = len(schedule.lines)
         raise BadLine(schedule.path, line, f"there would be {writer.serial} records", "bytes 195 to 200", f"{MOST_RECORDS} at most")
-    return data, [*told(counts, len(schedule.legs), pieces), *unwritten(added), *doubled(schedule.path, data, pieces)]
+    lines = [*told(planning.counts, len(schedule.legs), pieces), *unwritten(planning.added), *doubled(schedule.path, data, pieces)]
+    return Written(data, lines, planning.dates if changes else None)
 
 
 def unwritten(added: Rows) -> Iterator[str]:

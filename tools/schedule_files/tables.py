@@ -14,7 +14,7 @@ from fleetplan.settings import NAME as SETTINGS
 from fleetplan.tables import ASKED, DATED, HEADERS, LIMITED, SHIFTED
 from fleetplan.texts import some
 from fleetplan.times import clock
-from schedule_files import choosing, costing, judging, naming, selecting
+from schedule_files import choosing, costing, judging, made, naming, selecting
 from schedule_files.days import Dates, iso
 from schedule_files.figures import Figured, Priced
 from schedule_files.files import write_tables
@@ -45,11 +45,11 @@ class Sources:
         return {*self.asked, *(["optional"] if self.figured and self.figured.skips else [])}
 
 
-class Made:
+class Tables:
     """The legs of some dates with their stations and fleets. Everything that can be refused is judged here, before anything is written."""
 
     def __init__(self, schedule: Schedule, dates: Dates, choice: Choice, sources: Sources) -> None:
-        self.schedule, self.dates, self.sources = schedule, dates, sources
+        self.schedule, self.dates, self.choice, self.sources = schedule, dates, choice, sources
         self.flown, self.left_out = selecting.flown_on(schedule, dates, choice)
         naming.name_all(schedule, self.flown, dates)
         self.stations = costing.stations_of(sources.stations, schedule, self.flown)
@@ -105,6 +105,10 @@ class Made:
             texts["plan.csv"] = text_of(SHIFTED, [(it.name, it.leg.type, 0) for it in self.flown])
         parts = self.priced.texts() if self.priced else {}
         return {**self.tables(), **texts, **parts, "names.csv": text_of(NAMES, [named(it) for it in self.flown])}
+
+    def made(self) -> str:
+        """Returns the text of what says how the tables were made."""
+        return made.Made(self.choice, costing.extras_beside(self.sources.stations, self.schedule, self.stations)).text()
 
     def settings(self, folder: str) -> str:
         """Returns the text of the settings by which the tables are read, where the folder's other ones stay."""
@@ -172,8 +176,8 @@ def named(it: Flown) -> Tuple[object, ...]:
 
 def make_tables(schedule: Schedule, folder: str, dates: Dates, choice: Choice, sources: Sources) -> List[str]:
     """Writes the tables of some dates into a folder, and returns what is told of them."""
-    made = Made(schedule, dates, choice, sources)
+    tables = Tables(schedule, dates, choice, sources)
     left = [it for option, it in ASKED.items() if option not in sources.options] + ([] if sources.figured else [PARTED])
     older = [it for it in left if os.path.lexists(os.path.join(folder, it))]
-    write_tables(folder, {**made.texts(), SETTINGS: made.settings(folder)})
-    return [*made.told(), *made.told_of_asked(), *(f"{it} stays in {folder} as it was" for it in older)]
+    write_tables(folder, {**tables.texts(), made.NAME: tables.made(), SETTINGS: tables.settings(folder)})
+    return [*tables.told(), *tables.told_of_asked(), *(f"{it} stays in {folder} as it was" for it in older)]

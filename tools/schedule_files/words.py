@@ -9,7 +9,8 @@ from typing import Dict, FrozenSet, List, Mapping, Optional, Sequence, Tuple, Un
 from costing.figures import Paths
 from fleetplan.forms import TRILLION
 from fleetplan.tables import ASKED
-from schedule_files.days import Dates
+from schedule_files.days import ALL_DAYS, Dates
+from schedule_files.planning import Laying
 from schedule_files.selecting import Choice
 from schedule_files.figures import FIGURES, Figured
 from schedule_files.tables import Sources
@@ -29,7 +30,7 @@ TABLES = {
     "through-value": "V",
     "surface": None,
 }
-PLAN = {"whole-season": None}
+PLAN = {"whole-season": None, "days": "12345", "anyway": None}
 # The files of figures that stand in the place of --costs. With them --types is one, and --types-only says what it says else.
 NEW = {it: "FILE" for it in FIGURES if it not in TABLES}
 # How many days tables are of, by the option that says the first one.
@@ -161,14 +162,26 @@ class TablesCall:
 
 
 class PlanCall:
-    """A call of `plan`: its file, its folder, the new file, and whether the whole season is changed."""
+    """A call of `plan`: its file, its folder, the new file, on which dates the plan is laid, and whether the new file is written where the
+    fleets can't fly it."""
 
     def __init__(self, words: Sequence[str]) -> None:
         rest, found = given(words, PLAN)
         if len(rest) != 3:
             raise Usage
         self.path, self.folder, self.new = rest
-        self.is_whole_season = "whole-season" in found
+        self.laying = Laying("whole-season" in found, weekdays(found))
+        if self.laying.is_season and self.laying.days:
+            raise Usage("--whole-season and --days stand both")
+        self.is_anyway = "anyway" in found
+
+
+def weekdays(found: Mapping[str, str]) -> str:
+    """Returns the days of operation that are asked for, none where none are."""
+    text = found.get("days", "")
+    if text and "".join(it for it in ALL_DAYS if it in text) != text:
+        raise Usage(f"--days {text}: days of operation as 12345 are wanted, 1 for Monday to 7 for Sunday")
+    return text
 
 
 def read_words(words: Sequence[str]) -> Union[TablesCall, PlanCall]:
