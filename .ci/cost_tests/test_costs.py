@@ -156,7 +156,7 @@ def test_legs_that_may_be_left_out(scratch: Path) -> None:
     assert list(costs(scratch)) == ["FP1,A320", "FP1,E190", "FP2,A320", "FP2,E190"]
     assert answer.told[2:] == [
         "optional.csv has 3 records, for calls with --optional",
-        f"1 flights of {scratch}/skips aren't among these legs: FP9",
+        f"{scratch}/skips: 1 flight not among these legs and fleets: FP9",
         "optional.csv has no record any more of FP1",
     ]
 
@@ -184,7 +184,7 @@ def test_names_without_the_day(scratch: Path) -> None:
     (scratch / "names.csv").write_text(names, encoding="ascii")
     answer = call(scratch)
     assert [it["mean"] for (_, fleet), it in parts(scratch).items() if fleet == "A320"] == ["1", "2", "3", "4"]
-    assert answer.told[1:] == [f"1 flights of {scratch}/demand.csv aren't among these legs and fleets: FP7"]
+    assert answer.told[1:] == [f"{scratch}/demand.csv: 1 flight not among these legs and fleets: FP7"]
 
 
 def test_what_is_odd_is_told(scratch: Path) -> None:
@@ -198,12 +198,12 @@ def test_what_is_odd_is_told(scratch: Path) -> None:
     )
     assert call(scratch).told[1:] == [
         f"{scratch}/demand.csv: sd is above half of mean, so a part of the law is below 0, of FP2 (record 3), * (record 4)",
-        f"1 flights of {scratch}/demand.csv aren't among these legs and fleets: FP9",
-        f"1 fleets of {scratch}/types.csv aren't among these legs and fleets: B77W",
-        f"1 closed stations of {scratch}/types.csv aren't among these legs and fleets: SIN",
-        f"1 stations of {scratch}/fuel.csv aren't among these legs and fleets: NRT",
-        f"1 stations of {scratch}/fees.csv aren't among these legs and fleets: NRT",
-        f"1 fleets of {scratch}/fees.csv aren't among these legs and fleets: B77W",
+        f"{scratch}/demand.csv: 1 flight not among these legs and fleets: FP9",
+        f"{scratch}/types.csv: 1 fleet not among these legs and fleets: B77W",
+        f"{scratch}/types.csv: 1 closed station not among these legs and fleets: SIN",
+        f"{scratch}/fuel.csv: 1 station not among these legs and fleets: NRT",
+        f"{scratch}/fees.csv: 1 station not among these legs and fleets: NRT",
+        f"{scratch}/fees.csv: 1 fleet not among these legs and fleets: B77W",
     ]
 
 
@@ -269,6 +269,16 @@ def test_windows_that_dont_read(scratch: Path, windows: str) -> None:
     answer = call(lay(scratch, windows=windows))
     assert (answer.status, answer.told[1:]) == (0, ["windows.csv doesn't read, so nothing is told of its shifts"])
     assert costs(scratch) == COSTS
+
+
+def test_no_legs(scratch: Path) -> None:
+    """Without legs there are no costs, with fleets or without."""
+    lay(scratch, legs="flight,from,dep,to,arr\n", demand=HEADER, fuel="station,price\n", fees="station,fleet,fee\n")
+    assert call(scratch) == (0, ["0 legs, 2 fleets: 0 pairs may be flown"])
+    assert (scratch / "costs.csv").read_text(encoding="ascii") == "flight,fleet,cost\n"
+    (scratch / "fleets.csv").write_text("fleet,aircraft,turn\n", encoding="ascii")
+    (scratch / "types.csv").write_text(TYPES, encoding="ascii")
+    assert call(scratch) == (0, ["0 legs, 0 fleets: 0 pairs may be flown"])
 
 
 FORMS: Dict[str, Callable[[str], str]] = {

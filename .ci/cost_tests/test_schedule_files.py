@@ -2,6 +2,7 @@
 
 from __future__ import annotations
 
+import re
 from pathlib import Path
 from typing import Dict, List
 
@@ -47,7 +48,7 @@ def test_the_same_costs(option: str, ending: str, scratch: Path) -> None:
     words = lay(scratch)
     status, told = call("tables", FILE, scratch / "day", option, "2026-11-30", *words)
     made = standing(scratch / "day")
-    assert (status, f"1 flights of {scratch}/demand.csv aren't among these legs and fleets: XX1" in told) == (0, True)
+    assert (status, f"{scratch}/demand.csv: 1 flight not among these legs and fleets: XX1" in told) == (0, True)
     again = copied(scratch)
     assert [made[it] == again[it] for it in ("costs.csv", "costs-parts.csv")] == [True, True]
     assert "costs.html" not in made
@@ -115,6 +116,15 @@ def test_refused(name: str, scratch: Path) -> None:
     assert (came, told.count("\n")) == (status, 1)
     assert text.replace("{folder}", str(scratch)) in told
     assert not (scratch / "day").exists()
+
+
+def test_a_filed_type_without_figures(scratch: Path) -> None:
+    """Where no fleets are named those as filed want a type, and the line of a leg of one that has none is told."""
+    words = lay(scratch, types=FILES["types.csv"].replace("333,", "332,"))[2:]
+    status, told = call("tables", FILE, scratch / "day", *DATE, *words)
+    found = re.fullmatch(f"ssim: {FILE} line ([0-9]+): 333 has no type by {scratch}/types.csv\n", told)
+    assert status == 6 and found
+    assert FILE.read_bytes().splitlines()[int(found[1]) - 1][72:75] == b"333"
 
 
 WORDS = {

@@ -79,16 +79,16 @@ def _of_names(costs: Costs) -> Iterator[str]:
     fleets = set(costs.fleets)
     closed = {it.station for own in figures.types.values() for it in own.closed}
     told: List[Tuple[Optional[str], str, List[str]]] = [
-        (paths.demand, "flights", unknown(figures.demand, costs.legs)),
-        (paths.types, "fleets", sorted(set(figures.types) - fleets)),
-        (paths.types, "closed stations", sorted(closed - stations)),
-        (paths.fuel, "stations", sorted(set(figures.fuel) - stations - {EACH})),
-        (paths.fees, "stations", sorted({station for station, _ in figures.fees} - stations)),
-        (paths.fees, "fleets", sorted({fleet for _, fleet in figures.fees} - fleets)),
+        (paths.demand, "flight", unknown(figures.demand, costs.legs)),
+        (paths.types, "fleet", sorted(set(figures.types) - fleets)),
+        (paths.types, "closed station", sorted(closed - stations)),
+        (paths.fuel, "station", sorted(set(figures.fuel) - stations - {EACH})),
+        (paths.fees, "station", sorted({station for station, _ in figures.fees} - stations)),
+        (paths.fees, "fleet", sorted({fleet for _, fleet in figures.fees} - fleets)),
     ]
     for path, what, names in told:
         if names:
-            yield f"{len(names)} {what} of {path} aren't among these legs and fleets: {some(names)}"
+            yield f"{path}: {counted(len(names), what)} not among these legs and fleets: {some(names)}"
 
 
 def of_shifts(costs: Costs, shifts: Sequence[Shift], table: str) -> Iterator[str]:
@@ -120,4 +120,4 @@ def of_skips(costs: Costs, skips: Mapping[str, int], names: Collection[str], pat
     yield f"optional.csv has {counted(len(skips), 'record')}, for calls with --optional"
     lacking = unknown({it: it for it in names}, costs.legs)
     if lacking:
-        yield f"{len(lacking)} flights of {path} aren't among these legs: {some(lacking)}"
+        yield f"{path}: {counted(len(lacking), 'flight')} not among these legs and fleets: {some(lacking)}"
