@@ -99,13 +99,16 @@ impl Basis {
         Ok(())
     }
 
-    /// Takes the columns of a basis by lines, with the weights of their rows, and factors it. Answers whether that could be done.
+    /// Takes the columns of a basis by lines, with the weights of their rows, and factors it, by the costs as they are. Answers whether
+    /// that could be done.
     pub fn lay(
         &mut self,
         lines: &Lines,
         head: &[u32],
         weights: &[Fixed],
     ) -> Result<bool, NoMemory> {
+        self.forget_moves(lines);
+        self.fails = 0;
         self.head.clear();
         self.head.extend_from_slice(head)?;
         self.weights.clear();

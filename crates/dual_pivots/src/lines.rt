@@ -32,6 +32,8 @@ pub struct Lines {
     pub costs: Vec<i128>,
     /// The same over a power of 2.
     pub scaled: Vec<Fixed>,
+    /// Of which power.
+    pub shift: u32,
 }
 
 impl Lines {
@@ -42,6 +44,19 @@ impl Lines {
         lines: &[Line],
         costs: &[i128],
     ) -> Result<Option<Lines>, NoMemory> {
+        let none = Units::new(alloc);
+        Lines::with_more(alloc, columns, lines, costs, &none, 0)
+    }
+
+    /// The same with so many columns more, which cost nothing: these are their units, by lines.
+    pub fn with_more(
+        alloc: Global,
+        columns: u32,
+        lines: &[Line],
+        costs: &[i128],
+        more: &Units,
+        count: u32,
+    ) -> Result<Option<Lines>, NoMemory> {
         let mut made = Lines {
             columns: Units::new(alloc),
             quads: Vec::new(alloc),
@@ -49,16 +64,21 @@ impl Lines {
             right: Vec::new(alloc),
             costs: Vec::new(alloc),
             scaled: Vec::new(alloc),
+            shift: 0,
         };
-        let fit = made.lay_lines(columns, lines)? && made.lay_columns(columns, costs)?;
+        let fit = made.lay_lines(columns, lines, more)?
+            && made.lay_columns(columns.wrapping_add(count), costs)?;
         Ok(if fit { Some(made) } else { None })
     }
 
     // Lays all lines, and answers whether their numbers fit.
-    fn lay_lines(&mut self, columns: u32, lines: &[Line]) -> Result<bool, NoMemory> {
-        for line in lines {
-            if !self.push_numbers(line, columns)? {
+    fn lay_lines(&mut self, columns: u32, lines: &[Line], more: &Units) -> Result<bool, NoMemory> {
+        for place in 0..lines.len() {
+            if !self.push_numbers(&lines[place], columns)? {
                 return Ok(false);
+            }
+            for unit in more.of(place_of(place)) {
+                self.across.push(unit.place, unit.number)?;
             }
             self.across.end()?;
         }
@@ -93,6 +113,7 @@ impl Lines {
     fn lay_columns(&mut self, columns: u32, costs: &[i128]) -> Result<bool, NoMemory> {
         self.columns.turn(&self.across, columns as usize)?;
         let shift = shift_of(costs);
+        self.shift = shift;
         for column in 0..columns {
             let units = self.columns.of(column);
             if units.len() > 4 {

@@ -6,13 +6,20 @@ use entries::{Entries, NoMemory};
 use fixed_numbers::{at, filled, put};
 use std::alloc::Global;
 
-/// The cheapest point that a basis stands for, with its dual values, where its numbers fit.
-pub(crate) fn point_hint(
-    alloc: Global,
-    lines: &Lines,
-    basis: &Basis,
-) -> Result<Option<Hint>, NoMemory> {
-    let Some(mut modular) = Modular::new(alloc, &lines.columns, &basis.head)? else {
+/// What a basis stands for, exactly.
+#[derive(Drop)]
+pub struct ExactEnd {
+    /// The basic columns, by the lines of their pivots.
+    pub head: Vec<u32>,
+    /// What they come to.
+    pub point: Ratios,
+    /// The dual values of the lines.
+    pub duals: Ratios,
+}
+
+/// What the basis of these columns stands for, where it is one and its numbers fit.
+pub fn exact_end(alloc: Global, lines: &Lines, head: &[u32]) -> Result<Option<ExactEnd>, NoMemory> {
+    let Some(mut modular) = Modular::new(alloc, &lines.columns, head)? else {
         return Ok(None);
     };
     let rights = rights(alloc, lines)?;
@@ -23,7 +30,20 @@ pub(crate) fn point_hint(
     let Some(duals) = modular.solved(alloc, &lines.columns, Way::Duals, &costs)? else {
         return Ok(None);
     };
-    hint_of(alloc, lines, &modular.head, &point, duals)
+    let Modular { head, .. } = modular;
+    Ok(Some(ExactEnd { head, point, duals }))
+}
+
+/// The cheapest point that a basis stands for, with its dual values, where its numbers fit.
+pub(crate) fn point_hint(
+    alloc: Global,
+    lines: &Lines,
+    basis: &Basis,
+) -> Result<Option<Hint>, NoMemory> {
+    match exact_end(alloc, lines, &basis.head)? {
+        Some(end) => hint_of(alloc, lines, end),
+        None => Ok(None),
+    }
 }
 
 // The right sides.
@@ -44,25 +64,20 @@ fn costs(alloc: Global, lines: &Lines, head: &[u32]) -> Result<Vec<i128>, NoMemo
     Ok(costs)
 }
 
-// The hint of a point by the lines of its columns, where each number fits.
-fn hint_of(
-    alloc: Global,
-    lines: &Lines,
-    head: &[u32],
-    ratios: &Ratios,
-    duals: Ratios,
-) -> Result<Option<Hint>, NoMemory> {
-    let Ok(scale) = u64::try_from(ratios.den) else {
+// The hint of an end, where each number fits.
+fn hint_of(alloc: Global, lines: &Lines, end: ExactEnd) -> Result<Option<Hint>, NoMemory> {
+    let ExactEnd { head, point, duals } = end;
+    let Ok(scale) = u64::try_from(point.den) else {
         return Ok(None);
     };
-    let mut point = filled(alloc, 0, lines.column_count())?;
-    if !lay(head, &ratios.numbers, point.as_mut_slice()) {
+    let mut numbers = filled(alloc, 0, lines.column_count())?;
+    if !lay(&head, &point.numbers, numbers.as_mut_slice()) {
         return Ok(None);
     }
     Ok(Some(Hint::Point(PointHint {
         duals: Entries::from_vec(duals.numbers),
         dual_scale: duals.den,
-        point: Entries::from_vec(point),
+        point: Entries::from_vec(numbers),
         scale,
     })))
 }

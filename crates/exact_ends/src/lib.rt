@@ -8,4 +8,6 @@ pub mod fractions;
 pub mod modular;
 pub mod places;
 
+pub use ends::{ExactEnd, exact_end};
 pub use find::DualSimplex;
+pub use fractions::Ratios;

@@ -1,0 +1,20 @@
+//! Looks for a whole tree of subproblems that proves a plan cheapest, by any choices. What it finds is a text, which others judge.
+#![tactic(auto)]
+
+pub mod boxes;
+pub mod choosing;
+pub mod closing;
+pub mod exact;
+pub mod find;
+pub mod gains;
+pub mod outcome;
+pub mod parts;
+pub mod problem;
+pub mod running;
+pub mod search;
+pub mod slots;
+pub mod start;
+pub mod tree_text;
+pub mod whole_lines;
+
+pub use find::{TreeTexts, find};

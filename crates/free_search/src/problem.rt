@@ -1,0 +1,46 @@
+use crate::whole_lines::WholeLines;
+use box_prices::Frame;
+use dual_pivots::Lines;
+use entries::NoMemory;
+use fleet_model::{Kept, Tables};
+use lp_rows::Outline;
+use std::alloc::Global;
+
+/// What is searched: it stays the same at all subproblems.
+#[derive(Drop)]
+pub struct Problem {
+    pub lines: Lines,
+    pub frame: Frame,
+    /// Of each node the column of the arc that leaves it.
+    pub arcs: Vec<u32>,
+    /// The first column of the fleets' slacks, and of the nights' rooms.
+    pub slacks: usize,
+    pub rooms: usize,
+}
+
+impl Problem {
+    /// That of the kept pairs.
+    pub fn new(
+        alloc: Global,
+        tables: &Tables,
+        kept: &Kept,
+        outline: &Outline,
+        whole: WholeLines,
+    ) -> Result<Problem, NoMemory> {
+        let WholeLines { lines, arcs } = whole;
+        let slacks = outline.pairs.len().wrapping_add(outline.arcs.len());
+        let rooms = slacks.wrapping_add(outline.fleets as usize);
+        Ok(Problem {
+            frame: Frame::new(alloc, tables, kept, outline, &lines)?,
+            lines,
+            arcs,
+            slacks,
+            rooms,
+        })
+    }
+
+    /// How many pairs there are, whose columns are the first.
+    pub fn pair_count(&self) -> usize {
+        self.frame.pairs.len()
+    }
+}

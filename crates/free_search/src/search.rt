@@ -1,0 +1,64 @@
+use crate::boxes::Boxes;
+use crate::gains::Gains;
+use crate::problem::Problem;
+use crate::slots::Slots;
+use dual_pivots::{Basis, Saved, Workspace};
+use entries::NoMemory;
+use fixed_numbers::Fixed;
+use std::alloc::Global;
+
+/// What a search has found so far, and what it reckons with.
+#[derive(Drop)]
+pub struct Search {
+    pub basis: Basis,
+    pub space: Workspace,
+    /// The basis of the subproblem that is being split.
+    pub saved: Saved,
+    pub boxes: Boxes,
+    pub slots: Slots,
+    pub gains: Gains,
+    /// What the cheapest plan costs that was found, and its pairs by their columns, leg by leg.
+    pub best: Option<i128>,
+    pub plan: Vec<u32>,
+    /// How many subproblems were split.
+    pub splits: u64,
+    /// How many pivots a run may make.
+    pub pivots: u64,
+    /// How much work was done in all.
+    pub work: u64,
+    /// A basis with its weights, before it is factored.
+    pub head: Vec<u32>,
+    pub weights: Vec<Fixed>,
+    /// Dual values in parts, and as whole numbers over a scale.
+    pub parts: Vec<Fixed>,
+    pub duals: Vec<i128>,
+    /// The pairs of a plan, leg by leg.
+    pub pairs: Vec<u32>,
+}
+
+impl Search {
+    /// One that has found nothing, with at most so many pivots a run.
+    pub fn new(alloc: Global, problem: &Problem, pivots: u64) -> Result<Search, NoMemory> {
+        let lines = problem.lines.count();
+        let mut search = Search {
+            basis: Basis::new(alloc, &problem.lines)?,
+            space: Workspace::new(alloc, lines, problem.lines.column_count())?,
+            saved: Saved::new(alloc),
+            boxes: Boxes::new(alloc),
+            slots: Slots::new(alloc, lines),
+            gains: Gains::new(alloc),
+            best: None,
+            plan: Vec::new(alloc),
+            splits: 0,
+            pivots,
+            work: 0,
+            head: Vec::new(alloc),
+            weights: Vec::new(alloc),
+            parts: Vec::new(alloc),
+            duals: Vec::new(alloc),
+            pairs: Vec::new(alloc),
+        };
+        search.gains.begin(problem.pair_count())?;
+        Ok(search)
+    }
+}

@@ -1,0 +1,124 @@
+//! The texts of a tree that was found.
+use crate::boxes::{Boxes, NONE, State};
+use box_prices::lines_of_text::{push_bare, push_branch};
+use box_prices::texts::push_prices;
+use entries::NoMemory;
+use fleet_model::{Pair, Tables};
+use presolve::Trim;
+use proof_lines::{Line, Version, push_line};
+use std::alloc::Global;
+
+/// Appends the head of a proof, and the pairs that are set aside above the tree, each with what refutes it.
+pub fn push_head(
+    alloc: Global,
+    text: &mut Vec<u8>,
+    tables: &Tables,
+    planned: bool,
+    removals: &[Trim],
+) -> Result<(), NoMemory> {
+    let version = if tables.windows {
+        Version::Three
+    } else {
+        Version::Two
+    };
+    push_line(alloc, text, tables, &Line::Head(version))?;
+    push_line(alloc, text, tables, &Line::Plan { planned })?;
+    for removal in removals {
+        let pair = Pair {
+            leg: removal.leg,
+            choice: removal.choice,
+        };
+        push_branch(alloc, text, tables, pair, true)?;
+        push_line(alloc, text, tables, &Line::Refuted)?;
+        push_prices(alloc, text, tables, &removal.reason)?;
+    }
+    Ok(())
+}
+
+/// Appends the tree: of each subproblem its own lines, then its parts.
+pub fn push_tree(alloc: Global, text: &mut Vec<u8>, boxes: &Boxes) -> Result<(), NoMemory> {
+    let mut waiting = Vec::new(alloc);
+    waiting.push(0u32)?;
+    for _turn in 0..boxes.all.len() {
+        let Some(number) = waiting.pop() else {
+            return Ok(());
+        };
+        let made = boxes.at(number);
+        push_own(text, boxes, made.text, made.text_end)?;
+        if matches!(made.state, State::Split) && made.yes != NONE && made.no != NONE {
+            waiting.push(made.no)?;
+            waiting.push(made.yes)?;
+        }
+    }
+    Ok(())
+}
+
+// Appends the lines between two places.
+fn push_own(text: &mut Vec<u8>, boxes: &Boxes, begun: usize, end: usize) -> Result<(), NoMemory> {
+    if begun <= end && end <= boxes.text.len() {
+        text.extend_from_slice(&boxes.text[begun..end])?;
+    }
+    Ok(())
+}
+
+/// Appends the tree of a leg that keeps no pair.
+pub fn push_bare_tree(
+    alloc: Global,
+    text: &mut Vec<u8>,
+    tables: &Tables,
+    leg: u32,
+) -> Result<(), NoMemory> {
+    push_bare(alloc, text, tables, leg)
+}
+
+/// Appends the last line of a proof.
+pub fn push_end(alloc: Global, text: &mut Vec<u8>, tables: &Tables) -> Result<(), NoMemory> {
+    push_line(alloc, text, tables, &Line::End)
+}
+
+/// The text of a plan: a header, and of each leg its pair. Names are of letters and digits, so nothing is quoted.
+pub fn push_plan(
+    alloc: Global,
+    text: &mut Vec<u8>,
+    tables: &Tables,
+    pairs: &[Pair],
+) -> Result<(), NoMemory> {
+    text.extend_from_slice(b"flight,fleet")?;
+    if tables.windows {
+        text.extend_from_slice(b",shift")?;
+    }
+    text.extend_from_slice(b"\n")?;
+    for pair in pairs {
+        push_pair(alloc, text, tables, *pair)?;
+    }
+    Ok(())
+}
+
+// Appends the record of a leg.
+fn push_pair(
+    alloc: Global,
+    text: &mut Vec<u8>,
+    tables: &Tables,
+    pair: Pair,
+) -> Result<(), NoMemory> {
+    if pair.leg >= tables.leg_count() || pair.choice >= tables.choice_count(pair.leg) {
+        return Ok(());
+    }
+    text.extend_from_slice(tables.leg(pair.leg).flight.as_slice())?;
+    text.extend_from_slice(b",")?;
+    let fleet = tables.fleet_by(pair);
+    let mut minutes = 0i16;
+    if fleet < tables.fleet_count() {
+        text.extend_from_slice(tables.fleet(fleet).name.as_slice())?;
+        minutes = tables.shift_by(pair).minutes;
+    } else {
+        text.extend_from_slice(b"-")?;
+    }
+    if tables.windows {
+        let digits = minutes.to_string(alloc)?;
+        text.extend_from_slice(b",")?;
+        text.extend_from_slice(digits.as_bytes())?;
+    }
+    text.extend_from_slice(b"\n")?;
+    Ok(())
+}
