@@ -141,17 +141,33 @@ impl Frame {
     fn lay_nights(&mut self, outline: &Outline, lines: &Lines) {
         let first = self.first_night();
         for number in 0..self.places.len() {
-            if number < outline.nodes.len() {
-                if let Some(column) = outline.ground_column(place_of(number)) {
-                    let mut place = self.places[number];
-                    for unit in lines.columns.of(column) {
-                        if unit.place as usize >= first {
-                            place.night = unit.place;
-                        }
-                    }
-                    put(self.places.as_mut_slice(), number, place);
+            if let Some(column) = arc_from(outline, number) {
+                let night = night_of(lines, column, first);
+                if number < self.places.len() {
+                    self.places[number].night = night;
                 }
             }
         }
     }
+}
+
+/// The column of the ground arc from a node, where it stays.
+pub fn arc_from(outline: &Outline, number: usize) -> Option<u32> {
+    let place = place_of(number);
+    if (place as usize) < outline.nodes.len() {
+        outline.ground_column(place)
+    } else {
+        None
+    }
+}
+
+// The line of a column from the first line of a night on.
+fn night_of(lines: &Lines, column: u32, first: usize) -> u32 {
+    let mut night = NONE;
+    for unit in lines.columns.of(column) {
+        if unit.place as usize >= first {
+            night = unit.place;
+        }
+    }
+    night
 }

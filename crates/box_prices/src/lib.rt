@@ -7,7 +7,7 @@ pub mod proper;
 pub mod texts;
 pub mod worths;
 
-pub use frame::{Frame, Place};
+pub use frame::{Frame, Place, arc_from};
 pub use proper::make_proper;
 pub use texts::{push_duals, push_weights};
 pub use worths::worth;

@@ -64,10 +64,11 @@ pub fn push_weight(
     pair: Pair,
     weight: i128,
 ) -> Result<(), NoMemory> {
-    if weight != 0 && is_pair(tables, pair.leg, pair.choice) {
+    let Pair { leg, choice } = pair;
+    if weight != 0 && leg < tables.leg_count() && choice < tables.choice_count(leg) {
         let line = Line::Weight {
-            leg: pair.leg,
-            choice: pair.choice,
+            leg,
+            choice,
             weight,
         };
         return push_line(alloc, text, tables, &line);
@@ -75,22 +76,30 @@ pub fn push_weight(
     Ok(())
 }
 
-/// Appends the first line of a trim, or of a split.
-pub fn push_branch(
+/// Appends the first line of a trim.
+pub fn push_trim(
     alloc: Global,
     text: &mut Vec<u8>,
     tables: &Tables,
     pair: Pair,
-    is_trim: bool,
 ) -> Result<(), NoMemory> {
     let Pair { leg, choice } = pair;
-    if is_pair(tables, leg, choice) {
-        let line = if is_trim {
-            Line::Trim { leg, choice }
-        } else {
-            Line::Split { leg, choice }
-        };
-        return push_line(alloc, text, tables, &line);
+    if leg < tables.leg_count() && choice < tables.choice_count(leg) {
+        return push_line(alloc, text, tables, &Line::Trim { leg, choice });
+    }
+    Ok(())
+}
+
+/// Appends the first line of a split.
+pub fn push_split(
+    alloc: Global,
+    text: &mut Vec<u8>,
+    tables: &Tables,
+    pair: Pair,
+) -> Result<(), NoMemory> {
+    let Pair { leg, choice } = pair;
+    if leg < tables.leg_count() && choice < tables.choice_count(leg) {
+        return push_line(alloc, text, tables, &Line::Split { leg, choice });
     }
     Ok(())
 }
@@ -106,9 +115,4 @@ pub fn push_bare(
         return push_line(alloc, text, tables, &Line::Bare { leg });
     }
     Ok(())
-}
-
-// Whether the tables have a pair.
-fn is_pair(tables: &Tables, leg: u32, choice: u32) -> bool {
-    leg < tables.leg_count() && choice < tables.choice_count(leg)
 }

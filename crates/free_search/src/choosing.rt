@@ -6,7 +6,7 @@ use crate::problem::Problem;
 use crate::search::Search;
 use dual_pivots::{Ended, Limits};
 use entries::NoMemory;
-use fixed_numbers::{PART_BITS, at, put};
+use fixed_numbers::{PART_BITS, place_of};
 
 // So many pairs are looked at, and none behind so many in a row that did no better.
 const MOST_TRIED: u32 = 24;
@@ -39,7 +39,7 @@ pub fn push_in_part(
         if weight > 0 && weight < scale {
             let parts = weight.wrapping_shl(PART_BITS).checked_div(scale);
             pairs.push(InPart {
-                column: fixed_numbers::place_of(column),
+                column: place_of(column),
                 part: i64::try_from(parts.unwrap_or(0)).unwrap_or(0),
                 guess: 0,
                 is_tried: false,
@@ -66,11 +66,9 @@ impl Search {
         let mut most = 0i128;
         let mut worse = 0u32;
         for _turn in 0..MOST_TRIED {
-            let Some(place) = likeliest(pairs) else {
+            let Some(pair) = take_likeliest(pairs) else {
                 break;
             };
-            let pair = pairs[place];
-            pairs[place].is_tried = true;
             let score = self.score_of(problem, number, pair, value, far)?;
             worse = worse.wrapping_add(1);
             if score > most {
@@ -140,16 +138,21 @@ impl Search {
     }
 }
 
-// The place of the pair with the best guess that wasn't tried, at a tie the first.
-fn likeliest(pairs: &[InPart]) -> Option<usize> {
+// The pair with the best guess that wasn't tried, at a tie the first. It counts as tried from then on.
+fn take_likeliest(pairs: &mut [InPart]) -> Option<InPart> {
     let mut best = None;
+    let mut found = 0usize;
     let mut most = 0i128;
     for place in 0..pairs.len() {
-        let pair = &pairs[place];
+        let pair = pairs[place];
         if !pair.is_tried && (best.is_none() || pair.guess > most) {
             most = pair.guess;
-            best = Some(place);
+            found = place;
+            best = Some(pair);
         }
+    }
+    if found < pairs.len() {
+        pairs[found].is_tried = true;
     }
     best
 }

@@ -2,7 +2,7 @@ use crate::boxes::{State, Subproblem};
 use crate::choosing::{InPart, push_in_part};
 use crate::problem::Problem;
 use crate::search::Search;
-use box_prices::lines_of_text::push_branch;
+use box_prices::lines_of_text::push_split;
 use box_prices::{make_proper, push_duals, push_weights};
 use entries::NoMemory;
 use exact_ends::ExactEnd;
@@ -139,7 +139,7 @@ impl Search {
         };
         let begun = self.boxes.text.len();
         let named = problem.frame.pair(pair.column);
-        push_branch(alloc, &mut self.boxes.text, tables, named, false)?;
+        push_split(alloc, &mut self.boxes.text, tables, named)?;
         self.push_exact(alloc, tables, problem, end, weights)?;
         self.boxes.settle(number, State::Split, begun);
         self.splits = self.splits.wrapping_add(1);

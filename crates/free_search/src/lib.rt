@@ -5,7 +5,7 @@ pub mod boxes;
 pub mod choosing;
 pub mod closing;
 pub mod exact;
-pub mod find;
+pub mod finding;
 pub mod gains;
 pub mod outcome;
 pub mod parts;
@@ -17,4 +17,4 @@ pub mod start;
 pub mod tree_text;
 pub mod whole_lines;
 
-pub use find::{TreeTexts, find};
+pub use finding::{TreeTexts, find};

@@ -84,13 +84,21 @@ impl Search {
             return self.planned(alloc, tables, problem, number);
         }
         let value = self.basis.value(&problem.lines);
-        if let (Some(cutoff), Some(best)) = (self.cutoff(), self.best) {
-            let wrong = value.wrapping_shr(36).max(0);
-            if value.wrapping_add(wrong) >= cutoff && self.reaches(problem, best)? {
-                return self.make_leaf(alloc, tables, problem, number, Line::Priced, SCALE);
+        if self.is_near_cutoff(value) {
+            let outcome = self.priced(alloc, tables, problem, number)?;
+            if matches!(outcome, Outcome::Leaf) {
+                return Ok(outcome);
             }
         }
         Ok(Outcome::Waits { value })
+    }
+
+    // Whether a value comes to the cut-off, as far as the parts tell.
+    fn is_near_cutoff(&self, value: i128) -> bool {
+        match self.cutoff() {
+            Some(cutoff) => value.wrapping_add(value.wrapping_shr(36).max(0)) >= cutoff,
+            None => false,
+        }
     }
 
     // Whether a pair is flown in part.

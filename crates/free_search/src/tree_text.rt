@@ -1,6 +1,6 @@
 //! The texts of a tree that was found.
 use crate::boxes::{Boxes, NONE, State};
-use box_prices::lines_of_text::{push_bare, push_branch};
+use box_prices::lines_of_text::push_trim;
 use box_prices::texts::push_prices;
 use entries::NoMemory;
 use fleet_model::{Pair, Tables};
@@ -28,7 +28,7 @@ pub fn push_head(
             leg: removal.leg,
             choice: removal.choice,
         };
-        push_branch(alloc, text, tables, pair, true)?;
+        push_trim(alloc, text, tables, pair)?;
         push_line(alloc, text, tables, &Line::Refuted)?;
         push_prices(alloc, text, tables, &removal.reason)?;
     }
@@ -59,16 +59,6 @@ fn push_own(text: &mut Vec<u8>, boxes: &Boxes, begun: usize, end: usize) -> Resu
         text.extend_from_slice(&boxes.text[begun..end])?;
     }
     Ok(())
-}
-
-/// Appends the tree of a leg that keeps no pair.
-pub fn push_bare_tree(
-    alloc: Global,
-    text: &mut Vec<u8>,
-    tables: &Tables,
-    leg: u32,
-) -> Result<(), NoMemory> {
-    push_bare(alloc, text, tables, leg)
 }
 
 /// Appends the last line of a proof.

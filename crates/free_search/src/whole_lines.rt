@@ -1,3 +1,4 @@
+use box_prices::arc_from;
 use dual_pivots::Lines;
 use entries::NoMemory;
 use fixed_numbers::{Units, place_of};
@@ -68,7 +69,7 @@ impl Added {
             if outline.nodes.as_slice()[number].place == 0 {
                 first = number;
             }
-            match outline.ground_column(place_of(number)) {
+            match arc_from(outline, number) {
                 Some(column) => self.arcs.push(column)?,
                 None => {
                     self.arcs.push(columns.wrapping_add(self.count))?;

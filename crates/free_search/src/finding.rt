@@ -3,8 +3,9 @@ use crate::closing::Turn;
 use crate::outcome::Outcome;
 use crate::problem::Problem;
 use crate::search::Search;
-use crate::tree_text::{push_bare_tree, push_end, push_head, push_plan, push_tree};
+use crate::tree_text::{push_end, push_head, push_plan, push_tree};
 use crate::whole_lines::whole_lines;
+use box_prices::lines_of_text::push_bare;
 use entries::{Entries, NoMemory};
 use fleet_model::limits::{MAX_CHOICES, MAX_LEGS};
 use fleet_model::{Kept, Pair, Step, Tables};
@@ -110,7 +111,7 @@ fn bare_texts(
 ) -> Result<Option<TreeTexts>, NoMemory> {
     let mut proof = Vec::new(alloc);
     push_head(alloc, &mut proof, tables, false, removals)?;
-    push_bare_tree(alloc, &mut proof, tables, leg)?;
+    push_bare(alloc, &mut proof, tables, leg)?;
     push_end(alloc, &mut proof, tables)?;
     Ok(Some(TreeTexts {
         plan: Entries::from_vec(Vec::new(alloc)),
