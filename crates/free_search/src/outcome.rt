@@ -150,7 +150,7 @@ impl Search {
     fn plan_cost(&mut self, problem: &Problem) -> Result<Option<i128>, NoMemory> {
         reset(&mut self.pairs, problem.frame.legs, NONE)?;
         for line in 0..self.basis.head.len() {
-            let column = self.basis.head[line];
+            let column = at(&self.basis.head, line, NONE);
             let part = at(&self.basis.point, line, Fixed::ZERO).parts;
             if (column as usize) < problem.pair_count() && part > WHOLE / 2 {
                 let leg = problem.frame.pair(column).leg as usize;
@@ -172,7 +172,7 @@ impl Search {
         let lines = problem.lines.count();
         reset(&mut self.parts, lines, Fixed::ZERO)?;
         for line in 0..self.basis.head.len() {
-            if self.basis.head[line] == column {
+            if at(&self.basis.head, line, NONE) == column {
                 let one = if up { Fixed::ONE } else { Fixed::of(-1) };
                 put(self.parts.as_mut_slice(), line, one);
             }
