@@ -74,6 +74,12 @@ def test_dearer_fuel(tmp_path: Path) -> None:
     assert found["FP3,E190"] == 4915 + 760
 
 
+def test_any_fraction_is_a_factor(tmp_path: Path) -> None:
+    """A seventh of the fuel's price: FP1 burns 3666.67 / 7 = 523.81, so that the cost is 7727.05."""
+    assert costs(lay(tmp_path), scaled(fuel="1/7", FP1="2/7"))["FP1,A320"] == 1500 + 4180 + 1400 + 524
+    assert costs(tmp_path, scaled(fuel="1/7"))["FP1,A320"] == 7727
+
+
 def test_no_pair_is_added(tmp_path: Path) -> None:
     """The pairs stay as they are, in their order, also those that types.csv closes."""
     lay(tmp_path, types=DAY["types.csv"].replace("2500,,", "2500,10,LHR"))

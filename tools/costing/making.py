@@ -4,7 +4,7 @@ from __future__ import annotations
 
 from typing import Collection, Dict, List, Mapping, Tuple
 
-from costing.amounts import written
+from costing.amounts import Writer, written
 from costing.choosing import Costs
 from costing.legs import Leg, key_of
 from costing.pricing import PARTS, Priced
@@ -30,13 +30,13 @@ def parted_text(costs: Costs) -> str:
     """Returns the text of costs-parts.csv."""
     demands = {flight: (written(it.mean), written(it.sd)) for flight, it in costs.pricer.demands.of.items()}
     seats = {fleet: written(costs.figures.types[fleet].seats) for fleet in costs.fleets}
-    return text_of(PARTED_HEADER, [_record(costs, it, demands[it.leg.flight], seats[it.fleet]) for it in costs.pairs.values()])
+    writer = Writer(costs.pricer.unit)
+    return text_of(PARTED_HEADER, [_record(it, demands[it.leg.flight], seats[it.fleet], writer) for it in costs.pairs.values()])
 
 
-def _record(costs: Costs, pair: Priced, demand: Tuple[str, str], seats: str) -> List[object]:
+def _record(pair: Priced, demand: Tuple[str, str], seats: str, writer: Writer) -> List[object]:
     """Returns the record of a pair."""
-    text = costs.pricer.writer.text
-    return [pair.leg.flight, pair.fleet, *demand, seats, thousandths(pair.spilled), *map(text, pair.parts), pair.cost]
+    return [pair.leg.flight, pair.fleet, *demand, seats, thousandths(pair.spilled), *map(writer.text, pair.parts), pair.cost]
 
 
 def skipped(costs: Costs, flights: Collection[str]) -> Dict[str, int]:

@@ -9,7 +9,7 @@ import math
 from fractions import Fraction
 from typing import Dict, Iterable, List, Mapping, NamedTuple, Optional, Sequence, Tuple
 
-from costing.amounts import Writer, halves_up, rounded
+from costing.amounts import halves_up, rounded
 from costing.figures import Demand, Figures
 from costing.legs import Leg, key_of
 from costing.spilling import THOUSAND, Law
@@ -73,7 +73,6 @@ class Pricer:
         self.demands = Demands(figures, legs, factors or {})
         self.rates = rates_of(figures, {it.start for it in legs}, fleets)
         self.unit = self._unit(fleets)
-        self.writer = Writer(self.unit)
         self.types = {it: self._counted(figures.types[it]) for it in fleets}
         self.minutes = {key: self._count(it) for key, it in self.rates.items()}
         self.fees = {key: self._count(it) for key, it in figures.fees.items() if key[1] in self.types}
