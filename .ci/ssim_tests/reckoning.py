@@ -91,9 +91,10 @@ def shape(flights: Sequence[Flight], first: int) -> Counter[Tuple[object, ...]]:
 
 def lacks(filed: Sequence[str], written: Sequence[str], fleets: Mapping[str, int], first: int, is_season: bool) -> Set[str]:
     """Returns the types that lack an aircraft in a file as a plan leaves it, whose weeks begin with a day: in a week that repeats, or
-    through the weeks that follow each other."""
-    files = [flights_in(it) for it in (filed, written)]
-    spans = [(max(day_of(it[14:21]), day_of(c[14:21])), min(end_of(it), day_of(c[21:28]))) for c, it in with_carriers(filed)]
+    through the weeks that follow each other. Legs of other types aren't looked at."""
+    files = [[it for it in flights_in(lines) if it.kind in fleets] for lines in (filed, written)]
+    own = [(c, it) for c, it in with_carriers(filed) if it[72:75] in fleets]
+    spans = [(max(day_of(it[14:21]), day_of(c[14:21])), min(end_of(it), day_of(c[21:28]))) for c, it in own]
     season = min(it for it, _ in spans), max(it for _, it in spans)
     numbers = range((season[0] - first) // WEEK - 2, (season[1] - first) // WEEK + 3) if is_season else range(-2, 3)
     return {kind for kind, most in fleets.items() if lacking(files, kind, most, [first + WEEK * it for it in numbers], season)}

@@ -29,7 +29,8 @@ NIGHTS = [
 SWAPPED = {"ZZ1": "E90", "ZZ2": "E90", "ZZ3": "320", "ZZ4": "320"}
 WHOLE = "--whole-season"
 NOTHING = "nothing is written: --anyway writes it all the same"
-TYPES_TOLD = "configurations (bytes 173 to 192), classes (76 to 100) and onward flights (138 to 146) stay as filed: mend them where types changed"
+# What is told of a plan's changes, which test_plans.py and test_changes.py try.
+CHANGES_TOLD = "another aircraft type", "legs change: ", "configurations (bytes 173 to 192), classes (76 to 100) and onward flights (138 to 146) stay as filed"
 
 
 def lay(folder: Path, legs: Sequence[str], fleets: str, changes: Mapping[str, str], option: str = "--date", date: str = DATE) -> None:
@@ -49,7 +50,7 @@ def write(folder: Path, *words: str) -> Tuple[int, List[str]]:
     before = standing(folder)
     status, told = asked("plan", folder / "season", folder / "day", folder / "new", *words)
     assert status == 0 or standing(folder) == before
-    return status, [it[6:] for it in told.splitlines() if "another aircraft type" not in it and TYPES_TOLD not in it]
+    return status, [it[6:] for it in told.splitlines() if not any(own in it for own in CHANGES_TOLD)]
 
 
 def test_a_day_that_can_be_flown(scratch: Path) -> None:

@@ -82,7 +82,7 @@ WHOLES: Dict[str, Tuple[List[str], int, str]] = {
     ),
     "another carrier": (
         numbered([header(), carrier("ZZ"), LEG, trailer("ZZ", "C"), carrier("YY"), trailer("YY")]), 5,
-        'airline is "YY " (bytes 3 to 5), it should be ZZ as in line 2',
+        'airline is "YY " (bytes 3 to 5), it should be ZZ as in line 2, where --airline doesn\'t say which',
     ),
     "a leg of 24 hours": (
         [*LINES[:3], f"{LINES[3][:57]}0700{LINES[3][61:193]}1{LINES[3][194:]}", *LINES[4:]], 4,

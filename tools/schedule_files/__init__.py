@@ -12,6 +12,8 @@ tables      the tables of a folder
 splitting   an itinerary that a plan changes on some of its dates, in parts
 retiming    a leg that departs later or earlier
 planning    a plan written back into the file
+changing    few changes: their cost, flights that keep their fleet, what is told of a plan
+onward      which flight the aircraft of a leg flies next
 judging     what the program says of a plan
 made        how the tables of a folder were made, for the plan later
 weeks       the flights of a file through its weeks

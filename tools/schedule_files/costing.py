@@ -55,7 +55,7 @@ def fleets_of(path: Optional[str], schedule: Schedule, flown: Sequence[Flown]) -
     """Returns the records of the fleets: those of the caller's file, or the aircraft types with no count yet."""
     occurs: Dict[str, Tuple[Leg, str]] = {}
     for it in flown:
-        occurs.setdefault(it.leg.type, (it.leg, "aircraft type"))
+        occurs.setdefault(it.fleet, (it.leg, "aircraft type"))
     if path is None:
         return [(it, None, TURN) for it in sorted(occurs)]
     table = TABLE["fleets.csv"]
@@ -114,7 +114,7 @@ def prices_of(path: str, fleets: Sequence[Row]) -> Dict[str, Prices]:
 def costs_of(path: Optional[str], schedule: Schedule, flown: Sequence[Flown], fleets: Sequence[Row]) -> List[Cost]:
     """Returns the records of costs: by the caller's file, or 0 for each leg with its filed type alone."""
     if path is None:
-        return [(it.name, it.leg.type, 0) for it in flown]
+        return [(it.name, it.fleet, 0) for it in flown]
     prices, found = prices_of(path, fleets), []
     for it in flown:
         for fleet, *_ in fleets:

@@ -32,7 +32,7 @@ class Priced:
         own = [leg_of(schedule, it) for it in flown]
         lines: Dict[str, Place] = {}
         for it, leg in zip(flown, own):
-            lines.setdefault(it.leg.type, leg.place)
+            lines.setdefault(it.fleet, leg.place)
         places = {fleet: lines[fleet] if path is None else Place(path, number) for number, fleet in enumerate(fleets, 2)}
         self.costs = Costs(Figures.read(figured.paths), own, places)
         self.names = None if figured.skips is None else read_flights(figured.skips)

@@ -115,6 +115,13 @@ VARIED = "+ or -, and hours and minutes to 1459"
 EACH_DAY = "each day's digit in its place or a blank, one digit at least"
 DAYS_OFF = "0 to 7, A for the day before, or a blank"
 
+# The flight that the aircraft flies next, and how many days later than it arrives. They are judged where they are used.
+ONWARD = Field(
+    "onward flight", 138, 146, rf" {{9}}|(?:{AIRLINE})(?:{NUMBER})[0-9 ][A-Z ]",
+    "an airline, a flight number, the days of its layover and a suffix, or blank",
+)  # fmt: skip
+LAYOVER = Field("layover", 145, 145, "[0-9 ]", "a digit or a blank")
+
 HEADER = Layout(Field("title", 2, 35, TITLE, TITLE), SERIAL)
 CARRIER = Layout(
     Field("time mode", 2, 2, "[UL]", "U for UTC or L for local time"),

@@ -13,15 +13,16 @@ from schedule_files.selecting import Choice
 NAME = "made.csv"
 HEADER = ("word", "value")
 SURFACE, SERVICE, STATIONS, EXTRA = "surface", "service", "stations-only", "extra"
-WORDS = (SURFACE, SERVICE, STATIONS, EXTRA)
+AIRLINE, MAP, CHARGE = "airline", "map", "change-cost"
+WORDS = (AIRLINE, MAP, CHARGE, SURFACE, SERVICE, STATIONS, EXTRA)
 
 
 class Made:
-    """What tables were made by: the choice of legs, and the minutes of a turn beyond the fleet's at stations that the tables haven't, by
-    the caller's file."""
+    """What tables were made by: the choice of legs, the minutes of a turn beyond the fleet's at stations that the tables haven't, by the
+    caller's file, and what each change of a fleet costs in them."""
 
-    def __init__(self, choice: Choice, extras: Mapping[str, int]) -> None:
-        self.choice, self.extras = choice, dict(extras)
+    def __init__(self, choice: Choice, extras: Mapping[str, int], charge: int) -> None:
+        self.choice, self.extras, self.charge = choice, dict(extras), charge
 
     @classmethod
     def read(cls, folder: str) -> Made:
@@ -34,15 +35,25 @@ class Made:
             found[word].append(value)
         try:
             extras = {code: int(minutes) for code, minutes in (it.split() for it in found[EXTRA])}
+            families = dict(it.split("=") for it in found[MAP])
+            charge = int((found[CHARGE] or ["0"])[0])
         except ValueError as error:
-            raise Unread.of(path, f"has no station and its minutes: {error}, it should be as tools/ssim tables wrote it") from error
-        return cls(Choice(bool(found[SURFACE]), _codes(found[SERVICE]), None, _codes(found[STATIONS])), extras)
+            raise Unread.of(path, f"has a value that isn't of its form: {error}, it should be as tools/ssim tables wrote it") from error
+        airline = found[AIRLINE][0] if found[AIRLINE] else None
+        choice = Choice(bool(found[SURFACE]), _codes(found[SERVICE]), None, _codes(found[STATIONS]), airline, families)
+        return cls(choice, extras, charge)
 
     def text(self) -> str:
         """Returns the text of made.csv."""
         return text_of(HEADER, self._records())
 
     def _records(self) -> Iterator[Tuple[str, str]]:
+        if self.choice.airline is not None:
+            yield AIRLINE, self.choice.airline
+        for kind, fleet in sorted(self.choice.families.items()):
+            yield MAP, f"{kind}={fleet}"
+        if self.charge:
+            yield CHARGE, str(self.charge)
         if self.choice.with_surface:
             yield SURFACE, "yes"
         for word, codes in ((SERVICE, self.choice.services), (STATIONS, self.choice.stations)):

@@ -15,6 +15,7 @@ from fleetplan.records import Rows
 from fleetplan.tables import DATED, HEADERS, NO_FLEET, SHIFTED, headers_of
 from fleetplan.texts import printed, some
 from fleetplan.times import DAY, clock
+from schedule_files.changing import Change, changes_told
 from schedule_files.days import WEEK, Dates, iso, text_of, weekday_of
 from schedule_files.files import rows
 from schedule_files.layout import BadLine, ZEROS
@@ -22,7 +23,7 @@ from schedule_files.naming import NAMES
 from schedule_files.reading import MOST_RECORDS, Leg, Schedule, read_schedule
 from schedule_files.retiming import common_dates, move_of, moved, retimed
 from schedule_files.splitting import LEFT_OUT, Changes, Chosen, Held, Part, Planned, parts_by_date, parts_by_weekday
-from schedule_files.weeks import Fleet
+from schedule_files.weeks import Fleet, Scope
 
 # The status where words don't fit the tables.
 WRONG_WORDS = 2
@@ -52,15 +53,16 @@ class Laying(NamedTuple):
 
 class Planning(NamedTuple):
     """What a plan changes: of each itinerary its dates, each with what is planned of legs; counts of that; the records of the plan whose
-    legs the file doesn't have; and the dates that it is of, None where it has no leg."""
+    legs the file doesn't have; the dates that it is of, None where it has no leg; and its legs with their fleets."""
 
     changes: Dict[Itinerary, Changes]
     counts: Counter[str]
     added: Rows
     dates: Optional[Dates]
+    legs: List[Change]
 
 
-def planning_of(schedule: Schedule, folder: str, fleets: Mapping[str, Fleet]) -> Planning:
+def planning_of(schedule: Schedule, folder: str, scope: Scope) -> Planning:
     """Returns what the plan of a folder changes, or raises Unread."""
     path = os.path.join(folder, "names.csv")
     named, ways = rows(path, NAMES), ways_of(folder)
@@ -70,14 +72,22 @@ def planning_of(schedule: Schedule, folder: str, fleets: Mapping[str, Fleet]) ->
     first = first_day(flown[0], ways.get(named[0][0])) if flown else None
     changes: Dict[Itinerary, Changes] = {}
     counts: Counter[str] = Counter()
+    found: List[Change] = []
     for number, row, (leg, operates) in zip(itertools.count(2), named, flown):
         check_way(f"{path} record {number}: {row[0]}", schedule, leg, way_of(leg, operates, first), ways.get(row[0]))
-        planned = plan[row[0]]
+        planned = of_family(leg, plan[row[0]], scope)
+        found.append(Change(row[0], scope.choice.fleet_of(leg.type), planned.type if planned else NO_FLEET))
         if planned != Planned(leg.type, 0):
-            check_fleet(folder, row[0], leg, planned, fleets)
+            check_fleet(folder, row[0], leg, planned, scope.fleets)
             changes.setdefault(itinerary_of(leg), {}).setdefault(operates, {})[leg.number] = planned
             counts.update(counted(leg, planned))
-    return Planning(changes, counts, added, dates_of(flown, first))
+    return Planning(changes, counts, added, dates_of(flown, first), found)
+
+
+def of_family(leg: Leg, planned: Chosen, scope: Scope) -> Chosen:
+    """Returns what is planned of a leg, with the type that it has in the file where it stays in that one's fleet."""
+    stays = planned is not None and planned.type == scope.choice.fleet_of(leg.type)
+    return Planned(leg.type, planned.shift) if planned is not None and stays else planned
 
 
 def dates_of(flown: Sequence[Tuple[Leg, int]], first: Optional[int]) -> Optional[Dates]:
@@ -346,9 +356,9 @@ class Written(NamedTuple):
     dates: Optional[Dates]
 
 
-def write_plan(schedule: Schedule, folder: str, fleets: Mapping[str, Fleet], laying: Laying) -> Written:
+def write_plan(schedule: Schedule, folder: str, scope: Scope, laying: Laying) -> Written:
     """Returns a file with what a plan says of its legs, or raises Unread."""
-    planning = planning_of(schedule, folder, fleets)
+    planning = planning_of(schedule, folder, scope)
     changes = laid_on(planning, laying.days) if laying.days else planning.changes
     pieces = pieces_of(schedule, changes, parts_by_weekday if laying.is_by_weekday else parts_by_date)
     variations = variations_of(pieces, changes)
@@ -359,8 +369,14 @@ def write_plan(schedule: Schedule, folder: str, fleets: Mapping[str, Fleet], lay
     if writer.serial > MOST_RECORDS:
         line = len(schedule.lines)
         raise BadLine(schedule.path, line, f"there would be {writer.serial} records", "bytes 195 to 200", f"{MOST_RECORDS} at most")
-    lines = [*told(planning.counts, len(schedule.legs), pieces), *unwritten(planning.added), *doubled(schedule.path, data, pieces)]
+    lines = [*told(planning.counts, len(schedule.legs), pieces), *changes_told(folder, in_fleets(planning.legs, scope), scope.charge)]
+    lines += [*unwritten(planning.added), *doubled(schedule.path, data, pieces)]
     return Written(data, lines, planning.dates if changes else None)
+
+
+def in_fleets(legs: Sequence[Change], scope: Scope) -> List[Change]:
+    """Returns legs with the fleets of their types."""
+    return [it._replace(planned=scope.choice.fleet_of(it.planned)) for it in legs]
 
 
 def unwritten(added: Rows) -> Iterator[str]:

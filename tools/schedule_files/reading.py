@@ -166,9 +166,6 @@ class Reader:
         layout.CARRIER.judge(self.path, number, line)
         self.period(layout.CARRIER, ("first date of validity", "last date of validity"), number, line)
         self.created(layout.CARRIER["creation date"], number, line)
-        if self.carriers and line[2:5] != self.carriers[0].airline:
-            first = self.carriers[0]
-            raise layout.AN_AIRLINE.fault(self.path, number, line, f"{first.airline.strip()} as in line {first.number}")
         self.count(number, line, bool(self.carriers))
         self.carriers.append(Carrier(number, line))
         self.known = {}

@@ -14,7 +14,8 @@ from fleetplan.settings import NAME as SETTINGS
 from fleetplan.tables import ASKED, DATED, HEADERS, LIMITED, SHIFTED
 from fleetplan.texts import some
 from fleetplan.times import clock
-from schedule_files import choosing, costing, judging, made, naming, selecting
+from schedule_files import choosing, costing, judging, made, naming, onward, selecting
+from schedule_files.changing import Changing, Charged
 from schedule_files.days import Dates, iso
 from schedule_files.figures import Figured, Priced
 from schedule_files.files import write_tables
@@ -24,8 +25,8 @@ from schedule_files.selecting import Choice, Flown
 
 
 class Sources:
-    """The files of the caller's, each a path or None, the value of a through pair, the paths of tables that options have read, and the files
-    of figures that stand in the place of prices."""
+    """The files of the caller's, each a path or None, the value of a through pair, the paths of tables that options have read, the files of
+    figures that stand in the place of prices, what changes cost, and the value of an onward flight, None where they make no pairs."""
 
     def __init__(
         self,
@@ -35,9 +36,11 @@ class Sources:
         through_value: int = 0,
         asked: Optional[Mapping[str, str]] = None,
         figured: Optional[Figured] = None,
+        changing: Changing = Changing(),
+        onward_value: Optional[int] = None,
     ) -> None:
         self.stations, self.fleets, self.costs, self.through_value = stations, fleets, costs, through_value
-        self.asked, self.figured = asked or {}, figured
+        self.asked, self.figured, self.changing, self.onward_value = asked or {}, figured, changing, onward_value
 
     @property
     def options(self) -> Set[str]:
@@ -50,19 +53,31 @@ class Tables:
 
     def __init__(self, schedule: Schedule, dates: Dates, choice: Choice, sources: Sources) -> None:
         self.schedule, self.dates, self.choice, self.sources = schedule, dates, choice, sources
+        selecting.check_choice(schedule, dates, choice)
         self.flown, self.left_out = selecting.flown_on(schedule, dates, choice)
         naming.name_all(schedule, self.flown, dates)
         self.stations = costing.stations_of(sources.stations, schedule, self.flown)
         self.fleets = costing.fleets_of(sources.fleets, schedule, self.flown)
         self.priced = self.price(sources.figured) if sources.figured else None
-        self.costs = self.priced.records if self.priced else costing.costs_of(sources.costs, schedule, self.flown, self.fleets)
-        self.throughs = naming.throughs(self.flown, dates)
+        costs = self.priced.records if self.priced else costing.costs_of(sources.costs, schedule, self.flown, self.fleets)
+        self.charged = Charged(sources.changing, schedule, self.flown, costs)
+        self.costs = self.charged.costs
+        self.throughs = self.through_values()
         self.asked = [choosing.Asked(option, path, self.flown, self.costs) for option, path in sources.asked.items()]
         if self.priced:
             self.priced.want_pairs({it[0] for it in self.records_of("optional")})
         self.unjudged: Optional[str] = None
         if sources.fleets is None:
             self.count_aircraft()
+
+    def through_values(self) -> Dict[Tuple[str, str], int]:
+        """Returns the through pairs with their values: legs of one flight, and onward flights where those are asked for."""
+        found = {(it.name, to.name): self.sources.through_value for it, to in naming.throughs(self.flown, self.dates)}
+        if self.sources.onward_value is not None:
+            for it, to in onward.pairs(self.schedule, self.flown, self.dates):
+                pair = it.name, to.name
+                found[pair] = max(found.get(pair, 0), self.sources.onward_value)
+        return found
 
     def price(self, figured: Figured) -> Priced:
         """Returns the costs by figures."""
@@ -88,8 +103,8 @@ class Tables:
             "fleets.csv": self.fleets,
             "legs.csv": [self.leg(it) for it in self.flown],
             "costs.csv": self.costs,
-            "throughs.csv": [(it.name, to.name, self.sources.through_value) for it, to in self.throughs],
-            "plan.csv": [(it.name, it.leg.type) for it in self.flown],
+            "throughs.csv": [(*pair, value) for pair, value in self.throughs.items()],
+            "plan.csv": [(it.name, it.fleet) for it in self.flown],
         }
         texts = {name: encoded(name, records[name]) for name in records}
         if any(len(it) == len(LIMITED) for it in self.stations):
@@ -102,13 +117,14 @@ class Tables:
         """Returns the text of each file by its name. Where legs have other times the plan has shifts."""
         texts = {it.table: encoded(it.table, it.records) for it in self.asked}
         if "windows" in self.sources.asked:
-            texts["plan.csv"] = text_of(SHIFTED, [(it.name, it.leg.type, 0) for it in self.flown])
+            texts["plan.csv"] = text_of(SHIFTED, [(it.name, it.fleet, 0) for it in self.flown])
         parts = self.priced.texts() if self.priced else {}
         return {**self.tables(), **texts, **parts, "names.csv": text_of(NAMES, [named(it) for it in self.flown])}
 
     def made(self) -> str:
         """Returns the text of what says how the tables were made."""
-        return made.Made(self.choice, costing.extras_beside(self.sources.stations, self.schedule, self.stations)).text()
+        extras = costing.extras_beside(self.sources.stations, self.schedule, self.stations)
+        return made.Made(self.choice, extras, self.sources.changing.cost).text()
 
     def settings(self, folder: str) -> str:
         """Returns the text of the settings by which the tables are read, where the folder's other ones stay."""
@@ -139,16 +155,19 @@ class Tables:
         elif self.sources.fleets is None and self.fleets:
             yield "aircraft that the plan as filed uses: " + ", ".join(f"{fleet} {count}" for fleet, count, _ in self.fleets)
         allowed = {(flight, fleet) for flight, fleet, _ in self.costs}
-        lacking = [it.name for it in self.flown if (it.name, it.leg.type) not in allowed]
+        lacking = [it.name for it in self.flown if (it.name, it.fleet) not in allowed]
         if lacking:
             path = self.sources.figured.paths.types if self.sources.figured else self.sources.costs
             yield f"{len(lacking)} legs may not be flown by their filed type by {path}, the first is {lacking[0]}"
         if self.priced:
             shifts = [(it[0], int(it[1])) for it in self.records_of("windows")]
-            yield from self.priced.told(shifts, {it.name: it.leg.type for it in self.flown})
+            yield from self.priced.told(shifts, {it.name: it.fleet for it in self.flown})
 
     def told_of_asked(self) -> Iterator[str]:
-        """Tells of the tables that options of the program have read."""
+        """Tells of changes, onward flights, and the tables that options of the program have read."""
+        yield from self.charged.told()
+        if self.sources.onward_value is not None:
+            yield onward.told(self.schedule, self.flown, self.dates)
         for it in self.asked:
             yield f"{it.table} has {len(it.records)} records, for calls with --{it.option}"
             if it.unknown:
@@ -156,8 +175,8 @@ class Tables:
 
     def unbalanced(self) -> Iterator[str]:
         """Tells the aircraft types that don't leave a station as often as they come to it."""
-        more = Counter((it.leg.type, it.leg.destination) for it in self.flown)
-        more.subtract((it.leg.type, it.leg.origin) for it in self.flown)
+        more = Counter((it.fleet, it.leg.destination) for it in self.flown)
+        more.subtract((it.fleet, it.leg.origin) for it in self.flown)
         lacks = sorted((*it, count) for it, count in more.items() if count)
         if lacks:
             yield f"arrivals less departures: {some([f'{fleet} at {station} {count:+}' for fleet, station, count in lacks])}"

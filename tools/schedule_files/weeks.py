@@ -56,7 +56,7 @@ class Scope:
 
     def __init__(self, folder: str) -> None:
         made = Made.read(folder)
-        self.choice = made.choice
+        self.choice, self.charge = made.choice, made.charge
         fleets = judged(os.path.join(folder, "fleets.csv"), HEADERS["fleets.csv"], TABLE["fleets.csv"].forms)
         self.fleets = {name: Fleet(int(aircraft), int(turn)) for name, aircraft, turn in fleets}
         path = os.path.join(folder, "stations.csv")
@@ -65,7 +65,8 @@ class Scope:
 
     def fleet_of(self, leg: Leg) -> Optional[str]:
         """Returns the fleet of a leg, or None where it isn't judged."""
-        return leg.type if leg.type in self.fleets and not self.choice.refused(leg) else None
+        fleet = self.choice.fleet_of(leg.type)
+        return fleet if fleet in self.fleets and not self.choice.refused(leg) else None
 
     def flight(self, leg: Leg, fleet: str, date: int) -> Flight:
         """Returns a leg on a date of operation."""

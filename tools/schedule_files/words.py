@@ -9,6 +9,7 @@ from typing import Dict, FrozenSet, List, Mapping, Optional, Sequence, Tuple, Un
 from costing.figures import Paths
 from fleetplan.forms import TRILLION
 from fleetplan.tables import ASKED
+from schedule_files.changing import Changing
 from schedule_files.days import ALL_DAYS, Dates
 from schedule_files.planning import Laying
 from schedule_files.selecting import Choice
@@ -28,8 +29,15 @@ TABLES = {
     "stations-only": "S,..",
     "service": "LETTERS",
     "through-value": "V",
+    "onward-value": "V",
+    "change-cost": "N",
+    "keep": "FILE",
+    "airline": "XX",
+    "map": "T=F",
     "surface": None,
 }
+# The options that may stand several times.
+SEVERAL = ("map",)
 PLAN = {"whole-season": None, "days": "12345", "anyway": None}
 # The files of figures that stand in the place of --costs. With them --types is one, and --types-only says what it says else.
 NEW = {it: "FILE" for it in FIGURES if it not in TABLES}
@@ -79,16 +87,17 @@ def given(words: Sequence[str], options: Options) -> Tuple[List[str], Dict[str, 
             rest.append(word)
         elif not word.startswith("--") or name not in options:
             raise Usage(f"{word.partition('=')[0]} is no option")
-        elif name in found:
+        elif name in found and name not in SEVERAL:
             raise Usage(f"--{name} stands twice")
         elif options[name] is None:
             if has_value:
                 raise Usage(f"--{name} takes no value")
             found[name] = name
         else:
-            found[name] = value if has_value else next(left, "")
-            if not found[name]:
+            value = value if has_value else next(left, "")
+            if not value:
                 raise Usage(f"--{name} wants a value: {options[name]}")
+            found[name] = f"{found[name]} {value}" if name in found else value
     return rest, found
 
 
@@ -153,12 +162,44 @@ class TablesCall:
             raise Usage("--types and --types-only stand both")
         chosen = "types" if not figured and "types" in found else "types-only"
         types, stations = listed(found, chosen, "[A-Z0-9]{3}"), listed(found, "stations-only", "[A-Z]{3}")
-        self.choice = Choice("surface" in found, services, types, stations)
-        value = found.get("through-value", "0")
-        if not re.fullmatch("[0-9]{1,20}", value) or int(value) > TRILLION:
-            raise Usage(f"--through-value {value}: a whole number from 0 to {TRILLION} is wanted")
+        self.choice = Choice("surface" in found, services, types, stations, airline(found), families(found))
         asked = {it: found[it] for it in ASKED if it in found}
-        self.sources = Sources(found.get("stations"), found.get("fleets"), found.get("costs"), int(value), asked, figured)
+        changing = Changing(amount(found, "change-cost"), found.get("keep"))
+        onward = amount(found, "onward-value") if "onward-value" in found else None
+        stations_file, fleets_file, value = found.get("stations"), found.get("fleets"), amount(found, "through-value")
+        self.sources = Sources(stations_file, fleets_file, found.get("costs"), value, asked, figured, changing, onward)
+
+
+def amount(found: Mapping[str, str], name: str) -> int:
+    """Returns a value in units of currency, 0 where it isn't given."""
+    value = found.get(name, "0")
+    if not re.fullmatch("[0-9]{1,20}", value) or int(value) > TRILLION:
+        raise Usage(f"--{name} {value}: a whole number from 0 to {TRILLION} is wanted")
+    return int(value)
+
+
+def airline(found: Mapping[str, str]) -> Optional[str]:
+    """Returns the airline that is asked for, or None."""
+    text = found.get("airline")
+    if text is not None and not re.fullmatch("[A-Z0-9]{2,3}", text):
+        raise Usage(f"--airline {text}: two or three letters A to Z and digits are wanted")
+    return text
+
+
+def families(found: Mapping[str, str]) -> Dict[str, str]:
+    """Returns the fleet of each aircraft type that isn't a fleet of its own."""
+    fleets: Dict[str, str] = {}
+    for text in found.get("map", "").split():
+        kind, _, fleet = text.partition("=")
+        if not re.fullmatch("[A-Z0-9]{3}=[A-Z0-9]{3}", text) or kind == fleet:
+            raise Usage(f"--map {text}: two aircraft types as 319=320 are wanted")
+        if kind in fleets:
+            raise Usage(f"--map {text}: {kind} is {fleets[kind]} already")
+        fleets[kind] = fleet
+    both = sorted(set(fleets) & set(fleets.values()))
+    if both:
+        raise Usage(f"--map {both[0]}={fleets[both[0]]}: other types are {both[0]}, so that can't be {fleets[both[0]]}")
+    return fleets
 
 
 class PlanCall:
