@@ -2,6 +2,7 @@
 
 from __future__ import annotations
 
+import contextlib
 import os
 import shlex
 import sys
@@ -21,10 +22,12 @@ def shown(text: str) -> str:
 
 def tell(*lines: str, to: Optional[TextIO] = None) -> None:
     """Tells lines, on standard error where nothing else is said, each of them `shown`."""
-    stream = to or sys.stderr
-    for it in lines:
-        stream.write(f"{shown(it)}\n".encode(stream.encoding or "utf-8", "backslashreplace").decode(stream.encoding or "utf-8"))
-    stream.flush()
+    stream, encoding = to or sys.stderr, (to or sys.stderr).encoding or "utf-8"
+    # Where standard error can't be written nothing can be told of it.
+    with contextlib.suppress(*([OSError] if to is None else [])):
+        for it in lines:
+            stream.write(f"{shown(it)}\n".encode(encoding, "backslashreplace").decode(encoding))
+        stream.flush()
 
 
 def _number(letter: str) -> str:
