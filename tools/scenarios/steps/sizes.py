@@ -9,7 +9,8 @@ from typing import List, Sequence, Tuple
 from fleetplan.forms import MOST_AIRCRAFT
 from fleetplan.records import records_of
 from steps.running import Limits, run
-from steps.solving import ANSWER, answer_or_fault, read_json, write_json
+from steps.answers import Answer, write_json
+from steps.solving import answer_of_solve, answer_or_fault
 
 CHANGES = {"less": -1, "more": 1}
 BOUND = re.compile(r"whatif \S+ \d+: (?:bound (-?\d+)|(infeasible))")
@@ -17,11 +18,13 @@ BOUND = re.compile(r"whatif \S+ \d+: (?:bound (-?\d+)|(infeasible))")
 
 def ask(program: str, solved: str, place: str, limits: Limits, is_last: bool) -> None:
     """Asks the proof that stands in a folder, and notes what it says."""
-    answer = read_json(os.path.join(solved, ANSWER))
-    asked = {}
-    if "solved" in answer:
-        asked = answer_or_fault(lambda: {"asked": asked_of(program, solved, answer["reading"], limits)}, is_last)
-    write_json(place, asked)
+    write_json(place, answer_or_fault(lambda: asked_or_nothing(program, solved, limits), is_last))
+
+
+def asked_or_nothing(program: str, solved: str, limits: Limits) -> Answer:
+    """Returns what the proof says, or nothing where there is none."""
+    answer = answer_of_solve(solved)
+    return {"asked": asked_of(program, solved, answer["reading"], limits)} if "solved" in answer else {}
 
 
 def asked_of(program: str, solved: str, reading: Sequence[str], limits: Limits) -> List[List[object]]:

@@ -8,25 +8,25 @@ import os
 import shutil
 import subprocess
 import sys
-from typing import Any, Callable, Dict, Optional, Sequence
+from typing import Callable, Dict, Optional, Sequence
 
 from fleetplan.files import remove, write
 from fleetplan.program import TOP
 from fleetplan.tables import TABLES
 from fleetplan.words import Call
+from steps.answers import ANSWER, CHECK, SIZES, Answer, Torn, answer_in, read_json, write_json  # noqa: F401 (others read one)
 from steps.flagged import FLAGGED, tables_in
 from steps.laying import FAULT, REFUSED
 from steps.running import Fault, Limits, run
 from steps.whole import folder
 
-# What a file of an answer holds.
-Answer = Dict[str, Any]
-ANSWER = "answer.json"
-# Beside the folder of the solution: what is written of it.
-CHECK, SIZES, DRAWN = "check.json", "sizes.json", "drawn"
+# Beside the folder of the solution, as CHECK and SIZES are.
+DRAWN = "drawn"
 CLAIMED = (*TABLES, *FLAGGED.values(), "plan.csv", "proof.txt")
 # The statuses with which `solve` has written a proof.
 PROVED = (0, 3, 4, 5)
+# Of a file so many bytes are read at once.
+PART = 1 << 20
 
 
 def solve(program: str, tables: str, words: Sequence[str], place: str, limits: Limits, is_last: bool) -> None:
@@ -53,7 +53,7 @@ def text_in(path: str) -> Optional[str]:
     """Returns the text of a file, or None where none stands there."""
     if not os.path.exists(path):
         return None
-    with open(path, encoding="utf-8") as it:
+    with open(path, encoding="utf-8", errors="backslashreplace") as it:
         return it.read()
 
 
@@ -71,17 +71,24 @@ def answer_of(program: str, place: str, words: Sequence[str], limits: Limits) ->
 
 def check(program: str, solved: str, place: str, limits: Limits, is_last: bool) -> None:
     """Has the program check the proof that stands in a folder, and notes what it says, and of which files."""
-    answer = read_json(os.path.join(solved, ANSWER))
-    checked = {}
-    if "solved" in answer:
-        checked = answer_or_fault(lambda: checked_of(program, solved, answer["reading"], limits), is_last)
-    write_json(place, checked)
+    write_json(place, answer_or_fault(lambda: checked_of(program, solved, limits), is_last))
 
 
-def checked_of(program: str, solved: str, reading: Sequence[str], limits: Limits) -> Answer:
-    """Returns what a check of a folder's proof says, and of which files."""
+def answer_of_solve(solved: str) -> Answer:
+    """Returns the answer that stands in the folder of a solution, or raises Fault where it isn't whole."""
+    try:
+        return answer_in(os.path.join(solved, ANSWER))
+    except Torn as error:
+        raise Fault(f"{error}: {solved}") from error
+
+
+def checked_of(program: str, solved: str, limits: Limits) -> Answer:
+    """Returns what a check of a folder's proof says, and of which files; or nothing, where there is none."""
+    answer = answer_of_solve(solved)
+    if "solved" not in answer:
+        return {}
     sums = sums_of(solved)
-    ran = run(program, ["check", *reading, solved], limits)
+    ran = run(program, ["check", *answer["reading"], solved], limits)
     return {"told": ran.told, "seconds": ran.seconds, "memory": ran.memory, "sums": sums}
 
 
@@ -101,40 +108,44 @@ def sums_of(place: str) -> Dict[str, str]:
     for name in CLAIMED:
         path = os.path.join(place, name)
         if os.path.lexists(path):
-            with open(path, "rb") as it:
-                found[name] = hashlib.sha256(it.read()).hexdigest()
+            found[name] = sum_of(path)
     return found
 
 
+def sum_of(path: str) -> str:
+    """Returns the sha256 of a file's bytes, which are read by parts, or raises OSError."""
+    found = hashlib.sha256()
+    with open(path, "rb") as it:
+        for part in iter(lambda: it.read(PART), b""):
+            found.update(part)
+    return found.hexdigest()
+
+
 def draw(solved: str, name: str, place: str, is_last: bool) -> None:
-    """Makes the folder of the picture, which stays empty where there is no plan."""
-    answer = read_json(os.path.join(solved, ANSWER))
+    """Makes the folder of the picture, which stays empty where there is no plan, and has the fault at the last try."""
     with folder(place) as beside:
-        if answer.get("status") not in (0, 3):
-            return
-        # The page is called by its folder.
-        own = os.path.join(beside, name)
-        os.mkdir(own)
-        for it in (*tables_in(solved), "plan.csv", "proof.txt", "rotation.csv"):
-            shutil.copyfile(os.path.join(solved, it), os.path.join(own, it))
-        words = [os.path.join(TOP, "tools", "draw"), own, *answer["reading"]]
-        ran = subprocess.run([sys.executable, *words], stdin=subprocess.DEVNULL, stderr=subprocess.PIPE, text=True, check=False)
-        if not ran.returncode:
-            os.rename(os.path.join(own, "plan.html"), os.path.join(beside, "plan.html"))
-        elif is_last:
-            write(os.path.join(beside, FAULT), ran.stderr.strip())
-        else:
-            raise Fault(ran.stderr.strip())
-        shutil.rmtree(own)
+        try:
+            picture(solved, name, beside)
+        except Fault as error:
+            if not is_last:
+                raise
+            write(os.path.join(beside, FAULT), str(error))
 
 
-def read_json(path: str) -> Answer:
-    """Returns the answer that a file holds."""
-    with open(path, encoding="utf-8") as it:
-        answer: Answer = json.load(it)
-        return answer
-
-
-def write_json(path: str, value: Answer) -> None:
-    """Writes an answer."""
-    write(path, json.dumps(value, sort_keys=True) + "\n")
+def picture(solved: str, name: str, beside: str) -> None:
+    """Draws the plan of a solution into a folder, where there is one, or raises Fault."""
+    answer = answer_of_solve(solved)
+    if answer.get("status") not in (0, 3):
+        return
+    # The page is called by its folder.
+    own = os.path.join(beside, name)
+    os.mkdir(own)
+    for it in (*tables_in(solved), "plan.csv", "proof.txt", "rotation.csv"):
+        shutil.copyfile(os.path.join(solved, it), os.path.join(own, it))
+    words = [os.path.join(TOP, "tools", "draw"), own, *answer["reading"]]
+    ran = subprocess.run([sys.executable, *words], stdin=subprocess.DEVNULL, stderr=subprocess.PIPE, check=False)
+    if not ran.returncode:
+        os.rename(os.path.join(own, "plan.html"), os.path.join(beside, "plan.html"))
+    shutil.rmtree(own)
+    if ran.returncode:
+        raise Fault(ran.stderr.decode("utf-8", "backslashreplace").strip())

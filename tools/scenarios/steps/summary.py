@@ -7,15 +7,16 @@ from collections import Counter
 from typing import Any, Dict, List, Mapping, Optional, Sequence
 
 from fleetplan.errors import Unread
-from fleetplan.files import remove, write
+from fleetplan.files import remove, write_all
 from fleetplan.texts import tell
+from steps.answers import ANSWER, CHECK, SIZES, Answer, Torn, answer_in
 from steps.flagged import choice_of, moved_and_left_out, planned
 from steps.laying import FAULT
 from steps.listing import Scenario
 from steps.page import page
 from steps.rows import REFUSED, UNPROVED, UNSOLVED, Row
 from steps.sheet import Sheet
-from steps.solving import ANSWER, CHECK, DRAWN, SIZES, Answer, read_json, sums_of, text_in
+from steps.solving import DRAWN, sums_of, text_in
 from steps.sums import sums_of as days_added
 from steps.telling import told_of
 
@@ -34,12 +35,20 @@ def rows_of(scenarios: Mapping[str, Scenario], folder: str) -> List[Row]:
 
 
 def row_of(name: str, folder: str) -> Row:
-    """Returns the row of a scenario by what stands in its folder."""
+    """Returns the row of a scenario by what stands in its folder. Where an answer there isn't whole, it is to be solved once more."""
+    try:
+        return row_by(name, folder)
+    except Torn as error:
+        return Row(name, UNSOLVED, f"{error}: the next call makes it anew")
+
+
+def row_by(name: str, folder: str) -> Row:
+    """Returns the same, or raises Torn."""
     solved = os.path.join(folder, "solved")
     answer = answer_in(os.path.join(solved, ANSWER))
-    check = answer_in(os.path.join(folder, CHECK))
     if "fault" in answer:
         return Row(name, UNSOLVED, answer["fault"])
+    check = answer_in(os.path.join(folder, CHECK))
     if "solved" not in answer:
         row = Row(name, REFUSED, answer["told"])
     else:
@@ -71,26 +80,26 @@ def add_plan(row: Row, solved: str, reading: Sequence[str]) -> Row:
 
 def add_asked(row: Row, path: str) -> None:
     """Notes what the proof of a scenario says of other numbers of aircraft, where it was asked."""
-    answer = read_json(path) if os.path.exists(path) else {}
+    answer = answer_in(path) if os.path.lexists(path) else {}
     row.asked = dict(answer.get("asked", []))
     if "fault" in answer:
         row.add_fault(f"other numbers of aircraft weren't asked: {answer['fault']}")
 
 
-def answer_in(path: str) -> Answer:
-    """Returns the answer that stands in a file, or a fault where there is none."""
-    return read_json(path) if os.path.exists(path) else {"fault": "a step failed: the log says which and why"}
-
-
 def wrong_with(solved: Mapping[str, Any], check: Answer, folder: str) -> Optional[str]:
     """Returns why an answer isn't proved, or None."""
+    if not check:
+        raise Torn(f"{CHECK} isn't whole")
     if "fault" in check:
         return f"it wasn't checked: {check['fault']}"
     if not check["told"].startswith("holds: "):
         return "its proof does not hold"
     if check["told"] != claim(solved):
         return f"its proof holds for something else than was answered ({claim(solved)})"
-    sums = sums_of(folder)
+    try:
+        sums = sums_of(folder)
+    except OSError as error:
+        return f"{error.filename} can't be compared with what was checked: {error.strerror}"
     changed = sorted(it for it in {*sums, *check["sums"]} if sums.get(it) != check["sums"].get(it))
     return f"changed after the check: {', '.join(changed)} of {folder}" if changed else None
 
@@ -108,8 +117,7 @@ def summarize(scenarios: Mapping[str, Scenario], folder: str) -> bool:
     rows = rows_of(scenarios, folder)
     rows.sort(key=lambda it: it.is_sound)
     sums = days_added(rows)
-    write("summary.csv", Sheet(rows, sums).text())
-    write("summary.html", page(rows, sums, folder))
+    write_all(".", {"summary.csv": Sheet(rows, sums).text(), "summary.html": page(rows, sums, folder)})
     for it in scenarios:
         forget_faults(os.path.join(folder, it))
     unsound, partial = [it for it in rows if not it.is_sound], [it for it in rows if not it.is_whole]
@@ -132,9 +140,9 @@ def counted(rows: Sequence[Row]) -> str:
 def forget_faults(folder: str) -> None:
     """Takes away what a fault has left, so that the next run does it again. Where there is no solution nothing of it may stay: the
     engine looks for the last outputs alone."""
-    has_fault = {"tables": has_text, "solved": has_no_answer, CHECK: is_fault, SIZES: is_fault, DRAWN: has_text}
+    has_fault = {"tables": has_text, "solved": has_no_answer, CHECK: is_no_check, SIZES: is_fault, DRAWN: has_text}
     places = {name: os.path.join(folder, name) for name in has_fault}
-    faulty = {name for name, path in places.items() if os.path.exists(path) and has_fault[name](path)}
+    faulty = {name for name, path in places.items() if os.path.lexists(path) and has_fault[name](path)}
     for name in faulty | ({CHECK, SIZES, DRAWN} if "solved" in faulty else set()):
         remove(places[name])
 
@@ -150,8 +158,17 @@ def has_no_answer(folder: str) -> bool:
 
 
 def is_fault(path: str) -> bool:
-    """Returns whether the answer in a file is a fault."""
-    return "fault" in answer_in(path)
+    """Returns whether the answer in a file is a fault, or isn't whole."""
+    try:
+        return "fault" in answer_in(path)
+    except Torn:
+        return True
+
+
+def is_no_check(path: str) -> bool:
+    """Returns whether a check is a fault, or says nothing of what was solved."""
+    solved = os.path.join(os.path.dirname(path), "solved", ANSWER)
+    return is_fault(path) or not answer_in(path) and not is_fault(solved) and "solved" in answer_in(solved)
 
 
 def warning(unsound: Sequence[Row]) -> List[str]:
