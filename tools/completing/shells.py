@@ -2,12 +2,15 @@
 
 from __future__ import annotations
 
-from typing import Iterator, List
+from typing import Dict, Iterator, List, Tuple
 
+from fleetplan.forms import Choice
 from fleetplan.words import COMMANDS, OPTIONS, VERSION
 
 # What stands in the place of a command beside those of the program.
 OTHERS = ("help", "--help", VERSION[0])
+# Of each option whose value is one of a few words, these.
+CHOICES: Dict[str, Tuple[str, ...]] = {name: option.form.words for name, option in OPTIONS.items() if isinstance(option.form, Choice)}
 
 
 def options_of(command: str) -> List[str]:
@@ -22,7 +25,7 @@ def quoted(text: str) -> str:
 
 def bash() -> Iterator[str]:
     """Yields the lines for bash."""
-    valued = "|".join(f"--{name}" for name, option in OPTIONS.items() if option.form)
+    valued = "|".join(f"--{name}" for name, option in OPTIONS.items() if option.form and name not in CHOICES)
     yield "# Completes ./fleetplan in bash. Made by `tools/completion bash`."
     yield "_fleetplan() {"
     yield "    local current=${COMP_WORDS[COMP_CWORD]} options="
@@ -31,7 +34,11 @@ def bash() -> Iterator[str]:
     yield f"        COMPREPLY=($(compgen -W '{' '.join([*COMMANDS, *OTHERS])}' -- \"$current\"))"
     yield "        return"
     yield "    fi"
-    yield f"    case ${{COMP_WORDS[COMP_CWORD - 1]}} in {valued}) return ;; esac"
+    yield "    case ${COMP_WORDS[COMP_CWORD - 1]} in"
+    yield f"        {valued}) return ;;"
+    for name, words in CHOICES.items():
+        yield f"        --{name}) COMPREPLY=($(compgen -W '{' '.join(words)}' -- \"$current\")); return ;;"
+    yield "    esac"
     yield "    case ${COMP_WORDS[1]} in"
     for command in COMMANDS:
         yield f"        {command}) options='{' '.join(options_of(command))}' ;;"
@@ -69,7 +76,10 @@ def zsh_option(name: str) -> str:
     """Returns what tells zsh of an option."""
     option = OPTIONS[name]
     means = option.means.replace("[", "\\[").replace("]", "\\]").replace(":", "\\:")
-    return f"--{name}[{means}]" if option.form is None else f"--{name}=[{means}]:{option.placeholder.replace(':', chr(92) + ':')}:"
+    if option.form is None:
+        return f"--{name}[{means}]"
+    words = f"({' '.join(CHOICES[name])})" if name in CHOICES else ""
+    return f"--{name}=[{means}]:{option.placeholder.replace(':', chr(92) + ':')}:{words}"
 
 
 def fish() -> Iterator[str]:
@@ -82,6 +92,7 @@ def fish() -> Iterator[str]:
     for name, option in OPTIONS.items():
         of = " ".join(it for it in COMMANDS if name in COMMANDS[it].options)
         value = "" if option.form is None else " -x"
+        value += f" -a {quoted(' '.join(CHOICES[name]))}" if name in CHOICES else ""
         yield f"complete -c fleetplan -n '__fish_seen_subcommand_from {of}' -l {name}{value} -d {quoted(option.means)}"
 
 

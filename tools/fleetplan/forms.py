@@ -3,6 +3,7 @@
 from __future__ import annotations
 
 import datetime
+import difflib
 import re
 import unicodedata
 from typing import Any, Callable, Optional
@@ -58,6 +59,22 @@ class Number(Form):
     def likely(self, text: str) -> str:
         """Returns a text without marks between its digits."""
         return re.sub(r"[ ,'_]", "", text)
+
+
+class Choice(Form):
+    """One of a few words, in just these letters."""
+
+    def __init__(self, *words: str) -> None:
+        self.words = words
+        self.form = " or ".join(words)
+
+    def read(self, text: str) -> Optional[str]:
+        """Returns the word that a text is, or None."""
+        return text if text in self.words else None
+
+    def likely(self, text: str) -> str:
+        """Returns the word that is nearest to a text, or an empty one."""
+        return "".join(difflib.get_close_matches(text.strip().lower(), self.words, 1, 0.6))
 
 
 class Time(Form):

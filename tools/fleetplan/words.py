@@ -10,7 +10,7 @@ import os
 import re
 from typing import Any, Dict, List, NamedTuple, Optional, Sequence, Tuple
 
-from fleetplan.forms import MOST_AIRCRAFT, Date, Form, Name, Number, Time
+from fleetplan.forms import MOST_AIRCRAFT, Choice, Date, Form, Name, Number, Time
 from fleetplan.tables import MOST_DAYS, TABLES, WRITTEN
 
 
@@ -51,6 +51,8 @@ class Command(NamedTuple):
 # How many aircraft, days and dates a number of a call may be.
 MOST_MAINTENANCE, MOST_DATES = 30, 366
 MOST_SEARCH = 1_000_000
+# How a search makes its choices.
+FIXED, FREE = "fixed", "free"
 OPTIONS = {
     "day-start": Option("HH:MM", Time(), "03:00", "when a day begins, in UTC, 00:00 to 23:59"),
     "period": Option("P", Number(1, MOST_DAYS), "1", "the days after which the schedule repeats, 1 to 7"),
@@ -59,6 +61,7 @@ OPTIONS = {
     "through-max": Option("M", Number(0, 1439), "60", "the most minutes that a through flight may wait beyond the turn, 0 to 1439"),
     "days": Option("D", Number(1, MOST_MAINTENANCE), "3", "an aircraft comes to maintenance every D days at least, 1 to 30"),
     "visits": Option("V", Number(0, MOST_SEARCH), "200000", "how long to search for one rotation, 0 to 1000000"),
+    "search": Option("WAY", Choice(FIXED, FREE), FIXED, "how the search makes its choices: fixed by rules, or free"),
     "nodes": Option("N", Number(0, MOST_SEARCH), "1000", "how often the search may split, 0 to 1000000"),
     "pivots": Option("P", Number(0, MOST_SEARCH), "20000", "how many pivots a subproblem may take in each run, 0 to 1000000"),
     "all-pivots": Option("", None, "", "lets each subproblem take all pivots that it needs, whatever --pivots says"),
@@ -77,7 +80,7 @@ COMMANDS = {
     ),
     "solve": Command(
         {}, "finds a cheapest plan, or that there is none, with a proof of it and with rotations",
-        (*_ROUTING, "nodes", "pivots", "all-pivots", "json"), (), WRITTEN,
+        (*_ROUTING, "search", "nodes", "pivots", "all-pivots", "json"), (), WRITTEN,
     ),
     "check": Command({}, "checks the proof in proof.txt, and the plan that comes with it", READING, ("proof.txt", "plan.csv")),
     "make": Command(
@@ -110,7 +113,7 @@ Given = Tuple[str, int]
 
 
 def read(option: str, text: str) -> Any:
-    """Returns what the text of an option is read as (minutes, days, a number), or None where it hasn't the option's form."""
+    """Returns what the text of an option is read as (minutes, days, a number, a word), or None where it hasn't the option's form."""
     form = OPTIONS[option].form
     return form.read(text) if form else None
 

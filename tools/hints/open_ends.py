@@ -8,7 +8,7 @@ from typing import Dict
 from fleetplan.program import held
 from fleetplan.proofs import counts_of
 from fleetplan.texts import counted, quietly
-from fleetplan.words import MOST_SEARCH, OPTIONS, Call
+from fleetplan.words import FREE, MOST_SEARCH, OPTIONS, Call
 from hints.saying import Hint
 
 SECTION = "what-solve-prints-and-writes"
@@ -16,7 +16,7 @@ SECONDS = 5
 
 
 def explain(hint: Hint, command: str, call: Call) -> None:
-    """Says how many subproblems stayed open by which limit, and the words of the same call with more."""
+    """Says how many subproblems stayed open by which limit, and the words of the same call with more and with a free search."""
     counts = counts_of(os.path.join(call.folder, "proof.txt"))
     if not any(counts[it] for it in ("nodes", "pivots", "grew")):
         return
@@ -26,12 +26,13 @@ def explain(hint: Hint, command: str, call: Call) -> None:
     if counts["pivots"]:
         told.append(f"{counted(counts['pivots'], 'subproblem')} stayed open since it might take no more pivots (--pivots, or --all-pivots)")
     if counts["grew"]:
-        why = "an exact number outgrew its limit, and no option helps there"
+        why = "an exact number outgrew its limit, and no greater number of splits or pivots helps there"
         told.append(f"{counted(counts['grew'], 'subproblem')} stayed open since {why}")
     for text in told:
         hint.say(text)
     quietly(tell_gap, hint, call)
     tell_more(hint, command, call, counts)
+    tell_free(hint, command, call)
     hint.see(SECTION)
 
 
@@ -63,3 +64,12 @@ def tell_more(hint: Hint, command: str, call: Call, counts: Dict[str, int]) -> N
         hint.mend([command, *words])
     elif counts["nodes"] or counts["pivots"]:
         hint.say("these limits are at their most: fewer pairs in costs.csv, or a part of the schedule alone, make it easier")
+
+
+def tell_free(hint: Hint, command: str, call: Call) -> None:
+    """Shows the words of the same call with a free search, where the choices of this one were fixed and pivots are allowed."""
+    if call.value("search") == FREE or not (call.value("pivots") or call.has("all-pivots")):
+        return
+    words = call.with_option("search", FREE) if call.command == "solve" else ["solve", call.folder, "--search", FREE]
+    hint.say("to let the search choose freely within its limits, with a proof that is checked as strictly:")
+    hint.mend([command, *words])

@@ -78,8 +78,9 @@ pub(crate) fn price_bound(tables: &Tables, kept: &Kept, prices: &Prices) -> i128
     ceil_div(worth(tables, kept, prices, 1), prices.scale)
 }
 
-/// The bound that a node which keeps all rules has without its children. Takes no memory.
-pub(crate) fn own_bound(tables: &Tables, kept: &Kept, node: &Tree) -> Option<i128>
+/// The bound that a node which keeps all rules has without its children, in cost units: that of a leaf, and none of a trim
+/// or a split. Takes no memory.
+pub fn own_bound(tables: &Tables, kept: &Kept, node: &Tree) -> Option<i128>
     requires { (cost : Option ℤ) × IsSound tables.now cost (node_at kept.now node.now) }
     ensures { IsOwnBound tables.now (kept_by kept.now) node.now result }
 {

@@ -1,7 +1,7 @@
 -- What words ask for, computed by clap's definition.
 use Rattle.std.proofs.Common.{refl, true, false}
 use Rattle.clap.proofs.OnLiterals.{clap_on_literals}
-use Rattle.command_words.specs.Plain.{AsksByDefault, AsksFrom, ChecksByDefault, ChecksFrom, DueByDefault, DueWithin, JudgesByDefault, JudgesFrom, MakesByDefault, MakesWithoutOptions, SolvesByDefault, SolvesWithin, SolvesWithoutBudget, TailsByDefault, TailsWithin}
+use Rattle.command_words.specs.Plain.{AsksByDefault, AsksFrom, ChecksByDefault, ChecksFrom, DueByDefault, DueWithin, JudgesByDefault, JudgesFrom, MakesByDefault, MakesWithoutOptions, SolvesByDefault, SolvesByWay, SolvesFreely, SolvesWithin, SolvesWithoutBudget, TailsByDefault, TailsWithin}
 use Rattle.command_words.specs.Found.{found}
 use Rattle.command_words.specs.Program.{our_app}
 use Rattle.command_words.specs.Words.{asked}
@@ -29,14 +29,25 @@ solves_by_default program dir false false = refl
 
 pub solves_within : SolvesWithin
 unfolding asked found our_app clap_on_literals
-solves_within program time period wait days visits nodes pivots dir true true = refl
-solves_within program time period wait days visits nodes pivots dir true false = refl
-solves_within program time period wait days visits nodes pivots dir false true = refl
-solves_within program time period wait days visits nodes pivots dir false false = refl
+solves_within program time period wait days visits choices nodes pivots dir true true = refl
+solves_within program time period wait days visits choices nodes pivots dir true false = refl
+solves_within program time period wait days visits choices nodes pivots dir false true = refl
+solves_within program time period wait days visits choices nodes pivots dir false false = refl
 
 pub solves_without_budget : SolvesWithoutBudget
 unfolding asked found our_app clap_on_literals
 solves_without_budget program pivots dir = refl
+
+pub solves_freely : SolvesFreely
+unfolding asked found our_app clap_on_literals
+solves_freely program dir = refl
+
+pub solves_by_way : SolvesByWay
+unfolding asked found our_app clap_on_literals
+solves_by_way program choices dir true true = refl
+solves_by_way program choices dir true false = refl
+solves_by_way program choices dir false true = refl
+solves_by_way program choices dir false false = refl
 
 pub checks_by_default : ChecksByDefault
 unfolding asked found our_app clap_on_literals
@@ -92,6 +103,7 @@ makes_without_options = record {
   through_max = λ program text dir number legs. refl;
   days = λ program text dir number legs. refl;
   visits = λ program text dir number legs. refl;
+  search = λ program text dir number legs. refl;
   nodes = λ program text dir number legs. refl;
   pivots = λ program text dir number legs. refl;
   windows = λ program dir number legs. refl;

@@ -118,7 +118,7 @@ judge_has = record { untrailed = refl; once = refl; named = refl; found = (refl,
 
 solve_has : HasAll option_named (built_command solve_app) solve_options
 unfolding our_app clap_on_literals
-solve_has = record { untrailed = refl; once = refl; named = refl; found = (refl, (refl, (refl, (refl, (refl, (refl, (refl, tt))))))) }
+solve_has = record { untrailed = refl; once = refl; named = refl; found = (refl, (refl, (refl, (refl, (refl, (refl, (refl, (refl, tt)))))))) }
 
 check_has : HasAll option_named (built_command check_app) table_options
 unfolding our_app clap_on_literals

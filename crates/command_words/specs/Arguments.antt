@@ -12,8 +12,10 @@ use Rattle.command_words.specs.Values.{minute_read, number_read, value_or}
 use Rattle.command_words.specs.declared.command.Dates.{Dates}
 use Rattle.command_words.specs.declared.command.RotationLimits.{RotationLimits}
 use Rattle.command_words.specs.declared.command.SearchLimits.{SearchLimits}
+use Rattle.command_words.specs.declared.command.SearchWay.{SearchWay}
+use Rattle.command_words.specs.declared.command.SearchWay.TheVariants as way
 use Rattle.command_words.specs.declared.command.SolveOptions.{SolveOptions}
-use Rattle.command_words.specs.declared.command.TheConstants.{DEFAULT_DAYS, DEFAULT_DAY_START, DEFAULT_NODES, DEFAULT_PERIOD, DEFAULT_PIVOTS, DEFAULT_THROUGH_MAX, DEFAULT_VISITS, MAX_DATES, MAX_DAYS, MAX_MADE_LEGS, MAX_NODES, MAX_NUMBER, MAX_PERIOD, MAX_PIVOTS, MAX_THROUGH_MAX, MAX_VISITS, MIN_DATES, MIN_DAYS, MIN_PERIOD}
+use Rattle.command_words.specs.declared.command.TheConstants.{DEFAULT_DAYS, DEFAULT_DAY_START, DEFAULT_NODES, DEFAULT_PERIOD, DEFAULT_PIVOTS, DEFAULT_THROUGH_MAX, DEFAULT_VISITS, DEFAULT_WAY, MAX_DATES, MAX_DAYS, MAX_MADE_LEGS, MAX_NODES, MAX_NUMBER, MAX_PERIOD, MAX_PIVOTS, MAX_THROUGH_MAX, MAX_VISITS, MIN_DATES, MIN_DAYS, MIN_PERIOD}
 
 -- what was found for the arguments
 abbrev pub rows_in : ArgMatches → List Row
@@ -61,6 +63,21 @@ reading_at None windows optional = None
 abbrev pub reading_in : List Row → Option TableOptions
 reading_in found = reading_at (settings_in found) (is_given (codes "windows") found) (is_given (codes "optional") found)
 
+-- ---- the way of searching
+
+-- the way that a text names, in just these letters
+abbrev pub way_read : Text → Option SearchWay
+way_read text = if bytes_eq text (codes "fixed") then Some way.Fixed else if bytes_eq text (codes "free") then Some way.Free else None
+
+-- what the text of the option reads as, or the default where the option isn't there
+abbrev pub way_or_default : Option Text → Option SearchWay
+way_or_default None = Some DEFAULT_WAY
+way_or_default (Some text) = way_read text
+
+-- the way of searching, where it reads
+abbrev pub way_in : List Row → Option SearchWay
+way_in found = way_or_default (first_of (codes "search") found)
+
 -- ---- limits
 
 -- the most splits, where they read
@@ -104,15 +121,16 @@ rotations_at None v = None
 abbrev pub rotations_in : List Row → Option RotationLimits
 rotations_in found = rotations_at (days_in found) (visits_in found)
 
--- what is asked of a search for a plan, where its limits and those of rotations are there
-abbrev pub options_at : Option SearchLimits → Option RotationLimits → Bool → Option SolveOptions
-options_at (Some s) (Some r) printed = Some (record { search = s; rotations = r; json = printed })
-options_at (Some s) None printed = None
-options_at None r printed = None
+-- what is asked of a search for a plan, where its way, its limits and those of rotations are there
+abbrev pub options_at : Option SearchWay → Option SearchLimits → Option RotationLimits → Bool → Option SolveOptions
+options_at (Some w) (Some s) (Some r) printed = Some (record { way = w; search = s; rotations = r; json = printed })
+options_at (Some w) (Some s) None printed = None
+options_at (Some w) None r printed = None
+options_at None s r printed = None
 
 -- what is asked of a search for a plan, where all values read
 abbrev pub options_in : List Row → Option SolveOptions
-options_in found = options_at (search_in found) (rotations_in found) (is_given (codes "json") found)
+options_in found = options_at (way_in found) (search_in found) (rotations_in found) (is_given (codes "json") found)
 
 -- ---- dates
 

@@ -4,11 +4,14 @@ use Rattle.std.specs.Prelude.{◌≡◌, ◌==◌, ◌||◌, Bool, true, false, 
 use Rattle.clap.specs.Words.{Text}
 use Rattle.fleet_model.specs.declared.options.TableOptions.{TableOptions}
 use Rattle.fleet_model.specs.declared.parts.Settings.{Settings}
-use Rattle.command_words.specs.Arguments.{aircraft_read, count_read, dates_at, legs_read, made_number_read, options_at, reading_at, rotations_at, search_at, settings_at}
+use Rattle.command_words.specs.Arguments.{aircraft_read, count_read, dates_at, legs_read, made_number_read, options_at, reading_at, rotations_at, search_at, settings_at, way_read}
 use Rattle.calendar_dates.specs.Reading.{date_read}
 use Rattle.command_words.specs.Values.{minute_read, number_read}
 use Rattle.command_words.specs.Words.{asked, check_at, due_at, judge_at, make_at, solve_at, tails_at, whatif_at}
 use Rattle.command_words.specs.declared.command.RotationLimits.{RotationLimits}
+use Rattle.command_words.specs.declared.command.SearchLimits.{SearchLimits}
+use Rattle.command_words.specs.declared.command.SearchWay.{SearchWay}
+use Rattle.command_words.specs.declared.command.SearchWay.TheVariants as way
 use Rattle.command_words.specs.declared.command.SolveOptions.{SolveOptions}
 use Rattle.command_words.specs.declared.command.TheConstants.{DEFAULT_NODES, DEFAULT_OPTIONS, DEFAULT_READING, DEFAULT_THROUGH_MAX, MAX_DAYS, MAX_NODES, MAX_PERIOD, MAX_PIVOTS, MAX_THROUGH_MAX, MAX_VISITS, MIN_DAYS, MIN_PERIOD}
 
@@ -32,6 +35,12 @@ default_reading = Some DEFAULT_READING
 
 abbrev pub default_rotations : Option RotationLimits
 default_rotations = Some DEFAULT_OPTIONS.rotations
+
+abbrev pub default_way : Option SearchWay
+default_way = Some DEFAULT_OPTIONS.way
+
+abbrev pub default_search : Option SearchLimits
+default_search = Some DEFAULT_OPTIONS.search
 
 abbrev pub default_options : Option SolveOptions
 default_options = Some DEFAULT_OPTIONS
@@ -115,19 +124,30 @@ abbrev pub SolvesByDefault : Type 0
 SolvesByDefault = (program dir : Text) (windows optional : Bool) → asked (program ∷ codes "solve" ∷ (flag_words windows optional ++ codes "--" ∷ dir ∷ []))
     ≡ solve_at (reading_at default_settings windows optional) default_options dir
 
--- solve --day-start=HH:MM --period=P --through-max=M --days=D --visits=V --nodes=N --pivots=P --json [--windows] [--optional] -- DIR
+-- solve --day-start=HH:MM --period=P --through-max=M --days=D --visits=V --search=CHOICES --nodes=N --pivots=P --json [--windows] [--optional] -- DIR
 abbrev pub SolvesWithin : Type 0
-SolvesWithin = (program time period wait days visits nodes pivots dir : Text) (windows optional : Bool)
+SolvesWithin = (program time period wait days visits choices nodes pivots dir : Text) (windows optional : Bool)
     → asked (program ∷ codes "solve" ∷ (codes "--day-start=" ++ time) ∷ (codes "--period=" ++ period) ∷ (codes "--through-max=" ++ wait) ∷ (codes "--days=" ++ days)
-    ∷ (codes "--visits=" ++ visits) ∷ (codes "--nodes=" ++ nodes) ∷ (codes "--pivots=" ++ pivots) ∷ codes "--json" ∷ (flag_words windows optional ++ codes "--" ∷ dir ∷ []))
+    ∷ (codes "--visits=" ++ visits) ∷ (codes "--search=" ++ choices) ∷ (codes "--nodes=" ++ nodes) ∷ (codes "--pivots=" ++ pivots) ∷ codes "--json" ∷ (flag_words windows optional ++ codes "--" ∷ dir ∷ []))
     ≡ solve_at (reading_at (settings_with time period wait) windows optional)
-    (options_at (search_at (number_read 0 MAX_NODES nodes) (number_read 0 MAX_PIVOTS pivots) false) (rotations_with days visits) true) dir
+    (options_at (way_read choices) (search_at (number_read 0 MAX_NODES nodes) (number_read 0 MAX_PIVOTS pivots) false) (rotations_with days visits) true) dir
 
 -- solve --pivots=P --all-pivots -- DIR
 abbrev pub SolvesWithoutBudget : Type 0
 SolvesWithoutBudget = (program pivots dir : Text)
     → asked (program ∷ codes "solve" ∷ (codes "--pivots=" ++ pivots) ∷ codes "--all-pivots" ∷ codes "--" ∷ dir ∷ [])
-    ≡ solve_at default_reading (options_at (search_at (Some DEFAULT_NODES) (number_read 0 MAX_PIVOTS pivots) true) default_rotations false) dir
+    ≡ solve_at default_reading (options_at default_way (search_at (Some DEFAULT_NODES) (number_read 0 MAX_PIVOTS pivots) true) default_rotations false) dir
+
+-- solve --search=CHOICES [--windows] [--optional] -- DIR
+abbrev pub SolvesByWay : Type 0
+SolvesByWay = (program choices dir : Text) (windows optional : Bool)
+    → asked (program ∷ codes "solve" ∷ (codes "--search=" ++ choices) ∷ (flag_words windows optional ++ codes "--" ∷ dir ∷ []))
+    ≡ solve_at (reading_at default_settings windows optional) (options_at (way_read choices) default_search default_rotations false) dir
+
+-- solve --search free -- DIR: the way alone is another than by default
+abbrev pub SolvesFreely : Type 0
+SolvesFreely = (program dir : Text) → asked (program ∷ codes "solve" ∷ codes "--search" ∷ codes "free" ∷ codes "--" ∷ dir ∷ [])
+    ≡ solve_at default_reading (Some (record DEFAULT_OPTIONS { way = way.Free })) dir
 
 -- check [--windows] [--optional] -- DIR
 abbrev pub ChecksByDefault : Type 0
@@ -183,7 +203,7 @@ AsksFrom = (program time period dir fleet count : Text) (windows optional : Bool
     → asked (program ∷ codes "whatif" ∷ (codes "--day-start=" ++ time) ∷ (codes "--period=" ++ period) ∷ (flag_words windows optional ++ codes "--" ∷ dir ∷ fleet ∷ count ∷ []))
     ≡ whatif_at (reading_at (settings_from time period) windows optional) (Some fleet) (aircraft_read count) dir
 
--- make takes none of the other commands' options: --day-start=HH:MM, --period=P, --through-max=M, --days=D, --visits=V, --nodes=N, --pivots=P, and
+-- make takes none of the other commands' options: --day-start=HH:MM, --period=P, --through-max=M, --days=D, --visits=V, --search=CHOICES, --nodes=N, --pivots=P, and
 -- none of their flags: --windows, --optional, --all-pivots, --json
 abbrev pub MakesWithoutOption : Text → Type 0
 MakesWithoutOption option = (program text dir number legs : Text)
@@ -198,6 +218,7 @@ pub record MakesWithoutOptions : Type 0 where
   pub through_max : MakesWithoutOption (codes "--through-max=")
   pub days : MakesWithoutOption (codes "--days=")
   pub visits : MakesWithoutOption (codes "--visits=")
+  pub search : MakesWithoutOption (codes "--search=")
   pub nodes : MakesWithoutOption (codes "--nodes=")
   pub pivots : MakesWithoutOption (codes "--pivots=")
   pub windows : MakesWithoutFlag (codes "--windows")

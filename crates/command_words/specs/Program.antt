@@ -36,9 +36,9 @@ table_options = option_named (codes "day-start") ∷ option_named (codes "period
 abbrev pub rotation_options : List Rule
 rotation_options = option_named (codes "through-max") ∷ option_named (codes "days") ∷ option_named (codes "visits") ∷ []
 
--- [--nodes N] [--pivots P] [--all-pivots] [--json]
+-- [--search fixed|free] [--nodes N] [--pivots P] [--all-pivots] [--json]
 abbrev pub search_options : List Rule
-search_options = option_named (codes "nodes") ∷ option_named (codes "pivots") ∷ flag_named (codes "all-pivots") ∷ flag_named (codes "json") ∷ []
+search_options = option_named (codes "search") ∷ option_named (codes "nodes") ∷ option_named (codes "pivots") ∷ flag_named (codes "all-pivots") ∷ flag_named (codes "json") ∷ []
 
 -- DATE COUNT
 abbrev pub dates : List Rule

@@ -92,7 +92,7 @@ rotation_options = codes "through-max" ∷ codes "days" ∷ codes "visits" ∷ [
 
 -- by which a plan is looked for
 abbrev pub search_options : List Text
-search_options = codes "nodes" ∷ codes "pivots" ∷ []
+search_options = codes "search" ∷ codes "nodes" ∷ codes "pivots" ∷ []
 
 abbrev pub tails_options : List Text
 tails_options = table_options ++ rotation_options

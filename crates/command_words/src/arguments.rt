@@ -1,7 +1,7 @@
 //! The values of a command's arguments, by what clap found for them.
 ghost use Rattle.std.specs.Prelude.{◌≡◌, ◌≤◌, ◌<◌, IfSome, option_map};
 ghost use Rattle.clap.specs.Words.{first_of};
-ghost use Rattle.command_words.specs.Arguments.{AreDates, AreLimits, AreOptions, AreRotationLimits, IsLegCount, aircraft_in, budget_of, dates_in, day_start_in, is_given, legs_in, legs_read, number_in, options_in, period_in, reading_in, rotations_in, rows_in, search_in, settings_in, through_max_in};
+ghost use Rattle.command_words.specs.Arguments.{AreDates, AreLimits, AreOptions, AreRotationLimits, IsLegCount, aircraft_in, budget_of, dates_in, day_start_in, is_given, legs_in, legs_read, number_in, options_in, period_in, reading_in, rotations_in, rows_in, search_in, settings_in, through_max_in, way_in, way_read};
 ghost use Rattle.command_words.specs.Values.{number_read, value_or};
 ghost use Rattle.command_words.specs.Words.{dates_by};
 ghost use Rattle.fleet_model.specs.Limits.{AreSettings};
@@ -9,9 +9,9 @@ ghost use Rattle.fleet_model.specs.declared.limits.TheConstants.{MAX_AIRCRAFT, M
 
 use crate::command::{
     DEFAULT_DAY_START, DEFAULT_DAYS, DEFAULT_NODES, DEFAULT_PERIOD, DEFAULT_PIVOTS,
-    DEFAULT_THROUGH_MAX, DEFAULT_VISITS, Dates, MAX_DATES, MAX_DAYS, MAX_MADE_LEGS, MAX_NODES,
-    MAX_NUMBER, MAX_PERIOD, MAX_PIVOTS, MAX_THROUGH_MAX, MAX_VISITS, MIN_DATES, MIN_DAYS,
-    MIN_PERIOD, RotationLimits, SearchLimits, SolveOptions,
+    DEFAULT_THROUGH_MAX, DEFAULT_VISITS, DEFAULT_WAY, Dates, MAX_DATES, MAX_DAYS, MAX_MADE_LEGS,
+    MAX_NODES, MAX_NUMBER, MAX_PERIOD, MAX_PIVOTS, MAX_THROUGH_MAX, MAX_VISITS, MIN_DATES,
+    MIN_DAYS, MIN_PERIOD, RotationLimits, SearchLimits, SearchWay, SolveOptions,
 };
 use crate::values::{minute_of_day, number_between};
 use calendar_dates::{civil_date, ends_in_calendar};
@@ -90,14 +90,37 @@ pub(crate) fn options_of(found: &ArgMatches<'_>) -> Option<SolveOptions>
     ensures read { result ≡ options_in (rows_in found.now) }
     ensures fit { IfSome result AreOptions }
 {
+    let way = way_of(found)?;
     let search = search_of(found)?;
     let rotations = rotations_of(found)?;
     let json = is_given(found, "json");
     Some(SolveOptions {
+        way,
         search,
         rotations,
         json,
     })
+}
+
+/// How a search makes its choices, as an option says, or its default.
+fn way_of(found: &ArgMatches<'_>) -> Option<SearchWay>
+    ensures { result ≡ way_in (rows_in found.now) }
+{
+    match value_of(found, "search") {
+        Some(text) => way_named(text),
+        None => Some(DEFAULT_WAY),
+    }
+}
+
+/// The way of searching that a text names, in just these letters.
+fn way_named(text: &str) -> Option<SearchWay>
+    ensures { result ≡ way_read text.now }
+{
+    match text {
+        "fixed" => Some(SearchWay::Fixed),
+        "free" => Some(SearchWay::Free),
+        _ => None,
+    }
 }
 
 /// The limits of a search that the options give.

@@ -20,6 +20,9 @@ pub const MIN_PERIOD: u16 = 1;
 /// The most days of the period that an option may set.
 pub const MAX_PERIOD: u16 = fleet_model::limits::MAX_PERIOD;
 
+/// How a search makes its choices where no option says it.
+pub const DEFAULT_WAY: SearchWay = SearchWay::Fixed;
+
 /// How often a search may split where no option sets it.
 pub const DEFAULT_NODES: u64 = 1000;
 
@@ -59,6 +62,15 @@ pub const MAX_NUMBER: u32 = 2_147_483_647;
 /// The most legs of tables that are made.
 pub const MAX_MADE_LEGS: u32 = 1000;
 
+/// How a search for a plan makes its choices, and so which trees of its proof it may end with.
+#[derive(Clone, Copy)]
+pub enum SearchWay {
+    /// Each choice is fixed by a rule.
+    Fixed,
+    /// No choice is: any tree that holds may be found.
+    Free,
+}
+
 /// How much a search may do.
 #[derive(Clone, Copy)]
 pub struct SearchLimits {
@@ -80,6 +92,8 @@ pub struct RotationLimits {
 /// How a plan is searched for, and how its summary is printed.
 #[derive(Clone, Copy)]
 pub struct SolveOptions {
+    /// How the search for the plan makes its choices.
+    pub way: SearchWay,
     /// How much the search for the plan may do.
     pub search: SearchLimits,
     /// The limits of the plan's rotations.
@@ -101,6 +115,7 @@ pub const DEFAULT_READING: TableOptions = TableOptions {
 
 /// How a plan is searched for where no option says it.
 pub const DEFAULT_OPTIONS: SolveOptions = SolveOptions {
+    way: DEFAULT_WAY,
     search: SearchLimits {
         nodes: DEFAULT_NODES,
         pivots: Some(DEFAULT_PIVOTS),

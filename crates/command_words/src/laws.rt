@@ -1,10 +1,11 @@
 //! The laws of words: each contract is the statement, and the functions do nothing.
 ghost use Rattle.std.specs.Prelude.{◌≡◌, true};
 ghost use Rattle.clap.specs.Words.{is_simple_and_free};
-ghost use Rattle.command_words.specs.Plain.{AsksByDefault, AsksFrom, AsksPlainly, ChecksByDefault, ChecksFrom, ChecksPlainly, DueByDefault, DuePlainly, DueWithin, JudgesByDefault, JudgesFrom, JudgesPlainly, MakesByDefault, MakesPlainly, MakesWithoutOptions, SolvesByDefault, SolvesPlainly, SolvesWithin, SolvesWithoutBudget, TailsByDefault, TailsPlainly, TailsWithin};
+ghost use Rattle.command_words.specs.Plain.{AsksByDefault, AsksFrom, AsksPlainly, ChecksByDefault, ChecksFrom, ChecksPlainly, DueByDefault, DuePlainly, DueWithin, JudgesByDefault, JudgesFrom, JudgesPlainly, MakesByDefault, MakesPlainly, MakesWithoutOptions, SolvesByDefault, SolvesByWay, SolvesFreely, SolvesPlainly, SolvesWithin, SolvesWithoutBudget, TailsByDefault, TailsPlainly, TailsWithin};
 ghost use Rattle.command_words.specs.Program.{our_app};
 ghost use Rattle.command_words.specs.Refusals.{NameAloneAsksNothing, NoWordsAskNothing, OtherWordsAskNothing, TakeFlagsPlainly, TakeOptionsOnce, TakeOwnOptions};
-ghost use Rattle.command_words.specs.declared.command.TheConstants.{DEFAULT_DAY_START, DEFAULT_DAYS, DEFAULT_NODES, DEFAULT_PERIOD, DEFAULT_PIVOTS, DEFAULT_THROUGH_MAX, DEFAULT_VISITS, MAX_DATES, MAX_DAYS, MAX_MADE_LEGS, MAX_NODES, MAX_NUMBER, MAX_PERIOD, MAX_PIVOTS, MAX_THROUGH_MAX, MAX_VISITS, MIN_DATES, MIN_DAYS, MIN_PERIOD};
+ghost use Rattle.command_words.specs.declared.command.TheConstants.{DEFAULT_DAY_START, DEFAULT_DAYS, DEFAULT_NODES, DEFAULT_PERIOD, DEFAULT_PIVOTS, DEFAULT_THROUGH_MAX, DEFAULT_VISITS, DEFAULT_WAY, MAX_DATES, MAX_DAYS, MAX_MADE_LEGS, MAX_NODES, MAX_NUMBER, MAX_PERIOD, MAX_PIVOTS, MAX_THROUGH_MAX, MAX_VISITS, MIN_DATES, MIN_DAYS, MIN_PERIOD};
+ghost use Rattle.command_words.specs.declared.command.SearchWay.TheVariants as way;
 
 /// The command line is of the kind for which clap's definition of a match is exact: by it alone clap tells a match
 /// from a fault, and what the words give each argument.
@@ -25,6 +26,8 @@ pub fn plain_reading()
     ensures judges_by_default { JudgesByDefault }
     ensures judges_from { JudgesFrom }
     ensures solves_by_default { SolvesByDefault }
+    ensures solves_by_way { SolvesByWay }
+    ensures solves_freely { SolvesFreely }
     ensures solves_within { SolvesWithin }
     ensures solves_without_budget { SolvesWithoutBudget }
     ensures checks_by_default { ChecksByDefault }
@@ -50,7 +53,8 @@ pub fn plain_refusals()
     ensures flags_plainly { TakeFlagsPlainly }
 {}
 
-/// The defaults of the options, and the least and greatest values that words take, in numbers.
+/// The defaults of the options, and the least and greatest values that words take, in numbers. By default each choice of a
+/// search is fixed.
 pub fn values_in_numbers()
     ensures day_start { DEFAULT_DAY_START ≡ 180 }
     ensures through_max { DEFAULT_THROUGH_MAX ≡ 60 }
@@ -58,6 +62,7 @@ pub fn values_in_numbers()
     ensures period { DEFAULT_PERIOD ≡ 1 }
     ensures least_period { MIN_PERIOD ≡ 1 }
     ensures most_period { MAX_PERIOD ≡ 7 }
+    ensures way { DEFAULT_WAY ≡ way.Fixed }
     ensures nodes { DEFAULT_NODES ≡ 1000 }
     ensures most_nodes { MAX_NODES ≡ 1000000 }
     ensures pivots { DEFAULT_PIVOTS ≡ 20000 }

@@ -31,6 +31,7 @@ use Rattle.table_maker.specs.Laws.{AreShort, all_on_first, bytes_of}
 use Rattle.table_maker.specs.Made.{CanBeMade, made_tables}
 use Rattle.table_maker.specs.declared.made.MadeTables.{MadeTables}
 use Rattle.fleet_cli.proofs.FrontFacts.{held_in}
+use Rattle.plan_search.proofs.Proven.{is_proven}
 use Rattle.fleet_cli.proofs.TextsStand.{stands_last, with_more}
 use Rattle.fleet_cli.specs.Answer.{Answers, Makes}
 use Rattle.fleet_cli.specs.Contents.{FileBytes, bytes_in, five_alone, five_bytes, table_bytes}
@@ -205,4 +206,5 @@ flyable number legs answer x =
     let same : made.tables ≡ x.solves.tables = one ∙ sym x.solves.reads.before.windows ∙ sym x.solves.reads.optional in
     let legal = subst (λ t. IsLegal t (all_on_first legs)) same made.legal in
     rw (ap (λ (a : Answer). a.status.code) x.is ∙ ap (λ (a : Answer). a.status.code) x.solves.finishes.is)
-    (by_plan x.solves.tables (all_on_first legs) x.solves.finishes.solution legal x.solves.finishes.solves.right)
+    (by_plan x.solves.tables (all_on_first legs) x.solves.finishes.solution legal
+    (is_proven x.solves.tables DEFAULT_OPTIONS.way DEFAULT_OPTIONS.search x.solves.finishes.solution x.solves.finishes.solves).right)

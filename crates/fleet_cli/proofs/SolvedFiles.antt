@@ -30,6 +30,7 @@ use Rattle.fleet_cli.proofs.HeadlineFacts.{plan_stands, proof_stands}
 use Rattle.fleet_cli.proofs.OneAnswer.{complete_there, not_refused}
 use Rattle.fleet_cli.proofs.Others.{solved_others, texts_keep}
 use Rattle.fleet_cli.proofs.PlanLength.{plan_within}
+use Rattle.plan_search.proofs.Proven.{is_proven}
 use Rattle.fleet_cli.proofs.SolvedHolds.{solved_holds}
 use Rattle.fleet_cli.specs.Answer.{Answers, Solves}
 use Rattle.fleet_cli.specs.Contents.{bytes_in, table_bytes}
@@ -200,8 +201,9 @@ module _ (held : Files) (dir : List ℕ) (solving checking : TableOptions) (alik
           let given = solves.finishes in
           let files = ap (λ (a : Answer). a.files) given.is in
           let stands = with_texts held dir (solved_files solves.tables given.shown given.solution given.rotations options.rotations.visits) in
-          let there = proof_stays solves.tables given.shown given.rotations options.rotations.visits held dir solving given.solution read.within.first solves.reads given.solves.right
-          (solved_holds solves.tables options.search.nodes options.search.pivots given.solution given.solves) (rw files at lengths) in
+          let proven = is_proven solves.tables options.way options.search given.solution given.solves in
+          let there = proof_stays solves.tables given.shown given.rotations options.rotations.visits held dir solving given.solution read.within.first solves.reads proven.right
+          (solved_holds solves.tables given.solution proven) (rw files at lengths) in
           complete_there stands (Some (check dir checking)) checked_as (rw files at checks) (proof_by_day stands dir solving checking alike checked_as there (rw files at checks))
 
 pub solved_is_checked : SolvedIsChecked

@@ -4,7 +4,6 @@ use Rattle.bound_cert.specs.declared.reading.Proof.{Proof}
 use Rattle.dual_bound.specs.declared.trees.Tree.{Tree}
 use Rattle.due_report.specs.Lines.{due_text}
 use Rattle.due_report.specs.Placings.{ArePlacings, are_unplaced}
-use Rattle.branch_bound.specs.Solved.{IsSolved}
 use Rattle.dual_bound.specs.declared.solved.Solved.{Solved}
 use Rattle.cert_check.specs.Verdicts.{IsChecked}
 use Rattle.cert_check.specs.declared.checked.Checked.{Checked}
@@ -28,6 +27,7 @@ use Rattle.plan_desk.specs.declared.file.DeskFile.TheVariants as file
 use Rattle.plan_judge.specs.Verdicts.{IsVerdict}
 use Rattle.plan_judge.specs.declared.verdicts.Verdict.{Verdict}
 use Rattle.plan_rotations.specs.Rotations.{ArePlanRotations}
+use Rattle.plan_search.specs.SolvedBy.{IsSolvedBy}
 use Rattle.rotation_report.specs.Tails.{tails_text}
 use Rattle.sched_read.specs.Files.{AllBytes}
 use Rattle.table_maker.specs.Laws.{bytes_of}
@@ -65,13 +65,13 @@ Judges reading bytes plan = OnTables reading bytes (JudgesOn plan)
 
 -- ---- solving
 
--- a solution of the tables is given, found within the limits of the search, with rotations of its plan; where all pivots are
--- allowed, no leaf of its tree is open for pivots
+-- a solution of the tables is given, found in the way that is asked for and within the limits of the search, with rotations of
+-- its plan; where all pivots are allowed, no leaf of its tree is open for pivots
 pub record GivesSolution (options : SolveOptions) (t : Tables) (answer : Answer) : Type 0 where
   pub solution : Solved
   pub shown : Tables
   pub rotations : List FleetRotation
-  pub solves : IsSolved t options.search.nodes options.search.pivots solution
+  pub solves : IsSolvedBy t options.way options.search solution
   pub rotates : AreRotationsOf t options.rotations solution shown rotations
   pub is : answer ≡ solved_answer t shown options solution rotations
 

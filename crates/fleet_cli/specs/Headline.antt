@@ -18,6 +18,7 @@ use Rattle.plan_desk.specs.Sink.{output_with}
 use Rattle.plan_desk.specs.declared.file.DeskFile.TheVariants as desk_file
 use Rattle.rotation_report.specs.RotationRecords.{rotation_text}
 use Rattle.euler_rotation.specs.declared.fleet_rotation.FleetRotation.{FleetRotation}
+use Rattle.plan_search.specs.SolvedBy.{IsSolvedBy}
 use Rattle.plan_text.specs.Text.{plan_text}
 use Rattle.sched_read.specs.Files.{FilesRead}
 use Rattle.table_maker.specs.Laws.{bytes_of}
@@ -28,7 +29,6 @@ use Rattle.fleet_cli.specs.Making.{made_files}
 use Rattle.fleet_cli.specs.Reading.{five_tables, proof_files, tables_of}
 use Rattle.fleet_cli.specs.Refusals.{fleet_named}
 use Rattle.fleet_cli.specs.Run.{IsSolution, PlanThere}
-use Rattle.branch_bound.specs.Solved.{IsSolved}
 use Rattle.dual_bound.specs.Solved.{tree_of}
 use Rattle.fleet_cli.specs.Solution.{AreRotationsOf, printed_text, solved_status}
 use Rattle.fleet_cli.specs.Texts.{checked_text, what_if_text}
@@ -53,7 +53,7 @@ plan_there t (solved.Unsettled bound tree) before = before
 -- plan's name stands the text of one legal plan, under the proof's name the text of one tree, and the summary with the plan's
 -- exact cost, the tree's bound and the status was put. No legal assignment, whatever fleets and departures it chooses and
 -- whichever legs it leaves out, undercuts that bound; it is the cost where no leaf is open, each open leaf has its cause, which
--- isn't spent pivots where all are allowed, and where it says infeasible, none is legal. Under the rotations' name stands the
+-- isn't spent pivots where all are allowed or where the tree was found freely, and where it says infeasible, none is legal. Under the rotations' name stands the
 -- text of what becomes of each fleet's rotation by that plan, on the tables in which each leg departs when the plan says, and
 -- the summary tells it: each tour is one of the fleet and is kept, each that is refused has its cause, and the pairs of the
 -- first round are a through set that is worth most. Without a plan there are no rotations.
@@ -64,7 +64,7 @@ pub record LeavesSolution (held stands : Files) (dir : List ℕ) (reading : Tabl
   pub rotations : List FleetRotation
   pub there : AllStand held dir (tables_of reading)
   pub reads : FilesRead (table_bytes (bytes_in held dir)) reading tables
-  pub solves : IsSolved tables options.search.nodes options.search.pivots solution
+  pub solves : IsSolvedBy tables options.way options.search solution
   pub rotates : AreRotationsOf tables options.rotations solution shown rotations
   pub plan : stands (path_of dir desk_file.Plan) ≡ plan_there tables solution (held (path_of dir desk_file.Plan))
   pub proof : stands (path_of dir desk_file.Proof) ≡ Some (proof_text tables (is_planned solution) (tree_of solution))

@@ -21,14 +21,13 @@ use crate::loading::{Loaded, load_tables};
 use crate::showing::shown_by;
 use crate::solution::{printed_text, solved_files, status_of};
 use crate::status::Status;
-use branch_bound::solve;
 use command_words::SolveOptions;
 use dual_bound::Solved;
 use entries::{Entries, NoMemory};
 use euler_rotation::FleetRotation;
-use exact_ends::DualSimplex;
 use fleet_model::{Assignment, TableOptions, Tables};
 use plan_rotations::rotations;
+use plan_search::solved_by;
 use std::alloc::Global;
 
 /// Solves by what the tables hold.
@@ -58,7 +57,7 @@ pub fn solve_tables(
     requires options { AreOptions options }
     ensures { IfOk result (GivesSolution options tables.now) }
 {
-    let solved = solve::<DualSimplex>(alloc, tables, options.search.nodes, options.search.pivots)?;
+    let solved = solved_by(alloc, tables, options.way, options.search)?;
     show_solved(alloc, tables, options, &solved)
 }
 

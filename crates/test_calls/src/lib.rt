@@ -1,5 +1,5 @@
-//! Calls of the libraries of fields, times, subproblems and fractions, of which no run of the program tells the answer. There is
-//! no code here but that of the tests.
+//! Calls of the libraries of fields, times, subproblems, fractions and judged trees, of which no run of the program tells the
+//! answer. There is no code here but that of the tests.
 #![tactic(auto)]
 
 #[cfg(test)]
@@ -8,6 +8,8 @@ mod assertions;
 mod fields;
 #[cfg(test)]
 mod fractions;
+#[cfg(test)]
+mod hinted_trees;
 #[cfg(test)]
 mod leg_times;
 #[cfg(test)]

@@ -26,8 +26,9 @@ const ROTATION_OPTIONS: &[Argument<'static>] = &[
     Argument::Option("visits"),
 ];
 
-/// `[--nodes N] [--pivots P] [--all-pivots] [--json]`: how a plan is looked for, and how it is told.
+/// `[--search fixed|free] [--nodes N] [--pivots P] [--all-pivots] [--json]`: how a plan is looked for, and how it is told.
 const SEARCH_OPTIONS: &[Argument<'static>] = &[
+    Argument::Option("search"),
     Argument::Option("nodes"),
     Argument::Option("pivots"),
     Argument::Flag("all-pivots"),

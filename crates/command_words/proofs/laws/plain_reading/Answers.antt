@@ -1,4 +1,4 @@
-use Rattle.command_words.proofs.AfterDashes.{asks_by_default, asks_from, checks_by_default, checks_from, due_by_default, due_within, judges_by_default, judges_from, makes_by_default, makes_without_options, solves_by_default, solves_within, solves_without_budget, tails_by_default, tails_within}
+use Rattle.command_words.proofs.AfterDashes.{asks_by_default, asks_from, checks_by_default, checks_from, due_by_default, due_within, judges_by_default, judges_from, makes_by_default, makes_without_options, solves_by_default, solves_by_way, solves_freely, solves_within, solves_without_budget, tails_by_default, tails_within}
 use Rattle.command_words.proofs.PlainDue.{due_plainly}
 use Rattle.command_words.proofs.PlainFolder.{checks_plainly, judges_plainly, solves_plainly}
 use Rattle.command_words.proofs.PlainMake.{makes_plainly}
@@ -19,6 +19,8 @@ returns c = record {
   judges_by_default = judges_by_default;
   judges_from = judges_from;
   solves_by_default = solves_by_default;
+  solves_by_way = solves_by_way;
+  solves_freely = solves_freely;
   solves_within = solves_within;
   solves_without_budget = solves_without_budget;
   checks_by_default = checks_by_default;

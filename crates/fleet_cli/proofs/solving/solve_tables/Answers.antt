@@ -1,5 +1,12 @@
 use Rattle.std.proofs.lemmas.Result.{IfOk-weaker}
+use Rattle.plan_search.proofs.Proven.{is_proven}
 use Rattle.fleet_cli.proofs.solving.solve_tables.Goals as goal
+
+pub show_solved-requires-clause-right : goal.show_solved-requires-clause-right
+show_solved-requires-clause-right c = (is_proven _ _ _ _ c.in_ok-solved.ensures).right
+
+pub show_solved-requires-clause-tree : goal.show_solved-requires-clause-tree
+show_solved-requires-clause-tree c = (is_proven _ _ _ _ c.in_ok-solved.ensures).of_tables
 
 pub returns : goal.returns
 returns c = IfOk-weaker c.show_solved.result _ _

@@ -1,0 +1,34 @@
+use Rattle.std.proofs.Common.{arith}
+use Rattle.fleet_model.proofs.FewChoices.{few_choice}
+use Rattle.cert_check.proofs.TreeSizes.{split_less, trim_less}
+use Rattle.hinted_trees.proofs.Answered.{not_here, of_split, of_trim, sound_here, split_parts, trim_parts}
+use Rattle.hinted_trees.proofs.answering.+answers.Goals as goal
+
+pub answers-is_answered-requires : goal.answers-is_answered-requires
+answers-is_answered-requires t c = sound_here _ _ _ _ c.requires.sound
+
+pub answers-returns-then-not-is_answered-clause-answered : goal.answers-returns-then-not-is_answered-clause-answered
+answers-returns-then-not-is_answered-clause-answered t c = not_here _ _ _ _ c.if-not-is_answered.ensures
+
+pub answers-answers_both-requires : goal.answers-answers_both-requires
+answers-answers_both-requires t c = (
+  trim_less _ _ _ _ _ _ _ _ c.in-Trim.is c.deref.ensures c.deref-in-Trim.ensures (omega (arith, c.decreases)),
+  trim_parts _ _ _ _ _ _ _ _ _ _ c.deref.ensures c.deref-in-Trim.ensures c.in-Trim.is c.requires.known c.requires.sound,
+)
+
+pub answers-answers_both-requires-in-Split : goal.answers-answers_both-requires-in-Split
+answers-answers_both-requires-in-Split t c = (
+  split_less _ _ _ _ _ _ _ _ _ _ c.in-Split.is c.deref-in-Split.ensures c.deref-in-Split-2.ensures (omega (arith, c.decreases)),
+  split_parts _ _ _ _ _ _ _ _ _ _ c.deref-in-Split.ensures c.deref-in-Split-2.ensures _ _ c.in-Split.is c.requires.known c.requires.sound,
+)
+
+pub answers-returns-in-Trim-clause-answered : goal.answers-returns-in-Trim-clause-answered
+answers-returns-in-Trim-clause-answered t c =
+    of_trim _ _ _ _ _ _ _ _ _ _ c.deref.ensures c.deref-in-Trim.ensures _ c.if-not-is_answered.ensures c.answers_both.ensures.answered c.in-Trim.is
+
+pub answers-returns-in-Split-clause-answered : goal.answers-returns-in-Split-clause-answered
+answers-returns-in-Split-clause-answered t c =
+    of_split _ _ _ _ _ _ _ _ _ _ c.deref-in-Split.ensures c.deref-in-Split-2.ensures _ c.if-not-is_answered.ensures c.answers_both-in-Split.ensures.answered _ _ c.in-Split.is
+
+pub answers_part-narrow-undo-requires-clause-fleet : goal.answers_part-narrow-undo-requires-clause-fleet
+answers_part-narrow-undo-requires-clause-fleet t c = few_choice _ _ _ c.requires.pair

@@ -1,0 +1,2 @@
+pub mod FreeTrees
+pub mod Parts
