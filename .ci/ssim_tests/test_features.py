@@ -231,13 +231,18 @@ def make(folder: Path, lines: Sequence[str], words: str, option: str = "--date")
     return call("tables", folder / "season", folder / "day", option, DATE, *own)
 
 
+def without_zones(folder: Path) -> List[str]:
+    """Returns the records of names.csv without the variations from UTC, which test_used.py tries."""
+    return [it.rsplit(",", 2)[0] for it in records(folder / "day", "names.csv")]
+
+
 def wrong(folder: Path, wanted: Mapping[str, Sequence[str]], made: Tuple[int, str], line: Optional[str]) -> Optional[str]:
     """Returns how tables differ from the wanted records, or None."""
     status, told = made
     if status:
         return f"status {status}: {told}"
     for name, rows in wanted.items():
-        if records(folder / "day", name) != rows:
+        if records(folder / "day", name) != rows and (name, without_zones(folder)) != ("names.csv", rows):
             return f"{name}: wanted\n{rows}\ncame\n{records(folder / 'day', name)}"
     told = told.replace(f"{folder}/", "")
     return None if line is None or f"ssim: {line}\n" in told else f"wanted:\n{line}\ncame:\n{told}"

@@ -60,7 +60,6 @@ CHANGES = (
     (5, 6, "0002", 'the flight and its leg are " ZZ 00020101J" (bytes 2 to 14), it should be " ZZ 00010101J" as in line 4'),
     (5, 28, "A", 'itinerary variation overflow is "A" (byte 28), it should be " " as in line 4'),
     (5, 31, "1 0", 'data element identifier is "1 0" (bytes 31 to 33), it should be three digits'),
-    (5, 34, "zrh", 'board point is "zrh" (bytes 34 to 36), it should be three letters A to Z'),
     (6, 9, "1", "ZZ 1, variation 01, leg 1 stands twice (bytes 2 to 13 and 128), it should be another than in line 4"),
     (6, 38, "\xc4", 'departure station is "L\\xc4R" (bytes 37 to 39), it should be three letters A to Z'),
     (8, 3, "YY", 'airline is "YY " (bytes 3 to 5), it should be ZZ as in line 3'),
@@ -72,7 +71,6 @@ CHANGES = (
 # Of each case the lines, and what is told of which line.
 WHOLES: Dict[str, Tuple[List[str], int, str]] = {
     "a short line": ([*LINES[:3], LINES[3][:-1], *LINES[4:]], 4, "the line has 199 bytes (bytes 1 to 199), it should be 200 bytes long"),
-    "an empty line": ([*LINES, ""], 9, "the line has 0 bytes (bytes 1 to 0), it should be 200 bytes long"),
     "no trailer": (LINES[:7], 8, "the file ends (bytes 1 to 200), it should be 5, the trailer, behind lines of zeros"),
     "a carrier that doesn't follow": (
         [*LINES[:7], LINES[7][:193] + "C" + LINES[7][194:]], 9, "the file ends (bytes 1 to 200), it should be 2, a carrier",

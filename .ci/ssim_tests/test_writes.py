@@ -148,7 +148,7 @@ def test_places_of_a_plan(scratch: Path) -> None:
     assert not (scratch / "no").exists()
     new = scratch / "season"
     new.write_bytes(FILE.read_bytes())
-    assert call("plan", new, scratch / "day", new)[0] == 0
+    assert call("plan", new, scratch / "day", "--in-place")[0] == 0
     assert new.read_bytes() == FILE.read_bytes()
     with failing("replace", 1):
         assert call("plan", FILE, scratch / "day", new)[0] == 7

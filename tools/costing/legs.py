@@ -113,4 +113,4 @@ def plain_names(folder: str, rows: Sequence[Sequence[str]]) -> Dict[str, str]:
         return {}
     from schedule_files import naming
 
-    return naming.plain_names(read_table(path, (naming.NAMES,))[1])
+    return naming.plain_names(read_table(path, (naming.NAMES, naming.ZONED))[1])

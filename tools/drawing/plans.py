@@ -13,6 +13,7 @@ from drawing.compared import Change, Comparison
 from drawing.flights import Chain, Window, nights, unrolled, waits, window
 from drawing.lanes import lanes_of
 from drawing.rotations import Rotation, rotations_of, tour_of
+from drawing.zones import zones_of
 from fleetplan import schedule
 from fleetplan.errors import FAULT, Unread
 from fleetplan.records import rows_of
@@ -118,6 +119,7 @@ class Plan:
         if len(self.choice) * self.days // wanted.period > MOST_DRAWN:
             raise Unread(f"{len(self.choice)} flights on {self.days} dates are too many to draw: give fewer --dates", TOO_MUCH)
         self.calendar = Calendar(wanted.day_start, wanted.period, self.days, wanted.first)
+        self.zones = zones_of(wanted.folder)
         self.rotations = rotations_of(self.schedule, self.choice)
         self.fleets = self.fleets_drawn()
         self.comparison = Comparison(wanted.against, self.schedule, self.choice) if wanted.against else None

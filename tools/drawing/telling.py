@@ -9,6 +9,7 @@ from drawing.calendars import Calendar
 from drawing.colours import Palette
 from drawing.flights import Departure
 from drawing.plans import Plan, Row
+from drawing.zones import local_times
 from fleetplan.tables import NO_FLEET
 from fleetplan.times import DAY
 
@@ -91,7 +92,9 @@ class Teller:
     def notes(self, flown: Departure) -> List[str]:
         """Returns what is to be said of a flight beside its times."""
         plan, leg = self.plan, flown.leg
-        found = []
+        at = plan.calendar.day_start
+        local = local_times(plan.zones, leg.flight, flown.departs + at, flown.lands + at)
+        found = [local] if local else []
         if leg.shift:
             found.append(f"{abs(leg.shift)} minutes {'later' if leg.shift > 0 else 'earlier'} than in legs.csv")
         if leg.flight in plan.schedule.skips:

@@ -63,7 +63,7 @@ def plain(text: str) -> str:
 
 def printed(text: str) -> str:
     """Returns a text of bytes, each a letter, in which those that aren't plain ASCII can be seen."""
-    return "".join(it if 32 <= ord(it) < 127 else f"\\x{ord(it):02x}" for it in text)
+    return "".join(it if 32 <= ord(it) < 127 else _number(it) for it in text)
 
 
 def listed(names: Iterable[str]) -> str:

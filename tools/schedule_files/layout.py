@@ -167,10 +167,10 @@ SEGMENT = Layout(
     SERVICE,
     Field("itinerary variation overflow", 28, 28, "[A-Z0-9 ]", "a letter, a digit or a blank"),
     Field("data element identifier", 31, 33, "[0-9]{3}", "three digits"),
-    a_station("board point", 34),
-    a_station("off point", 37),
     SERIAL,
 )
+# The points of a segment are of no use here: one that isn't of its form is told.
+POINTS = a_station("board point", 34), a_station("off point", 37)
 TRAILER = Layout(
     AN_AIRLINE,
     a_creation("release date", 6),

@@ -13,6 +13,8 @@ from schedule_files.selecting import Flown
 
 # The header of names.csv: of which leg of which line, on which date, each name is.
 NAMES = ("flight", "airline", "number", "suffix", "variation", "leg", "line", "operates")
+# The same with the variations from UTC at which it departs and arrives. Both headers are read, and this one is written.
+ZONED = (*NAMES, "dep-utc", "arr-utc")
 MOST_BYTES = 8
 LETTERS = "ABCDEFGHIJKLMNOPQRSTUVWXYZ"
 
@@ -45,7 +47,7 @@ def plain_names(rows: Sequence[Sequence[str]]) -> Dict[str, str]:
     one of its legs stands there."""
     several = {tuple(row[1:4]) for row in rows if row[5] != "1"}
     found = {}
-    for flight, *number, _, sequence, _, _ in rows:
+    for flight, *number, _, sequence, _, _ in (it[: len(NAMES)] for it in rows):
         if tuple(number) not in several or sequence.isdigit() and 1 <= int(sequence) <= len(LETTERS):
             plain = "".join([*number, LETTERS[int(sequence) - 1] if tuple(number) in several else ""])
             found.update({flight: plain} if len(plain) <= MOST_BYTES else {})

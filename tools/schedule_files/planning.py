@@ -19,7 +19,7 @@ from schedule_files.changing import Change, changes_told
 from schedule_files.days import WEEK, Dates, iso, text_of, weekday_of
 from schedule_files.files import rows
 from schedule_files.layout import BadLine, ZEROS
-from schedule_files.naming import NAMES
+from schedule_files.naming import NAMES, ZONED
 from schedule_files.reading import MOST_RECORDS, Leg, Schedule, read_schedule
 from schedule_files.retiming import common_dates, move_of, moved, retimed
 from schedule_files.splitting import LEFT_OUT, Changes, Chosen, Held, Part, Planned, parts_by_date, parts_by_weekday
@@ -65,7 +65,7 @@ class Planning(NamedTuple):
 def planning_of(schedule: Schedule, folder: str, scope: Scope) -> Planning:
     """Returns what the plan of a folder changes, or raises Unread."""
     path = os.path.join(folder, "names.csv")
-    named, ways = rows(path, NAMES), ways_of(folder)
+    named, ways = [it[: len(NAMES)] for it in rows(path, NAMES, ZONED)], ways_of(folder)
     plan, added = plan_of(folder, [it[0] for it in named], ways)
     legs = {it.number: it for it in schedule.legs}
     flown = [leg_named(schedule, legs, path, number, row) for number, row in enumerate(named, 2)]
@@ -285,10 +285,11 @@ def variations_of(pieces: Sequence[Piece], changes: Mapping[Itinerary, Changes])
 
 
 class Writer:
-    """The lines of the new file. Serial numbers are counted as they are written."""
+    """The lines of the new file. Serial numbers are counted as they are written. `changed` are the lines of the carriers that a plan
+    changes."""
 
-    def __init__(self, schedule: Schedule, pieces: Sequence[Piece], variations: Variations) -> None:
-        self.schedule, self.variations = schedule, variations
+    def __init__(self, schedule: Schedule, pieces: Sequence[Piece], variations: Variations, changed: Set[int]) -> None:
+        self.schedule, self.variations, self.changed = schedule, variations, changed
         self.pieces: Dict[int, List[Piece]] = {}
         for it in pieces:
             self.pieces.setdefault(it.leg.carrier.number, []).append(it)
@@ -315,8 +316,7 @@ class Writer:
                 self.lines.extend([ZEROS] * zeros)
             kind, zeros = line[0], 0
         self.lines.extend([ZEROS] * zeros)
-        end = self.schedule.end
-        return (end.join(self.lines) + (end if self.schedule.is_ended else "")).encode("latin-1")
+        return self.schedule.encoded(self.lines)
 
     def put(self, line: str) -> None:
         """Writes a record with the next serial number."""
@@ -325,10 +325,10 @@ class Writer:
 
     def trailer(self, carrier: int, number: int, line: str, kind: str, zeros: int) -> None:
         """Writes the legs of a carrier, the lines of zeros behind them, and the trailer. Where such lines filled the last block of five,
-        or none was wanted, they fill it again."""
+        or none was wanted, they fill it again, of a carrier that is changed."""
         for it in self.pieces.get(carrier, ()):
             self.leg(it)
-        if kind != "2" and (number - 1) % BLOCK == 0:
+        if kind != "2" and (number - 1) % BLOCK == 0 and carrier in self.changed:
             zeros = -len(self.lines) % BLOCK
         self.lines.extend([ZEROS] * zeros)
         self.put(f"{line[:187]}{self.serial:06}{line[193:]}")
@@ -364,7 +364,7 @@ def write_plan(schedule: Schedule, folder: str, scope: Scope, laying: Laying) ->
     variations = variations_of(pieces, changes)
     if max(variations.values(), default=0) >= 100 * len(LETTERS):
         raise Unread(f"{schedule.path}: a flight would have more than {100 * len(LETTERS) - 1} itinerary variations")
-    writer = Writer(schedule, pieces, variations)
+    writer = Writer(schedule, pieces, variations, {carrier for carrier, *_ in changes})
     data = writer.write()
     if writer.serial > MOST_RECORDS:
         line = len(schedule.lines)

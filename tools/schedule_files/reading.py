@@ -2,7 +2,7 @@
 
 from __future__ import annotations
 
-from typing import Dict, List, Sequence, Tuple
+from typing import Dict, Iterator, List, NamedTuple, Sequence, Tuple
 
 from fleetplan.errors import Unread
 from fleetplan.texts import printed
@@ -24,6 +24,18 @@ WORDS = {
 }
 # The segment data of a leg that is flown under another number.
 OPERATIONAL_LEG = "050"
+
+
+# What may stand behind the last record: ends of lines, and Ctrl-Z. How letters beyond ASCII are kept.
+BEHIND, CTRL_Z = "\r\n\x1a", "\x1a"
+CODING = "surrogateescape"
+
+
+class Warned(NamedTuple):
+    """What isn't as it should be in a line, and isn't used: the line's number, and what is told."""
+
+    number: int
+    what: str
 
 
 class Carrier:
@@ -88,21 +100,55 @@ class Leg:
 
 
 class Schedule:
-    """A schedule file: its path, its lines without their ends, how they end, whether the last one does, and its carriers."""
+    """A schedule file: its path, its lines without their ends, how they end, what stands behind the last one, its carriers, and warnings of
+    what isn't as it should be and isn't used. A byte that isn't ASCII is a letter as Python's "surrogateescape" has it, but in a line of 200
+    letters in UTF-8."""
 
     def __init__(self, path: str, data: bytes) -> None:
         self.path = path
-        lines = data.decode("latin-1").split("\n")
-        self.is_ended = lines[-1] == ""
-        if self.is_ended:
-            lines.pop()
+        text = data.decode("ascii", CODING)
+        whole = text.rstrip(BEHIND) or text
+        self.tail = text[len(whole) :]
+        lines = whole.split("\n")
         self.end = "\n"
-        if lines and all(it.endswith("\r") for it in lines[: None if self.is_ended else -1]) and lines[0].endswith("\r"):
+        if len(lines) > 1 and not self.tail.startswith("\n") and all(it.endswith("\r") for it in lines[:-1]):
             self.end = "\r\n"
-            lines = [it[:-1] if it.endswith("\r") else it for it in lines]
-        self.lines = lines
-        self.carriers = Reader(path, lines).read()
+            lines = [*(it[:-1] for it in lines[:-1]), lines[-1]]
+        self.lines = [it if len(it) == LENGTH else in_letters(it) for it in lines]
+        reader = Reader(path, self.lines)
+        self.carriers = reader.read()
         self.legs = [it for carrier in self.carriers for it in carrier.legs]
+        self.warnings = sorted([*reader.warnings, *of_letters(self.lines), *of_tail(self.tail, self.end, len(lines))])
+
+    def encoded(self, lines: Sequence[str]) -> bytes:
+        """Returns the bytes of lines that stand in the place of its own."""
+        return (self.end.join(lines) + self.tail).encode("utf-8", CODING)
+
+
+def in_letters(line: str) -> str:
+    """Returns a line that has 200 letters in UTF-8 as these, and any other as it is."""
+    try:
+        letters = line.encode("ascii", CODING).decode("utf-8")
+    except UnicodeDecodeError:
+        return line
+    return letters if len(letters) == LENGTH else line
+
+
+def of_letters(lines: Sequence[str]) -> Iterator[Warned]:
+    """Yields the lines with letters beyond ASCII. Those of fields that are judged are refused before."""
+    for number, line in enumerate(lines, 1):
+        if not line.isascii():
+            at = next(at for at, it in enumerate(line, 1) if not it.isascii())
+            yield Warned(number, f"byte {at} isn't ASCII")
+
+
+def of_tail(tail: str, end: str, number: int) -> Iterator[Warned]:
+    """Yields what stands behind the last line, whose number is given: empty lines and Ctrl-Z."""
+    behind = tail[len(end) :] if tail.startswith(end) else tail
+    at = number + tail.startswith(end)
+    *empty, last = behind.split("\n")
+    for more, it in enumerate([*empty, *([last] if last.strip("\r") else [])]):
+        yield Warned(at + more, "Ctrl-Z stands behind the trailer" if CTRL_Z in it else "an empty line stands behind the trailer")
 
 
 class Reader:
@@ -113,6 +159,7 @@ class Reader:
         self.serial, self.state, self.leg = 0, "", Leg()
         self.carriers: List[Carrier] = []
         self.known: Dict[Tuple[object, ...], int] = {}
+        self.warnings: List[Warned] = []
         self.takes = {"1": self.header, "2": self.carrier, "3": self.leg_record, "4": self.segment, "5": self.trailer}
 
     def read(self) -> List[Carrier]:
@@ -231,6 +278,9 @@ class Reader:
         if line[27] != of[127]:
             field = layout.SEGMENT["itinerary variation overflow"]
             raise field.fault(self.path, number, line, f'"{of[127]}" as in line {self.leg.number}')
+        for point in layout.POINTS:
+            if not point.form.fullmatch(point.of(line)):
+                self.warnings.append(Warned(number, f'{point.name} is "{printed(point.of(line))}" ({point.where}), it should be {point.should}'))
         self.count(number, line)
         self.leg.last = number
         self.leg.is_duplicate |= line[30:33] == OPERATIONAL_LEG

@@ -19,7 +19,8 @@ from schedule_files.changing import Changing, Charged
 from schedule_files.days import Dates, iso
 from schedule_files.figures import Figured, Priced
 from schedule_files.files import write_tables
-from schedule_files.naming import NAMES
+from schedule_files.layout import LEG
+from schedule_files.naming import ZONED
 from schedule_files.reading import Schedule
 from schedule_files.selecting import Choice, Flown
 
@@ -119,7 +120,13 @@ class Tables:
         if "windows" in self.sources.asked:
             texts["plan.csv"] = text_of(SHIFTED, [(it.name, it.fleet, 0) for it in self.flown])
         parts = self.priced.texts() if self.priced else {}
-        return {**self.tables(), **texts, **parts, "names.csv": text_of(NAMES, [named(it) for it in self.flown])}
+        return {**self.tables(), **texts, **parts, "names.csv": text_of(ZONED, [self.named(it) for it in self.flown])}
+
+    def named(self, it: Flown) -> Tuple[object, ...]:
+        """Returns the record of names.csv of a leg."""
+        leg, line = it.leg, self.schedule.lines[it.leg.number - 1]
+        own = it.name, leg.airline.strip(), leg.flight, leg.suffix.strip(), leg.variation, leg.sequence, leg.number, iso(it.operates)
+        return (*own, *(LEG[f"{end}'s variation from UTC"].of(line) for end in ("departure", "arrival")))
 
     def made(self) -> str:
         """Returns the text of what says how the tables were made."""
@@ -185,12 +192,6 @@ class Tables:
 def encoded(name: str, records: Iterable[Iterable[object]]) -> str:
     """Returns the text of a table with its first header."""
     return text_of(HEADERS[name], records)
-
-
-def named(it: Flown) -> Tuple[object, ...]:
-    """Returns the record of names.csv of a leg."""
-    leg = it.leg
-    return it.name, leg.airline.strip(), leg.flight, leg.suffix.strip(), leg.variation, leg.sequence, leg.number, iso(it.operates)
 
 
 def make_tables(schedule: Schedule, folder: str, dates: Dates, choice: Choice, sources: Sources) -> List[str]:

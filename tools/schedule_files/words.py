@@ -38,7 +38,7 @@ TABLES = {
 }
 # The options that may stand several times.
 SEVERAL = ("map",)
-PLAN = {"whole-season": None, "days": "12345", "anyway": None}
+PLAN = {"whole-season": None, "days": "12345", "anyway": None, "in-place": None}
 # The files of figures that stand in the place of --costs. With them --types is one, and --types-only says what it says else.
 NEW = {it: "FILE" for it in FIGURES if it not in TABLES}
 # How many days tables are of, by the option that says the first one.
@@ -63,6 +63,7 @@ USAGE = f"""usage: tools/ssim tables FILE DIR {" | ".join(f"--{it} {TABLES[it]}"
                   {in_lines(TABLES)}
                   [{" ".join(f"--{it} FILE" for it in FIGURES[:2])} {" ".join(f"[--{it} FILE]" for it in FIGURES[2:])}]
        tools/ssim plan FILE DIR NEW {in_lines(PLAN)}
+       tools/ssim plan FILE DIR --in-place [OPTION ..]
 docs/formats.md#schedule-files says what they do"""
 
 
@@ -203,14 +204,19 @@ def families(found: Mapping[str, str]) -> Dict[str, str]:
 
 
 class PlanCall:
-    """A call of `plan`: its file, its folder, the new file, on which dates the plan is laid, and whether the new file is written where the
-    fleets can't fly it."""
+    """A call of `plan`: its file, its folder, the new file, on which dates the plan is laid, whether the new file is written where the fleets
+    can't fly it, and whether it may stand in the place of the file that is read."""
 
     def __init__(self, words: Sequence[str]) -> None:
         rest, found = given(words, PLAN)
+        self.is_in_place = "in-place" in found
+        if len(rest) == 2 and self.is_in_place:
+            rest.append(rest[0])
         if len(rest) != 3:
             raise Usage
         self.path, self.folder, self.new = rest
+        if self.is_in_place and self.new != self.path:
+            raise Usage("--in-place writes FILE itself, and NEW is another")
         self.laying = Laying("whole-season" in found, weekdays(found))
         if self.laying.is_season and self.laying.days:
             raise Usage("--whole-season and --days stand both")
