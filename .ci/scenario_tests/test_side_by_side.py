@@ -41,7 +41,7 @@ def test_table(scratch: Path) -> None:
         "| one F1 less | 16,760 | 0 \\* |\n"
         "| one F2 less |  | -2,000 to 1,000 |\n"
         "\n"
-        "\\* A fleet has no tour, so this plan can't be flown as asked.\n",
+        "\\* A fleet has no tour, or none was found, so this plan can't be flown as asked.\n",
         "",
     )
 

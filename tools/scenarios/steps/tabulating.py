@@ -10,7 +10,7 @@ from steps.sums import IN_SUM
 from steps.telling import AS_IT_IS
 
 MARK = "\\*"
-WHY = f"{MARK} A fleet has no tour, so this plan can't be flown as asked."
+WHY = f"{MARK} A fleet has no tour, or none was found, so this plan can't be flown as asked."
 
 
 def table_of(lines: Sequence[Line]) -> List[str]:
