@@ -31,6 +31,7 @@ def faults(tries: Tries, scratch: Path, _: int) -> None:
     if is_root():
         full_disk(tries, scratch, sound)
         no_writing(tries, scratch, sound)
+        places_by_slurm(tries, scratch)
     else:
         tries.without("a full disk, and a folder that may not be written", "root, who mounts a disk and gives folders away")
 
@@ -176,3 +177,26 @@ def no_writing(tries: Tries, scratch: Path, sound: Run) -> None:
     tries("a folder that may not be written", status != 0 and outcomes == wanted, f"{outcomes[:1]}")
     shutil.rmtree(own, ignore_errors=True)
     tries("opened again: the same summary", run.on(2) == 0 and run.summary() == sound.summary())
+
+
+def places_by_slurm(tries: Tries, scratch: Path) -> None:
+    """Of eight scenarios in one job of a cluster one has a folder that may not be written, and another one a disk that is full: these two
+    fail alone. With room for both what stood isn't done again."""
+    if slurm_here.lacks():
+        tries.without("folders that can't be written, by Slurm", slurm_here.lacks())
+        return
+    rows = [*THREE, *((f"more{it}", "", "", f"cost A220 *1.{it}") for it in range(1, 6))]
+    ample = Run(scratch / "ample-places", HUB_DAY, rows, pictures="false")
+    tries("eight scenarios", ample.on(2) == 0)
+    run = Run(scratch / "places", HUB_DAY, rows, pictures="false")
+    with slurm_here.Slurm() as slurm:
+        with mounted(run.place("less"), "ro,size=1m"), mounted(run.place("more2"), "size=4k"):
+            status = run.go("slurm", environment=slurm.environment)
+            outcomes = [(it["scenario"], it["outcome"]) for it in run.summary()]
+            standing = run.done()
+        wanted = [(it, "NOT SOLVED") for it in ("less", "more2")] + [(it[0], "optimal") for it in rows if it[0] not in ("less", "more2")]
+        tries("a folder that may not be written and a full disk, by Slurm", status != 0 and outcomes == wanted, f"{outcomes[:3]}")
+        status, after = run.go("slurm", environment=slurm.environment), run.done()
+    again = [it for it, mark in standing.items() if after.get(it) != mark]
+    is_right = status == 0 and run.summary() == ample.summary() and not again
+    tries("with room for both: the same summary, and what stood isn't done again", is_right, f"{len(again)} of {len(standing)} were")

@@ -136,6 +136,10 @@ class Run:
         outputs = [it for name in ("tables", "solved", "check.json", "sizes.json", "drawn") for it in self.folder.glob(f"scenarios/*/{name}")]
         return {it: (it.stat().st_ino, (it / ".snakemake_timestamp" if it.is_dir() else it).stat().st_mtime_ns) for it in finished(outputs)}
 
+    def answered(self) -> Dict[Path, int]:
+        """Returns the time of each solution that stands there, which the engine leaves alone when it sets the times of outputs."""
+        return {it: it.stat().st_mtime_ns for it in self.folder.glob("scenarios/*/solved/answer.json")}
+
     def wait_until_done(self, number: int, engine: Engine, output: str = "check.json") -> bool:
         """Waits until an output of so many scenarios stands there, and returns whether the engine is still at work then."""
         while engine.poll() is None and len(list(self.folder.glob(f"scenarios/*/{output}"))) < number:

@@ -9,6 +9,7 @@ status is that of the command. Wants root, and Debian's slurm-wlm and munge."""
 
 from __future__ import annotations
 
+import contextlib
 import os
 import secrets
 import shutil
@@ -153,6 +154,36 @@ class Slurm:
         except subprocess.TimeoutExpired:
             daemon.kill()
             daemon.wait()
+
+    def kill_work(self, jobs: Sequence[str]) -> int:
+        """Kills all that jobs have at work, as when their machine is lost, by the ids of the processes, and returns how many there were."""
+        number, killed = 1, 0
+        while number:
+            found = [it for job in jobs for it in self.work_of(job)]
+            number = len(found)
+            killed += number
+            for it in found:
+                with contextlib.suppress(ProcessLookupError):
+                    os.kill(it, signal.SIGKILL)
+            time.sleep(0.05)
+        return killed
+
+    def work_of(self, job: str) -> List[int]:
+        """Returns the ids of the processes of a job of this Slurm, that which waits for its end first."""
+        own = {f"SLURM_JOB_ID={job}".encode(), f"SLURM_CONF={self.environment['SLURM_CONF']}".encode()}
+        found: List[int] = []
+        for it in Path("/proc").glob("[0-9]*"):
+            with contextlib.suppress(OSError):
+                is_gone = (it / "stat").read_text(encoding="ascii", errors="replace").rpartition(")")[2].split()[0] == "Z"
+                if own <= set((it / "environ").read_bytes().split(b"\0")) and not is_gone:
+                    found.append(int(it.name))
+                elif (it / "cmdline").read_bytes().startswith(f"slurmstepd: [{job}.".encode()) and self.is_own(it):
+                    found.insert(0, int(it.name))
+        return found
+
+    def is_own(self, process: Path) -> bool:
+        """Returns whether a process of Slurm is of this one: it writes into a file of this folder."""
+        return any(os.readlink(it).startswith(str(self.folder)) for it in (process / "fd").iterdir())
 
     def __exit__(self, *_: object) -> None:
         if "slurmctld" in self.daemons:

@@ -6,6 +6,7 @@ from pathlib import Path
 from typing import Dict, List, Optional, Tuple
 
 import pytest
+from fleetplan.errors import Unread
 from scenario_tests.laid import FAULT, lay_ended, optimal
 from steps.starting import Wanted, forecast, is_dry, is_done, locked, own_seconds, undrawn, wants_pictures
 
@@ -17,6 +18,8 @@ PICTURES: List[Tuple[object, int, bool, bool]] = [
     (True, 201, True, False),
     (False, 5, False, False),
     (False, 201, False, False),
+    ("True", 201, True, False),
+    ("false", 5, False, False),
 ]
 
 
@@ -24,6 +27,13 @@ PICTURES: List[Tuple[object, int, bool, bool]] = [
 def test_pictures(asked: object, number: int, is_drawn: bool, is_told: bool) -> None:
     """More than 200 scenarios are drawn only where that is asked for, and it is told that they aren't."""
     assert (wants_pictures(asked, number), undrawn(asked, number) is not None) == (is_drawn, is_told)
+
+
+def test_pictures_that_are_neither() -> None:
+    """Another word about pictures is refused, and not taken for one of both."""
+    with pytest.raises(Unread) as error:
+        wants_pictures("maybe", 5)
+    assert str(error.value) == "pictures: maybe in config.yaml is none of true, false and nothing"
 
 
 @pytest.mark.parametrize(

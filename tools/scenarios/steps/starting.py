@@ -8,7 +8,8 @@ import os
 import re
 from typing import List, Mapping, NamedTuple, Optional, Sequence
 
-from fleetplan.texts import counted, typed
+from fleetplan.errors import Unread
+from fleetplan.texts import counted, plain, typed
 from steps.solving import ANSWER, CHECK, DRAWN, SIZES, Answer, read_json
 
 # How many scenarios are drawn where nobody says whether they are.
@@ -23,13 +24,16 @@ MINUTE, HOUR = 60, 3600
 
 
 def wants_pictures(asked: object, number: int) -> bool:
-    """Returns whether so many scenarios are drawn, by what `config.yaml` says of it: true, false, or nothing."""
-    return bool(asked) if asked not in ("", None) else number <= MOST_DRAWN
+    """Returns whether so many scenarios are drawn, by what `config.yaml` says of it: true, false, or nothing; or raises Unread."""
+    text = "" if asked is None else str(asked).lower()
+    if text not in ("", "true", "false"):
+        raise Unread(f"pictures: {plain(text)} in config.yaml is none of true, false and nothing")
+    return text == "true" if text else number <= MOST_DRAWN
 
 
 def undrawn(asked: object, number: int) -> Optional[str]:
     """Returns what is told where scenarios aren't drawn since they are many, or None."""
-    if asked not in ("", None) or number <= MOST_DRAWN:
+    if asked not in ("", None) or wants_pictures(asked, number):
         return None
     return f"{number:,} scenarios are more than {MOST_DRAWN}, so no plan is drawn: `pictures: true` in config.yaml draws them"
 
