@@ -152,14 +152,19 @@ def test_words_against_a_base(scratch: Path) -> None:
         "less,--days 4,own,aircraft F2 -1,base",
         "other,--days 5,ours,cost F1 *1.1; aircraft F2 -1,base",
         "bare,,,,base",
+        '"longer","--search free --nodes 5 --visits=9 --days=4",own,"cost F1 *1.1; aircraft F2 -1",base',
+        '"odd","--days 4 --week",own,"cost F1 *1.1; aircraft F2 -1",base',
     ]
-    lay_run(scratch, "\n".join([f"{HEADER},base", *listed, ""]), {it.split(",")[0]: optimal(1) for it in listed})
+    lay_run(scratch, "\n".join([f"{HEADER},base", *listed, ""]), {it.split(",")[0].strip('"'): optimal(1) for it in listed})
     assert column(scratch, "changes") == {
         "base": "tables of own; F1 costs 10 % more; one F2 less; with --days 4",
         "more": "one F2 less",
         "less": "not: F1 costs 10 % more",
         "other": "tables of ours; with --days 5",
         "bare": "the base tables; not: F1 costs 10 % more; not: one F2 less; without --days 4",
+        # How long to search, and how, is no other question.
+        "longer": "as it is",
+        "odd": "with --days 4 --week",
     }
 
 

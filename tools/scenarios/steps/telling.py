@@ -6,10 +6,13 @@ from collections import Counter
 from typing import List, Optional, Sequence
 
 from fleetplan.texts import typed
+from fleetplan.words import OPTIONS, Call
 from steps.changes import read_change
 from steps.listing import Scenario
 
 AS_IT_IS = "as it is"
+# The options that ask for no other plan.
+SEARCHING = ("visits", "search", "nodes", "pivots", "all-pivots", "json")
 
 
 def told_of(scenario: Scenario, base: Optional[Scenario]) -> str:
@@ -22,8 +25,9 @@ def told_of(scenario: Scenario, base: Optional[Scenario]) -> str:
         parts.append(f"tables of {own.folder}" if own.folder else "the base tables")
     parts += [read_change(it).told for it in without(own.changes, other.changes)]
     parts += [f"not: {read_change(it).told}" for it in without(other.changes, own.changes)]
-    if own.words != other.words:
-        parts.append(f"with {typed(own.words)}" if own.words else f"without {typed(other.words)}")
+    words, others = asked(own.words), asked(other.words)
+    if words != others:
+        parts.append(f"with {typed(words)}" if words else f"without {typed(others)}")
     return "; ".join(parts) or AS_IT_IS
 
 
@@ -31,8 +35,18 @@ def told_alone(scenario: Scenario) -> List[str]:
     """Returns in words, one by one, what a scenario changed of the base tables."""
     own = scenario.told
     folder = [f"tables of {own.folder}"] if own.folder else []
-    words = [f"with {typed(own.words)}"] if own.words else []
+    words = [f"with {typed(asked(own.words))}"] if asked(own.words) else []
     return [*folder, *(read_change(it).told for it in own.changes), *words]
+
+
+def asked(words: Sequence[str]) -> List[str]:
+    """Returns the words of a call that ask for something else, in one order: not those that say how to search for it, and how long. Words that
+    are no call stay as they are."""
+    call = Call(["solve", ".", *words])
+    if call.faults:
+        return list(words)
+    given = [(it, call.given[it][0]) for it in OPTIONS if it in call.given and it not in SEARCHING]
+    return [word for name, text in given for word in (f"--{name}", text) if word]
 
 
 def without(texts: Sequence[str], others: Sequence[str]) -> List[str]:
