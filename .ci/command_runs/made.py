@@ -18,6 +18,7 @@ VALUES: Dict[str, Words] = {
     "search": ["fixed", "free", "Free", "fre", "frees", " free", "fixed|free", "1", ""],
     "nodes": ["0", "1000000", "1000001", ""],
     "pivots": ["0", "1000000", "1000001", "99999999999999999999", "all"],
+    "first-day": ["2026-11-27", "0001-01-01", "2026-11-28", "0000-01-01", "2026-02-29", "27.11.2026", "2026-11-27 ", ""],
 }
 # Of each word behind DIR the same.
 TEXTS: Dict[str, Words] = {
@@ -52,7 +53,7 @@ def options() -> Iterator[Words]:
     for command in COMMANDS:
         words = good(command)
         for name, option in OPTIONS.items():
-            value = [option.default or "1"] if option.form else []
+            value = [VALUES[name][0]] if option.form else []
             yield [*words, f"--{name}", *value]
             yield [command, f"--{name}", *value, *words[1:]]
             yield [*words, f"--{name}"]

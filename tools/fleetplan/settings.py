@@ -2,12 +2,11 @@
 
 from __future__ import annotations
 
-import datetime
 import os
 from typing import Dict, Iterable, List, Optional
 
 from fleetplan.errors import Unread
-from fleetplan.forms import Date, Form
+from fleetplan.forms import Form
 from fleetplan.records import record_of, records_of, text_of
 from fleetplan.tables import ASKED, DATED
 from fleetplan.texts import plain
@@ -15,11 +14,11 @@ from fleetplan.words import OPTIONS, Call
 
 NAME = "settings.csv"
 HEADER = ("word", "value")
-# The date of day 1, which is no option of the program.
+# The date of day 1.
 FIRST_DAY = "first-day"
 YES, NO = "yes", "no"
 # Of each word the form of its value, None of a flag: yes or no. What a call prints is its own matter.
-FORMS: Dict[str, Optional[Form]] = {**{name: option.form for name, option in OPTIONS.items() if name != "json"}, FIRST_DAY: Date()}
+FORMS: Dict[str, Optional[Form]] = {name: option.form for name, option in OPTIONS.items() if name != "json"}
 
 
 class Settings:
@@ -61,11 +60,6 @@ class Settings:
         """Returns the words for a call: of the options that its command takes and that it doesn't give itself."""
         return self.given(it for it in call.own.options if it not in call.given)
 
-    @property
-    def first_day(self) -> Optional[datetime.date]:
-        """The date of day 1, or None where it isn't told."""
-        return Date().read(self.values[FIRST_DAY]) if FIRST_DAY in self.values else None
-
 
 def _wrong_header(texts: List[str]) -> Optional[str]:
     """Says what is wrong with the first record, or returns None."""
@@ -92,8 +86,7 @@ def renewed(folder: str, values: Dict[str, str]) -> str:
 
 
 def doubts(call: Call, settings: Settings) -> List[str]:
-    """Says what of a folder a call leaves aside without saying so: tables, days of flights, and which date is day 1. `call` has the words of
-    the settings."""
+    """Says what of a folder a call leaves aside without saying so: tables, and days of flights. `call` has the words of the settings."""
     aside = [it for it in ASKED if it in call.own.options and not call.has(it) and settings.values.get(it) != NO]
     aside = [it for it in aside if os.path.isfile(os.path.join(call.folder, ASKED[it]))]
     told = [f"{ASKED[it]} of {call.folder} is not read: --{it} reads it" for it in aside]
@@ -102,18 +95,4 @@ def doubts(call: Call, settings: Settings) -> List[str]:
         first = record_of(legs, 1)
         if first and tuple(first.texts) == DATED:
             told.append(f"legs.csv of {call.folder} tells days, and --period says after how many days they repeat: without it 1")
-    date, first_day = _date(call), settings.first_day
-    if date and first_day:
-        day = (date - first_day).days % call.value("period")
-        if day:
-            next_one = date + datetime.timedelta(call.value("period") - day)
-            told.append(f"{date} is day {day + 1} by {settings.path}, and {call.command} takes it as day 1: the next day 1 is {next_one}")
     return told
-
-
-def _date(call: Call) -> Optional[datetime.date]:
-    """Returns the first date of a call, or None where it has none."""
-    if "DATE" not in call.own.words:
-        return None
-    found: Optional[datetime.date] = Date().read(call.words[1][1])
-    return found

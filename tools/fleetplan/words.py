@@ -66,10 +66,13 @@ OPTIONS = {
     "pivots": Option("P", Number(0, MOST_SEARCH), "20000", "how many pivots a subproblem may take in each run, 0 to 1000000"),
     "all-pivots": Option("", None, "", "lets each subproblem take all pivots that it needs, whatever --pivots says"),
     "json": Option("", None, "", "prints the summary as JSON"),
+    "first-day": Option("FIRST", Date(), "DATE", "a date that is day 1 of the period, DATE or before it"),
 }
 # The options by which the tables of a folder are read: those of one call belong to the next one over the same folder.
 READING = ("day-start", "period", "windows", "optional")
 _ROUTING = (*READING, "through-max", "days", "visits")
+# The options of calls that tell dates.
+_DATED = (*_ROUTING, "first-day")
 _DATES = {
     "DATE": Word(Date(), "the first date", "2026-11-27"),
     "COUNT": Word(Number(1, MOST_DATES), "the number of dates", "7"),
@@ -91,9 +94,9 @@ COMMANDS = {
         "makes a schedule of LEGS flights to play with, drawn from a number, and solves it",
         (), (), (*TABLES, *WRITTEN), needs_tables=False,
     ),
-    "tails": Command(_DATES, "says which aircraft flies what, on COUNT dates from DATE on", _ROUTING, ("plan.csv",)),
+    "tails": Command(_DATES, "says which aircraft flies what, on COUNT dates from DATE on", _DATED, ("plan.csv",)),
     "due": Command(
-        _DATES, "says which named aircraft flies what, so that each comes to maintenance by its own date", _ROUTING,
+        _DATES, "says which named aircraft flies what, so that each comes to maintenance by its own date", _DATED,
         ("tails.csv", "plan.csv"),
     ),
     "whatif": Command(
@@ -303,3 +306,15 @@ class Call:
             first, count = (word.form.read(text) for word, (_, text) in zip(_DATES.values(), self.words[1:]))
             if first.toordinal() + count - 1 > datetime.date.max.toordinal():
                 self.faults.append(Fault(f"{count} dates from {first} on go beyond 9999-12-31"))
+            self._compare_dates(first)
+
+    def _compare_dates(self, date: datetime.date) -> None:
+        """Notes a first day of the period that comes after the first date, with the last one that doesn't."""
+        first = self.value("first-day")
+        if first is None or first <= date:
+            return
+        earlier = date.toordinal() - (date - first).days % self.value("period")
+        mended = self.with_option("first-day", datetime.date.fromordinal(earlier).isoformat()) if earlier > 0 else None
+        helps = "any earlier day 1 of the period will do" if mended else "the calendar has no earlier day 1 of the period"
+        text = f"--first-day is {first}, after DATE, {date}: {helps}"
+        self.faults.append(Fault(text, mended, first.isoformat(), f"a day 1 of the period, {date} or before it"))

@@ -1,5 +1,5 @@
 -- Days of the proleptic Gregorian calendar, one after the other.
-use Rattle.std.specs.Prelude.{ℕ, zero, suc, ◌+◌, ◌-◌, nat_lt, if◌then◌else◌, ℤ, pos, ◌+ℤ◌, List, [], ◌∷◌, ◌++◌}
+use Rattle.std.specs.Prelude.{◌≡◌, ◌<◌, ◌⊎◌, ℕ, zero, suc, ◌+◌, ◌-◌, nat_lt, if◌then◌else◌, ℤ, pos, negsuc, ◌+ℤ◌, ◌-ℤ◌, ◌<ℤ◌, List, [], ◌∷◌, ◌++◌, Option, Some, None}
 use Rattle.jiff_core.specs.declared.civil.date.Date as civil
 use Rattle.jiff_core.specs.Calendar.{IsEpochDay, days_from_civil, days_in_month}
 use Rattle.calendar_dates.specs.declared.date.Date.{Date}
@@ -39,6 +39,19 @@ day_after d (suc n) = next_day (day_after d n)
 abbrev pub days_from : Day → ℕ → List Day
 days_from first count = list_below (day_after first) count
 
+-- one day comes before another: in an earlier year, in the same year in an earlier month, or in the same month before it
+abbrev pub IsEarlier : Day → Day → Type 0
+IsEarlier a b = (a.year <ℤ b.year) ⊎ ((a.year ≡ b.year) × ((a.month < b.month) ⊎ ((a.month ≡ b.month) × (a.day < b.day))))
+
+-- a number, where it isn't below zero
+abbrev pub where_natural : ℤ → Option ℕ
+where_natural (pos n) = Some n
+where_natural (negsuc n) = None
+
+-- how many days after the first day another one is, by their day numbers, where it isn't earlier
+unfoldable pub days_between : Day → Day → Option ℕ
+days_between first day = where_natural (day_number day -ℤ day_number first)
+
 abbrev pub no_day : Day
 no_day = record { year = pos 0; month = 0; day = 0 }
 
@@ -49,3 +62,7 @@ day_text d = year_text d.year ++ 45 ∷ [] ++ pad2 d.month ++ 45 ∷ [] ++ pad2 
 -- so many days, the date's among them, end before the calendar of `jiff` does, which has the years -9999 to 9999
 pub record HasDays (date : Date) (count : ℕ) : Type 0 where
   pub last : IsEpochDay (day_number (day_on date) +ℤ pos (count - 1))
+
+-- so many days are from -9999-01-01 to the date
+pub record IsCounted (date : Date) (days : ℕ) : Type 0 where
+  pub number : day_number (day_on date) +ℤ pos 4_371_587 ≡ pos days

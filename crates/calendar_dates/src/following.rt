@@ -1,7 +1,7 @@
 //! Dates one after the other.
-ghost use Rattle.std.specs.Prelude.{◌≡◌, ◌+ℤ◌, IfOk, map, pos};
+ghost use Rattle.std.specs.Prelude.{◌≡◌, ◌↔◌, ◌≤◌, ◌+ℤ◌, ◌≤ℤ◌, IfOk, IfSome, None, map, pos};
 ghost use Rattle.jiff_core.specs.Calendar.{IsEpochDay};
-ghost use Rattle.calendar_dates.specs.Days.{HasDays, day_after, day_number, day_on, days_from};
+ghost use Rattle.calendar_dates.specs.Days.{HasDays, IsCounted, IsEarlier, day_after, day_number, day_on, days_between, days_from};
 
 use crate::conversion::{from_civil, to_civil};
 use crate::date::Date;
@@ -30,4 +30,22 @@ fn date_after(first: Date, days: u32) -> Date
         Ok(date) => from_civil(date),
         Err(_) => unreachable!(),
     }
+}
+
+/// How many days after the first date another one is; None where it is earlier.
+pub fn days_between(first: Date, date: Date) -> Option<u32>
+    ensures days { result ≡ days_between (day_on first) (day_on date) }
+    ensures earlier { (result ≡ None) ↔ IsEarlier (day_on date) (day_on first) }
+    ensures later { IfSome result (λ days. day_on date ≡ day_after (day_on first) days) }
+    ensures few { pos 1 ≤ℤ first.year → IfSome result (λ days. days ≤ 3652058) }
+{
+    days_since_first(date).checked_sub(days_since_first(first))
+}
+
+/// The days from -9999-01-01, the first date of `jiff`, to a date.
+fn days_since_first(date: Date) -> u32
+    ensures days { IsCounted date result }
+    ensures few { result ≤ 7304483 }
+{
+    to_civil(date).to_plain().days_since_min()
 }

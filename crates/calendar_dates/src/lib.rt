@@ -1,4 +1,4 @@
-//! Dates of the calendar, reckoned with `jiff`: what a text writes as a date, and the dates after one.
+//! Dates of the calendar, reckoned with `jiff`: what a text writes as a date, the dates after one, and the days between two.
 #![tactic(auto)]
 
 mod conversion;
@@ -9,5 +9,5 @@ pub mod reading;
 pub mod text;
 
 pub use date::Date;
-pub use following::dates_from;
+pub use following::{dates_from, days_between};
 pub use reading::{civil_date, ends_in_calendar};

@@ -72,10 +72,10 @@ tails_by_default program dir date count false false = refl
 
 pub tails_within : TailsWithin
 unfolding asked found our_app clap_on_literals
-tails_within program time period wait days visits dir date count true true = refl
-tails_within program time period wait days visits dir date count true false = refl
-tails_within program time period wait days visits dir date count false true = refl
-tails_within program time period wait days visits dir date count false false = refl
+tails_within program time period wait days visits first dir date count true true = refl
+tails_within program time period wait days visits first dir date count true false = refl
+tails_within program time period wait days visits first dir date count false true = refl
+tails_within program time period wait days visits first dir date count false false = refl
 
 pub due_by_default : DueByDefault
 unfolding asked found our_app clap_on_literals
@@ -86,10 +86,10 @@ due_by_default program dir date count false false = refl
 
 pub due_within : DueWithin
 unfolding asked found our_app clap_on_literals
-due_within program time period wait days visits dir date count true true = refl
-due_within program time period wait days visits dir date count true false = refl
-due_within program time period wait days visits dir date count false true = refl
-due_within program time period wait days visits dir date count false false = refl
+due_within program time period wait days visits first dir date count true true = refl
+due_within program time period wait days visits first dir date count true false = refl
+due_within program time period wait days visits first dir date count false true = refl
+due_within program time period wait days visits first dir date count false false = refl
 
 pub makes_by_default : MakesByDefault
 unfolding asked found our_app clap_on_literals
@@ -103,6 +103,7 @@ makes_without_options = record {
   through_max = λ program text dir number legs. refl;
   days = λ program text dir number legs. refl;
   visits = λ program text dir number legs. refl;
+  first_day = λ program text dir number legs. refl;
   search = λ program text dir number legs. refl;
   nodes = λ program text dir number legs. refl;
   pivots = λ program text dir number legs. refl;

@@ -1,5 +1,5 @@
 -- Words of `tails` that are no options need no `--` before them.
-use Rattle.std.proofs.Common.{◌≡◌, ◌∙◌, [], ◌∷◌, refl, codes}
+use Rattle.std.proofs.Common.{◌≡◌, ◌∙◌, [], ◌∷◌, Some, refl, codes}
 use Rattle.clap.proofs.OnLiterals.{clap_on_literals}
 use Rattle.clap.specs.Simple.{Shape}
 use Rattle.clap.specs.Walk.{Text, nothing_held, walk}
@@ -25,7 +25,7 @@ unfolding asked found our_app clap_on_literals
 parts program dir date count = refl
 
 answers : (dir date count : Text) → answer [] (rows_by tails_shape (with_three tails_shape dir date count))
-    ≡ tails_at default_reading default_rotations (dates_at (date_read date) (count_read count)) dir
+    ≡ tails_at default_reading default_rotations (dates_at (date_read date) (count_read count) (Some 0)) dir
 unfolding our_app clap_on_literals
 answers dir date count = refl
 

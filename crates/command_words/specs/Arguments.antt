@@ -3,7 +3,7 @@ use Rattle.std.specs.Prelude.{◌≡◌, ◌≤◌, ◌%◌, ◌==◌, ℕ, Bool
 use Rattle.std.specs.Option.{option_map_or}
 use Rattle.clap.specs.Words.{Row, Text, first_of, found_of, rows_of}
 use Rattle.clap.specs.declared.parser.matches.ArgMatches.{ArgMatches}
-use Rattle.calendar_dates.specs.Days.{Day, HasDays}
+use Rattle.calendar_dates.specs.Days.{Day, HasDays, days_between}
 use Rattle.fleet_model.specs.declared.limits.TheConstants.{MAX_AIRCRAFT}
 use Rattle.fleet_model.specs.declared.options.TableOptions.{TableOptions}
 use Rattle.fleet_model.specs.declared.parts.Settings.{Settings}
@@ -134,25 +134,42 @@ options_in found = options_at (way_in found) (search_in found) (rotations_in fou
 
 -- ---- dates
 
--- so many dates, from the first on
+-- so many dates, from the first on, which comes so many days after a first day of the period
 pub record AskedDates : Type 0 where
   pub first : Day
   pub count : ℕ
+  pub past : ℕ
 
 -- the number of dates that a text writes
 abbrev pub count_read : Text → Option ℕ
 count_read text = number_read MIN_DATES MAX_DATES text
 
--- so many dates from a first one on, where both are there and the calendar has all of them
-abbrev pub dates_at : Option Day → Option ℕ → Option AskedDates
-dates_at (Some date) (Some n) = if ends_in_calendar date n then Some (record { first = date; count = n }) else None
-dates_at (Some date) None = None
-dates_at None n = None
+-- how many days a date comes after the first day of a period that a text tells, where both are there and the date isn't earlier
+abbrev pub past_from : Text → Option Day → Option ℕ
+past_from text date = option_and_then (λ first. option_and_then (days_between first) date) (date_read text)
 
--- the dates, where both words read
+-- a date is itself a first day of the period where none is told
+abbrev pub past_at : Option Text → Option Day → Option ℕ
+past_at None date = Some 0
+past_at (Some text) date = past_from text date
+
+-- so many dates from a first one on, which comes so many days after a first day of the period, where all are there and the calendar
+-- has each date
+abbrev pub dates_at : Option Day → Option ℕ → Option ℕ → Option AskedDates
+dates_at (Some date) (Some n) (Some days) =
+    if ends_in_calendar date n then Some (record { first = date; count = n; past = days }) else None
+dates_at (Some date) (Some n) None = None
+dates_at (Some date) None past = None
+dates_at None n past = None
+
+-- the first of the dates, where it reads
+abbrev pub date_in : List Row → Option Day
+date_in found = option_and_then date_read (first_of (codes "date") found)
+
+-- the dates, where all words read
 abbrev pub dates_in : List Row → Option AskedDates
 dates_in found =
-    dates_at (option_and_then date_read (first_of (codes "date") found)) (option_and_then count_read (first_of (codes "count") found))
+    dates_at (date_in found) (option_and_then count_read (first_of (codes "count") found)) (past_at (first_of (codes "first-day") found) (date_in found))
 
 -- ---- what tables are made of
 
@@ -217,9 +234,11 @@ pub record CanBeAsked (number legs : ℕ) : Type 0 where
   pub number_fits : number ≤ MAX_NUMBER
   pub legs_fit : IsLegCount legs
 
--- dates that may be asked for: from the year 1 on, and the calendar, which ends on 9999-12-31, has the last of them
+-- dates that may be asked for: from the year 1 on, and the calendar, which ends on 9999-12-31, has the last of them; from
+-- 0001-01-01 to that day are 3,652,058 days
 pub record AreDates (dates : Dates) : Type 0 where
   pub year : pos 1 ≤ℤ dates.first.year
   pub some : MIN_DATES ≤ dates.count
   pub few : dates.count ≤ MAX_DATES
   pub last : HasDays dates.first dates.count
+  pub early : dates.past ≤ 3652058

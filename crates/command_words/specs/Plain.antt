@@ -4,7 +4,7 @@ use Rattle.std.specs.Prelude.{◌≡◌, ◌==◌, ◌||◌, Bool, true, false, 
 use Rattle.clap.specs.Words.{Text}
 use Rattle.fleet_model.specs.declared.options.TableOptions.{TableOptions}
 use Rattle.fleet_model.specs.declared.parts.Settings.{Settings}
-use Rattle.command_words.specs.Arguments.{aircraft_read, count_read, dates_at, legs_read, made_number_read, options_at, reading_at, rotations_at, search_at, settings_at, way_read}
+use Rattle.command_words.specs.Arguments.{aircraft_read, count_read, dates_at, legs_read, made_number_read, options_at, past_from, reading_at, rotations_at, search_at, settings_at, way_read}
 use Rattle.calendar_dates.specs.Reading.{date_read}
 use Rattle.command_words.specs.Values.{minute_read, number_read}
 use Rattle.command_words.specs.Words.{asked, check_at, due_at, judge_at, make_at, solve_at, tails_at, whatif_at}
@@ -88,13 +88,13 @@ ChecksPlainly = (program dir : Text) → is_plain_name dir ≡ true
 abbrev pub TailsPlainly : Type 0
 TailsPlainly = (program dir date count : Text) → is_plain_name dir ≡ true → is_plain_name date ≡ true → is_plain_name count ≡ true
     → asked (program ∷ codes "tails" ∷ dir ∷ date ∷ count ∷ [])
-    ≡ tails_at default_reading default_rotations (dates_at (date_read date) (count_read count)) dir
+    ≡ tails_at default_reading default_rotations (dates_at (date_read date) (count_read count) (Some 0)) dir
 
 -- due DIR DATE COUNT
 abbrev pub DuePlainly : Type 0
 DuePlainly = (program dir date count : Text) → is_plain_name dir ≡ true → is_plain_name date ≡ true → is_plain_name count ≡ true
     → asked (program ∷ codes "due" ∷ dir ∷ date ∷ count ∷ [])
-    ≡ due_at default_reading default_rotations (dates_at (date_read date) (count_read count)) dir
+    ≡ due_at default_reading default_rotations (dates_at (date_read date) (count_read count) (Some 0)) dir
 
 -- make DIR NUMBER LEGS
 abbrev pub MakesPlainly : Type 0
@@ -164,27 +164,27 @@ ChecksFrom = (program time period dir : Text) (windows optional : Bool)
 abbrev pub TailsByDefault : Type 0
 TailsByDefault = (program dir date count : Text) (windows optional : Bool)
     → asked (program ∷ codes "tails" ∷ (flag_words windows optional ++ codes "--" ∷ dir ∷ date ∷ count ∷ []))
-    ≡ tails_at (reading_at default_settings windows optional) default_rotations (dates_at (date_read date) (count_read count)) dir
+    ≡ tails_at (reading_at default_settings windows optional) default_rotations (dates_at (date_read date) (count_read count) (Some 0)) dir
 
--- tails --day-start=HH:MM --period=P --through-max=M --days=D --visits=V [--windows] [--optional] -- DIR DATE COUNT
+-- tails --day-start=HH:MM --period=P --through-max=M --days=D --visits=V --first-day=FIRST [--windows] [--optional] -- DIR DATE COUNT
 abbrev pub TailsWithin : Type 0
-TailsWithin = (program time period wait days visits dir date count : Text) (windows optional : Bool)
+TailsWithin = (program time period wait days visits first dir date count : Text) (windows optional : Bool)
     → asked (program ∷ codes "tails" ∷ (codes "--day-start=" ++ time) ∷ (codes "--period=" ++ period) ∷ (codes "--through-max=" ++ wait) ∷ (codes "--days=" ++ days)
-    ∷ (codes "--visits=" ++ visits) ∷ (flag_words windows optional ++ codes "--" ∷ dir ∷ date ∷ count ∷ []))
-    ≡ tails_at (reading_at (settings_with time period wait) windows optional) (rotations_with days visits) (dates_at (date_read date) (count_read count)) dir
+    ∷ (codes "--visits=" ++ visits) ∷ (codes "--first-day=" ++ first) ∷ (flag_words windows optional ++ codes "--" ∷ dir ∷ date ∷ count ∷ []))
+    ≡ tails_at (reading_at (settings_with time period wait) windows optional) (rotations_with days visits) (dates_at (date_read date) (count_read count) (past_from first (date_read date))) dir
 
 -- due [--windows] [--optional] -- DIR DATE COUNT
 abbrev pub DueByDefault : Type 0
 DueByDefault = (program dir date count : Text) (windows optional : Bool)
     → asked (program ∷ codes "due" ∷ (flag_words windows optional ++ codes "--" ∷ dir ∷ date ∷ count ∷ []))
-    ≡ due_at (reading_at default_settings windows optional) default_rotations (dates_at (date_read date) (count_read count)) dir
+    ≡ due_at (reading_at default_settings windows optional) default_rotations (dates_at (date_read date) (count_read count) (Some 0)) dir
 
--- due --day-start=HH:MM --period=P --through-max=M --days=D --visits=V [--windows] [--optional] -- DIR DATE COUNT
+-- due --day-start=HH:MM --period=P --through-max=M --days=D --visits=V --first-day=FIRST [--windows] [--optional] -- DIR DATE COUNT
 abbrev pub DueWithin : Type 0
-DueWithin = (program time period wait days visits dir date count : Text) (windows optional : Bool)
+DueWithin = (program time period wait days visits first dir date count : Text) (windows optional : Bool)
     → asked (program ∷ codes "due" ∷ (codes "--day-start=" ++ time) ∷ (codes "--period=" ++ period) ∷ (codes "--through-max=" ++ wait) ∷ (codes "--days=" ++ days)
-    ∷ (codes "--visits=" ++ visits) ∷ (flag_words windows optional ++ codes "--" ∷ dir ∷ date ∷ count ∷ []))
-    ≡ due_at (reading_at (settings_with time period wait) windows optional) (rotations_with days visits) (dates_at (date_read date) (count_read count)) dir
+    ∷ (codes "--visits=" ++ visits) ∷ (codes "--first-day=" ++ first) ∷ (flag_words windows optional ++ codes "--" ∷ dir ∷ date ∷ count ∷ []))
+    ≡ due_at (reading_at (settings_with time period wait) windows optional) (rotations_with days visits) (dates_at (date_read date) (count_read count) (past_from first (date_read date))) dir
 
 -- make -- DIR NUMBER LEGS
 abbrev pub MakesByDefault : Type 0
@@ -203,7 +203,7 @@ AsksFrom = (program time period dir fleet count : Text) (windows optional : Bool
     → asked (program ∷ codes "whatif" ∷ (codes "--day-start=" ++ time) ∷ (codes "--period=" ++ period) ∷ (flag_words windows optional ++ codes "--" ∷ dir ∷ fleet ∷ count ∷ []))
     ≡ whatif_at (reading_at (settings_from time period) windows optional) (Some fleet) (aircraft_read count) dir
 
--- make takes none of the other commands' options: --day-start=HH:MM, --period=P, --through-max=M, --days=D, --visits=V, --search=CHOICES, --nodes=N, --pivots=P, and
+-- make takes none of the other commands' options: --day-start=HH:MM, --period=P, --through-max=M, --days=D, --visits=V, --first-day=FIRST, --search=CHOICES, --nodes=N, --pivots=P, and
 -- none of their flags: --windows, --optional, --all-pivots, --json
 abbrev pub MakesWithoutOption : Text → Type 0
 MakesWithoutOption option = (program text dir number legs : Text)
@@ -218,6 +218,7 @@ pub record MakesWithoutOptions : Type 0 where
   pub through_max : MakesWithoutOption (codes "--through-max=")
   pub days : MakesWithoutOption (codes "--days=")
   pub visits : MakesWithoutOption (codes "--visits=")
+  pub first_day : MakesWithoutOption (codes "--first-day=")
   pub search : MakesWithoutOption (codes "--search=")
   pub nodes : MakesWithoutOption (codes "--nodes=")
   pub pivots : MakesWithoutOption (codes "--pivots=")

@@ -40,9 +40,9 @@ rotation_options = option_named (codes "through-max") ∷ option_named (codes "d
 abbrev pub search_options : List Rule
 search_options = option_named (codes "search") ∷ option_named (codes "nodes") ∷ option_named (codes "pivots") ∷ flag_named (codes "all-pivots") ∷ flag_named (codes "json") ∷ []
 
--- DATE COUNT
+-- DATE COUNT [--first-day FIRST]
 abbrev pub dates : List Rule
-dates = word_named (codes "date") ∷ word_named (codes "count") ∷ []
+dates = word_named (codes "date") ∷ word_named (codes "count") ∷ option_named (codes "first-day") ∷ []
 
 -- NUMBER LEGS
 abbrev pub made : List Rule

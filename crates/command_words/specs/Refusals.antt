@@ -94,8 +94,12 @@ rotation_options = codes "through-max" ∷ codes "days" ∷ codes "visits" ∷ [
 abbrev pub search_options : List Text
 search_options = codes "search" ∷ codes "nodes" ∷ codes "pivots" ∷ []
 
+-- by which dates are told
+abbrev pub date_options : List Text
+date_options = codes "first-day" ∷ []
+
 abbrev pub tails_options : List Text
-tails_options = table_options ++ rotation_options
+tails_options = table_options ++ rotation_options ++ date_options
 
 abbrev pub solve_options : List Text
 solve_options = table_options ++ rotation_options ++ search_options

@@ -106,7 +106,7 @@ asked words = option_and_then command_in (found words)
 
 -- what dates of the code are
 abbrev pub dates_by : Dates → AskedDates
-dates_by dates = record { first = day_on dates.first; count = dates.count }
+dates_by dates = record { first = day_on dates.first; count = dates.count; past = dates.past }
 
 -- what a command of the code asks for
 abbrev pub asked_by : Command → Asked

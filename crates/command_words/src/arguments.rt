@@ -1,7 +1,8 @@
 //! The values of a command's arguments, by what clap found for them.
-ghost use Rattle.std.specs.Prelude.{◌≡◌, ◌≤◌, ◌<◌, IfSome, option_map};
+ghost use Rattle.std.specs.Prelude.{◌≡◌, ◌≤◌, ◌<◌, IfSome, Some, codes, option_map};
+ghost use Rattle.calendar_dates.specs.Days.{day_on};
 ghost use Rattle.clap.specs.Words.{first_of};
-ghost use Rattle.command_words.specs.Arguments.{AreDates, AreLimits, AreOptions, AreRotationLimits, IsLegCount, aircraft_in, budget_of, dates_in, day_start_in, is_given, legs_in, legs_read, number_in, options_in, period_in, reading_in, rotations_in, rows_in, search_in, settings_in, through_max_in, way_in, way_read};
+ghost use Rattle.command_words.specs.Arguments.{AreDates, AreLimits, AreOptions, AreRotationLimits, IsLegCount, aircraft_in, budget_of, dates_in, day_start_in, is_given, legs_in, legs_read, number_in, options_in, past_at, period_in, reading_in, rotations_in, rows_in, search_in, settings_in, through_max_in, way_in, way_read};
 ghost use Rattle.command_words.specs.Values.{number_read, value_or};
 ghost use Rattle.command_words.specs.Words.{dates_by};
 ghost use Rattle.fleet_model.specs.Limits.{AreSettings};
@@ -14,7 +15,7 @@ use crate::command::{
     MIN_DAYS, MIN_PERIOD, RotationLimits, SearchLimits, SearchWay, SolveOptions,
 };
 use crate::values::{minute_of_day, number_between};
-use calendar_dates::{civil_date, ends_in_calendar};
+use calendar_dates::{Date, civil_date, days_between, ends_in_calendar};
 use clap::ArgMatches;
 use fleet_model::limits::MAX_AIRCRAFT;
 use fleet_model::{Settings, TableOptions};
@@ -158,10 +159,22 @@ pub(crate) fn dates_of(found: &ArgMatches<'_>) -> Option<Dates>
 {
     let first = civil_date(value_of(found, "date")?)?;
     let count = count_of(value_of(found, "count")?)?;
+    let past = past_of(found, first)?;
     if !ends_in_calendar(first, count) {
         return None;
     }
-    Some(Dates { first, count })
+    Some(Dates { first, count, past })
+}
+
+/// How many days a date comes after the first day of a period that an option gives. It is one itself where none is given.
+fn past_of(found: &ArgMatches<'_>, date: Date) -> Option<u32>
+    ensures read { result ≡ past_at (first_of (codes "first-day") (rows_in found.now)) (Some (day_on date)) }
+    ensures few { IfSome result (λ days. days ≤ 3652058) }
+{
+    match value_of(found, "first-day") {
+        Some(text) => days_between(civil_date(text)?, date),
+        None => Some(0),
+    }
 }
 
 /// The number of dates that a text writes.

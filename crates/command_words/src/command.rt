@@ -134,6 +134,8 @@ pub struct Dates {
     pub first: Date,
     /// How many there are, the first among them.
     pub count: u32,
+    /// How many days the first of them comes after a first day of the period.
+    pub past: u32,
 }
 
 /// What a call asks for. The folder's name is one of the words.

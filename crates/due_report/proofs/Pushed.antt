@@ -9,12 +9,12 @@ use Rattle.tail_dates.specs.declared.placing.Placed.{Placed}
 use Rattle.tail_dates.specs.declared.tails.TailState.{TailState}
 use Rattle.due_report.specs.Placings.{ArePlacedBelow, IsPlacing, placing_of}
 
-module _ (t : Tables) (a : List ℕ) (rotations : List FleetRotation) (tails : List TailState) (all : List (Option Placed)) (f : ℕ) (one : Option Placed) where
+module _ (t : Tables) (a : List ℕ) (rotations : List FleetRotation) (day : ℕ) (tails : List TailState) (all : List (Option Placed)) (f : ℕ) (one : Option Placed) where
   IsOf : ℕ → Option Placed → Type 0
-  IsOf g placing = IsPlacing t a g tails (last_made (rotation_of rotations g)) placing
+  IsOf g placing = IsPlacing t a g day tails (last_made (rotation_of rotations g)) placing
 
-  pub placing_pushed : (grown : List (Option Placed)) → grown ≡ all ++ one ∷ [] → ArePlacedBelow t a rotations tails all f → IsPlacing t a f tails (last_made (rotation_of rotations f)) one
-      → ArePlacedBelow t a rotations tails grown (f + 1)
+  pub placing_pushed : (grown : List (Option Placed)) → grown ≡ all ++ one ∷ [] → ArePlacedBelow t a rotations day tails all f → IsPlacing t a f day tails (last_made (rotation_of rotations f)) one
+      → ArePlacedBelow t a rotations day tails grown (f + 1)
   unfolding IsOf
   placing_pushed grown grows below is = record {
     each_fleet = ap length grows ∙ longer;

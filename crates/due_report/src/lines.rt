@@ -2,7 +2,7 @@
 ghost use Rattle.std.specs.Prelude.{◌≡◌, ◌++◌, ◌*◌, ◌<◌, ◌^◌, IfOk, OnOk, length, map};
 ghost use Rattle.calendar_dates.specs.Days.{HasDays, day_on};
 ghost use Rattle.due_report.specs.Lines.{AreBegun, begun_lines, days_tails, due_text, fleet_due, fleets_due, late_line, names_of, number_line, placed_lines, tail_line, tails_on};
-ghost use Rattle.due_report.specs.Placings.{ArePlacings, IsPlacing};
+ghost use Rattle.due_report.specs.Placings.{ArePlacings, IsPlacing, OnSomeDay};
 ghost use Rattle.fleet_model.specs.Legal.{IsAssignment};
 ghost use Rattle.fleet_model.specs.Schedule.{days_in, fleets_in};
 ghost use Rattle.euler_rotation.specs.FleetRotations.{AreFlown, AreRotations, IsFleetRotation, IsFlown, last_made};
@@ -37,7 +37,7 @@ pub fn due_lines(
     requires plan { IsAssignment tables.now plan.now }
     requires rotations { AreRotations tables.now rotations.now }
     requires tours { AreFlown tables.now plan.now rotations.now }
-    requires placings { ArePlacings tables.now plan.now rotations.now tails.now placings.now }
+    requires placings { OnSomeDay tables.now (λ day. ArePlacings tables.now plan.now rotations.now day tails.now placings.now) }
     requires dates { HasDays date count }
     ensures { IfOk result (λ text. text.items ≡ due_text tables.now plan.now rotations.now tails.now placings.now (day_on date) count) }
 {
@@ -58,7 +58,7 @@ fn due_on(
     requires plan { IsAssignment tables.now plan.now }
     requires rotations { AreRotations tables.now rotations.now }
     requires tours { AreFlown tables.now plan.now rotations.now }
-    requires placings { ArePlacings tables.now plan.now rotations.now tails.now placings.now }
+    requires placings { OnSomeDay tables.now (λ day. ArePlacings tables.now plan.now rotations.now day tails.now placings.now) }
     requires few { length dates.now < 2 ^ 32 }
     ensures { IfOk result (λ text. text.items ≡ fleets_due tables.now plan.now rotations.now tails.now placings.now (map day_on dates.now) (length rotations.now)) }
 {
@@ -89,7 +89,7 @@ fn push_due(
     requires fleet { fleet < fleets_in tables.now }
     requires made { IsFleetRotation tables.now made.now }
     requires tour { IsFlown tables.now plan.now fleet (last_made made.now) }
-    requires placing { IsPlacing tables.now plan.now fleet tails.now (last_made made.now) placing.now }
+    requires placing { OnSomeDay tables.now (λ day. IsPlacing tables.now plan.now fleet day tails.now (last_made made.now) placing.now) }
     requires few { length dates.now < 2 ^ 32 }
     ensures { OnOk result (text.new.items ≡ text.old.items ++ fleet_due tables.now plan.now fleet made.now tails.now placing.now (map day_on dates.now)) }
 {
@@ -121,7 +121,7 @@ fn push_placed(
     requires fleet { fleet < fleets_in tables.now }
     requires tour { IsTour tables.now plan.now fleet tour.now }
     requires begins { BeginsAfterStart tables.now fleet tour.now }
-    requires placed { IsPlaced tables.now plan.now fleet tour.now tails.now placed.now }
+    requires placed { OnSomeDay tables.now (λ day. IsPlaced tables.now plan.now fleet tour.now day tails.now placed.now) }
     requires few { length dates.now < 2 ^ 32 }
     ensures { OnOk result (text.new.items ≡ text.old.items ++ placed_lines tables.now plan.now fleet tour.now tails.now (map day_on dates.now) placed.now) }
 {

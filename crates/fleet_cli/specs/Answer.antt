@@ -1,5 +1,5 @@
 -- The program's answer to its words, by what files hold. One case for each command.
-use Rattle.std.specs.Prelude.{◌≡◌, ◌⊎◌, ℕ, Bool, true, false, if◌then◌else◌, List, ℤ, Option, Some, None}
+use Rattle.std.specs.Prelude.{◌≡◌, ◌⊎◌, ◌%◌, ℕ, Bool, true, false, if◌then◌else◌, List, ℤ, Option, Some, None}
 use Rattle.bound_cert.specs.declared.reading.Proof.{Proof}
 use Rattle.dual_bound.specs.declared.trees.Tree.{Tree}
 use Rattle.due_report.specs.Lines.{due_text}
@@ -18,7 +18,7 @@ use Rattle.command_words.specs.declared.command.SolveOptions.{SolveOptions}
 use Rattle.command_words.specs.declared.command.TheConstants.{DEFAULT_OPTIONS, DEFAULT_READING}
 use Rattle.fleet_model.specs.Legal.{total_cost}
 use Rattle.fleet_model.specs.OtherSizes.{IsOtherSize}
-use Rattle.fleet_model.specs.Schedule.{fleet_of}
+use Rattle.fleet_model.specs.Schedule.{days_in, fleet_of}
 use Rattle.fleet_model.specs.declared.options.TableOptions.{TableOptions}
 use Rattle.fleet_model.specs.declared.tables.Tables.{Tables}
 use Rattle.euler_rotation.specs.declared.fleet_rotation.FleetRotation.{FleetRotation}
@@ -184,7 +184,7 @@ Asks reading name count bytes proof plan = OnTables reading bytes (AsksOn name c
 pub record TellsLines (limits : RotationLimits) (dates : AskedDates) (shown : Tables) (flown : List ℕ) (answer : Answer) : Type 0 where
   pub rotations : List FleetRotation
   pub rotates : ArePlanRotations shown flown limits.days limits.visits rotations
-  pub is : answer ≡ says DONE (tails_text shown flown rotations dates.first dates.count)
+  pub is : answer ≡ says DONE (tails_text shown flown rotations dates.past dates.first dates.count)
 
 abbrev pub TellsTails : Tables → RotationLimits → AskedDates → List ℕ → Answer → Type 0
 TellsTails t limits dates = OnShown t (TellsLines limits dates)
@@ -203,13 +203,17 @@ TailsOf reading limits dates bytes plan = OnTables reading bytes (TailsOn limits
 abbrev pub due_status : List (Option Placed) → ℕ
 due_status placings = if are_unplaced placings then UNPLACED else DONE
 
--- By a plan's rotations the tails of each fleet take starts, or can't, and what they fly on the dates is told, on the tables that
--- are shown.
+-- the day of the period, counted from 0, that comes so many days after a first one
+abbrev pub day_past : Tables → ℕ → ℕ
+day_past t past = past % days_in t
+
+-- By a plan's rotations the tails of each fleet take starts of the first date's day of the period, or can't, and what they fly on
+-- the dates is told, on the tables that are shown.
 pub record TellsStarts (limits : RotationLimits) (dates : AskedDates) (tails : List TailState) (shown : Tables) (flown : List ℕ) (answer : Answer) : Type 0 where
   pub rotations : List FleetRotation
   pub placings : List (Option Placed)
   pub rotates : ArePlanRotations shown flown limits.days limits.visits rotations
-  pub places : ArePlacings shown flown rotations tails placings
+  pub places : ArePlacings shown flown rotations (day_past shown dates.past) tails placings
   pub is : answer ≡ says (due_status placings) (due_text shown flown rotations tails placings dates.first dates.count)
 
 abbrev pub TellsDue : Tables → RotationLimits → AskedDates → List TailState → List ℕ → Answer → Type 0

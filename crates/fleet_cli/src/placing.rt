@@ -154,7 +154,8 @@ fn due_of_shown(
     ensures { IfOk result (TellsStarts limits (dates_by dates.now) tails.now tables.now plan.now) }
 {
     let made = rotations(alloc, tables, plan, limits.days, limits.visits)?;
-    let placed = placings(alloc, tables, plan, made.as_slice(), tails)?;
+    let day = dates.past % tables.day_count();
+    let placed = placings(alloc, tables, plan, made.as_slice(), day, tails)?;
     let text = due_lines(
         alloc,
         tables,

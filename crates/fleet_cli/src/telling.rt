@@ -125,6 +125,7 @@ fn tails_of_shown(
         tables,
         plan,
         made.as_slice(),
+        dates.past,
         dates.first,
         dates.count,
     )?;

@@ -1,4 +1,5 @@
 pub mod DatedLegs
+pub mod OwnDates
 pub mod Pieces
 pub mod PlainText
 pub mod RoundLines

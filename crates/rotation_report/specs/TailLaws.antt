@@ -1,6 +1,7 @@
 -- What the lines of tails come to: which legs are flown on a date, and which by an aircraft.
-use Rattle.std.specs.Prelude.{ℕ, suc, ◌+◌, ◌*◌, ◌%◌, ◌<◌, ◌≡◌, ◌==◌, Bool, IsPermutation, List, [], length, slice_index_or}
+use Rattle.std.specs.Prelude.{ℕ, suc, ◌+◌, ◌*◌, ◌%◌, ◌<◌, ◌≡◌, ◌==◌, ◌++◌, Bool, IsPermutation, List, [], length, slice_index_or}
 use Rattle.std.specs.List.{concat, filter}
+use Rattle.calendar_dates.specs.Days.{Day, day_after, days_from}
 use Rattle.fleet_model.specs.declared.tables.Tables.{Tables}
 use Rattle.fleet_model.specs.Counts.{weights_of}
 use Rattle.fleet_model.specs.Use.{used_of}
@@ -9,15 +10,15 @@ use Rattle.fleet_model.specs.Times.{departure}
 use Rattle.fleet_model.specs.Period.{day_of_minute}
 use Rattle.ground_turns.specs.Maps.{IsTour}
 use Rattle.lines_of_flying.specs.Lines.{BeginsAfterStart, lines_of}
-use Rattle.rotation_report.specs.Tails.{line_on, lines_by}
+use Rattle.rotation_report.specs.Tails.{days_lines, line_on, lines_by}
 use Rattle.rotation_report.specs.declared.flying.FleetLines.{FleetLines}
 use Rattle.sums.specs.Places.{list_below}
 
--- what all aircraft fly so many days after the first date, one aircraft after another
+-- what all aircraft fly so many days after a first day of the period, one aircraft after another
 abbrev pub flown_on : Tables → FleetLines → ℕ → List ℕ
 flown_on t flown d = concat (list_below (line_on t flown d) flown.used)
 
--- what an aircraft flies on the first so many dates, one date after another
+-- what an aircraft flies on so many dates from a first day of the period on, one date after another
 abbrev pub flown_by : Tables → FleetLines → ℕ → ℕ → List ℕ
 flown_by t flown k days = concat (list_below (λ d. line_on t flown d k) days)
 
@@ -25,8 +26,7 @@ flown_by t flown k days = concat (list_below (λ d. line_on t flown d k) days)
 abbrev pub departs_on : Tables → ℕ → ℕ → ℕ → Bool
 departs_on t f day l = day_of_minute (departure t (leg_on l f)) == day
 
--- the first date is the period's first day: on each date those legs of a fleet's tour are flown that depart on its day of the
--- period, each by one aircraft
+-- on each date those legs of a fleet's tour are flown that depart on its day of the period, each by one aircraft
 abbrev pub EachLegOnItsDay : Type 0
 EachLegOnItsDay = (t : Tables) (a : List ℕ) (f : ℕ) (tour : List ℕ) (d : ℕ) → IsTour t a f tour → BeginsAfterStart t f tour
     → IsPermutation (flown_on t (lines_by t a f tour) d) (filter (departs_on t f (d % days_in t)) tour)
@@ -52,3 +52,13 @@ ComesToNextLine = (t : Tables) (a : List ℕ) (f : ℕ) (tour : List ℕ) (d k :
 abbrev pub FollowsNextAircraft : Type 0
 FollowsNextAircraft = (t : Tables) (flown : FleetLines) (d k : ℕ) → k < flown.used
     → line_on t flown (d + days_in t) k ≡ line_on t flown d (suc k % flown.used)
+
+-- what is told of a fleet with these lines on so many dates, of which the first comes so many days after a first day of the period
+abbrev pub told_from : Tables → FleetLines → Day → ℕ → ℕ → List ℕ
+told_from t flown first past count = days_lines t flown past (days_from (day_after first past) count) count
+
+-- What a date shows doesn't depend on the first date that is asked for: of many dates some are told as they are alone, and then the
+-- others as they are alone, from the same first day of the period.
+abbrev pub EachDateIsItsOwn : Type 0
+EachDateIsItsOwn = (t : Tables) (flown : FleetLines) (first : Day) (past some others : ℕ)
+    → told_from t flown first past (some + others) ≡ told_from t flown first past some ++ told_from t flown first (past + some) others

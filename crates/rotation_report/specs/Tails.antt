@@ -26,12 +26,12 @@ pub record AreLinesOf (t : Tables) (flown : FleetLines) : Type 0 where
   pub each_day : length flown.lines ≡ flown.used * days_in t
   pub legs : (k : ℕ) → k < length flown.lines → AreLegs t (slice_index_or flown.lines k [])
 
--- the line that an aircraft flies so many days after the first date, where it begins with the line after so many: it comes
--- to the next line each day
+-- the line that an aircraft flies so many days after a date on which it begins with the line after so many: it comes to the next
+-- line each day
 abbrev pub line_from : Tables → FleetLines → ℕ → ℕ → List ℕ
 line_from t flown d first = slice_index_or flown.lines ((first + d) % (flown.used * days_in t)) []
 
--- where it begins a period after the aircraft before it
+-- so many days after a first day of the period, on which it begins a period after the aircraft before it
 abbrev pub line_on : Tables → FleetLines → ℕ → ℕ → List ℕ
 line_on t flown d k = line_from t flown d (k * days_in t)
 
@@ -44,8 +44,8 @@ abbrev pub flights_text : Tables → List ℕ → List ℕ
 flights_text t [] = codes " -"
 flights_text t (leg ∷ legs) = flat_map (spaced_flight t) (leg ∷ legs)
 
--- what the aircraft after so many flies on a date, so many days after the first one. Its tail is the fleet's name with
--- its number, from 1
+-- what the aircraft after so many flies on a date, so many days after a first day of the period. Its tail is the fleet's name
+-- with its number, from 1
 abbrev pub dated_line : Tables → FleetLines → List ℕ → ℕ → ℕ → List ℕ
 dated_line t flown date d k =
     line_of (date ∷ codes " " ∷ (fleet_of t flown.fleet).name ∷ codes "/" ∷ decimal (k + 1) ∷ codes ":" ∷ flights_text t (line_on t flown d k) ∷ [])
@@ -55,32 +55,33 @@ abbrev pub day_lines : Tables → FleetLines → Day → ℕ → ℕ → List �
 day_lines t flown day d zero = []
 day_lines t flown day d (suc k) = day_lines t flown day d k ++ dated_line t flown (day_text day) d k
 
--- those of the first of some days, for all aircraft
-abbrev pub days_lines : Tables → FleetLines → List Day → ℕ → List ℕ
-days_lines t flown days zero = []
-days_lines t flown days (suc d) = days_lines t flown days d ++ day_lines t flown (slice_index_or days d no_day) d flown.used
+-- those of the first of some days, for all aircraft: the first comes so many days after a first day of the period
+abbrev pub days_lines : Tables → FleetLines → ℕ → List Day → ℕ → List ℕ
+days_lines t flown past days zero = []
+days_lines t flown past days (suc d) =
+    days_lines t flown past days d ++ day_lines t flown (slice_index_or days d no_day) (past + d) flown.used
 
 -- that a fleet has no tour
 abbrev pub no_tour_line : Tables → List ℕ → ℕ → FleetRotation → List ℕ
 no_tour_line t a f made = line_of ((fleet_of t f).name ∷ codes ": " ∷ rotation_words t a f made ∷ [])
 
 -- the lines of a fleet on some days
-abbrev pub rotation_tails : Tables → List ℕ → ℕ → FleetRotation → List Day → Rotation → List ℕ
-rotation_tails t a f made days rotation.Unused = no_tour_line t a f made
-rotation_tails t a f made days (rotation.TooFewNights have used) = no_tour_line t a f made
-rotation_tails t a f made days (rotation.Apart legs) = no_tour_line t a f made
-rotation_tails t a f made days (rotation.Tour tour) = days_lines t (lines_by t a f tour) days (length days)
-rotation_tails t a f made days rotation.None = no_tour_line t a f made
-rotation_tails t a f made days (rotation.Spent order prefix) = no_tour_line t a f made
+abbrev pub rotation_tails : Tables → List ℕ → ℕ → FleetRotation → ℕ → List Day → Rotation → List ℕ
+rotation_tails t a f made past days rotation.Unused = no_tour_line t a f made
+rotation_tails t a f made past days (rotation.TooFewNights have used) = no_tour_line t a f made
+rotation_tails t a f made past days (rotation.Apart legs) = no_tour_line t a f made
+rotation_tails t a f made past days (rotation.Tour tour) = days_lines t (lines_by t a f tour) past days (length days)
+rotation_tails t a f made past days rotation.None = no_tour_line t a f made
+rotation_tails t a f made past days (rotation.Spent order prefix) = no_tour_line t a f made
 
-abbrev pub fleet_tails : Tables → List ℕ → ℕ → FleetRotation → List Day → List ℕ
-fleet_tails t a f made days = rotation_tails t a f made days (last_made made)
+abbrev pub fleet_tails : Tables → List ℕ → ℕ → FleetRotation → ℕ → List Day → List ℕ
+fleet_tails t a f made past days = rotation_tails t a f made past days (last_made made)
 
 -- the lines of the first fleets
-abbrev pub fleets_tails : Tables → List ℕ → List FleetRotation → List Day → ℕ → List ℕ
-fleets_tails t a rotations days zero = []
-fleets_tails t a rotations days (suc f) = fleets_tails t a rotations days f ++ fleet_tails t a f (rotation_of rotations f) days
+abbrev pub fleets_tails : Tables → List ℕ → List FleetRotation → ℕ → List Day → ℕ → List ℕ
+fleets_tails t a rotations past days zero = []
+fleets_tails t a rotations past days (suc f) = fleets_tails t a rotations past days f ++ fleet_tails t a f (rotation_of rotations f) past days
 
--- the lines of tails for so many dates, from the first on
-unfoldable pub tails_text : Tables → List ℕ → List FleetRotation → Day → ℕ → List ℕ
-tails_text t a rotations first count = fleets_tails t a rotations (days_from first count) (length rotations)
+-- the lines of tails for so many dates, from the first on, which comes so many days after a first day of the period
+unfoldable pub tails_text : Tables → List ℕ → List FleetRotation → ℕ → Day → ℕ → List ℕ
+tails_text t a rotations past first count = fleets_tails t a rotations past (days_from first count) (length rotations)

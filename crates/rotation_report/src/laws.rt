@@ -9,7 +9,7 @@ ghost use Rattle.euler_rotation.specs.FleetRotations.{AreRotations};
 ghost use Rattle.euler_rotation.specs.declared.fleet_rotation.FleetRotation.{FleetRotation};
 ghost use Rattle.rotation_report.specs.RotationRecords.{rotation_records, rotation_text};
 ghost use Rattle.rotation_report.specs.RotationWords.{days_used};
-ghost use Rattle.rotation_report.specs.TailLaws.{ComesToNextLine, EachAircraftFliesAll, EachLegOnItsDay, FollowsNextAircraft};
+ghost use Rattle.rotation_report.specs.TailLaws.{ComesToNextLine, EachAircraftFliesAll, EachDateIsItsOwn, EachLegOnItsDay, FollowsNextAircraft};
 
 /// The days that records say of a tour are those that words say of it.
 pub fn tour_days_are_use()
@@ -23,10 +23,12 @@ pub fn rotations_are_written_as_csv()
 {}
 
 /// The lines of tails, over the tour. On each date its legs of that day of the period are flown once each, each aircraft
-/// comes to the next line each day and so flies the whole tour, and a period later it flies what the next aircraft flew.
+/// comes to the next line each day and so flies the whole tour, and a period later it flies what the next aircraft flew. What
+/// is told of a date is the same whichever date is the first.
 pub fn tails_fly_the_tour()
     ensures each_date { EachLegOnItsDay }
     ensures each_aircraft { EachAircraftFliesAll }
     ensures next_line { ComesToNextLine }
     ensures next_aircraft { FollowsNextAircraft }
+    ensures own_date { EachDateIsItsOwn }
 {}

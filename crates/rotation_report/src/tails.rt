@@ -1,5 +1,5 @@
 //! What each aircraft of a fleet, by its tail, flies on each date.
-ghost use Rattle.std.specs.Prelude.{◌≡◌, ◌++◌, ◌*◌, ◌<◌, ◌^◌, IfOk, OnOk, length, map};
+ghost use Rattle.std.specs.Prelude.{◌≡◌, ◌++◌, ◌+◌, ◌*◌, ◌<◌, ◌^◌, IfOk, OnOk, length, map};
 ghost use Rattle.std.specs.List.{flat_map};
 ghost use Rattle.fleet_model.specs.Legal.{IsAssignment};
 ghost use Rattle.fleet_model.specs.Schedule.{days_in, fleets_in};
@@ -20,14 +20,16 @@ use lines_of_flying::lines;
 use plan_judge::used;
 use std::alloc::Global;
 
-/// The lines of tails for so many dates, from the first on: of each fleet with a tour what each of its aircraft flies on
-/// each date, and of each other fleet what became of its rotation. An aircraft comes to the next line of the tour each day.
+/// The lines of tails for so many dates, from the first on, which comes so many days after a first day of the period: of each
+/// fleet with a tour what each of its aircraft flies on each date, and of each other fleet what became of its rotation. An
+/// aircraft comes to the next line of the tour each day.
 #[tactic(auto, unfolding(crate::specs::Tails::tails_text))]
 pub fn tail_lines(
     alloc: Global,
     tables: &Tables,
     plan: &Assignment,
     rotations: &[FleetRotation],
+    past: u32,
     date: Date,
     count: u32,
 ) -> Result<Vec<u8>, NoMemory>
@@ -35,30 +37,32 @@ pub fn tail_lines(
     requires rotations { AreRotations tables.now rotations.now }
     requires tours { AreFlown tables.now plan.now rotations.now }
     requires dates { HasDays date count }
-    ensures { IfOk result (λ text. text.items ≡ tails_text tables.now plan.now rotations.now (day_on date) count) }
+    requires few { past + count < 2 ^ 32 }
+    ensures { IfOk result (λ text. text.items ≡ tails_text tables.now plan.now rotations.now past (day_on date) count) }
 {
     let dates = dates_from(alloc, date, count)?;
-    tails_on(alloc, tables, plan, rotations, &dates)
+    tails_on(alloc, tables, plan, rotations, past, &dates)
 }
 
-/// The lines of tails on some dates.
+/// The lines of tails on some dates, of which the first comes so many days after a first day of the period.
 fn tails_on(
     alloc: Global,
     tables: &Tables,
     plan: &Assignment,
     rotations: &[FleetRotation],
+    past: u32,
     dates: &[Date],
 ) -> Result<Vec<u8>, NoMemory>
     requires plan { IsAssignment tables.now plan.now }
     requires rotations { AreRotations tables.now rotations.now }
     requires tours { AreFlown tables.now plan.now rotations.now }
-    requires few { length dates.now < 2 ^ 32 }
-    ensures { IfOk result (λ text. text.items ≡ fleets_tails tables.now plan.now rotations.now (map day_on dates.now) (length rotations.now)) }
+    requires few { past + length dates.now < 2 ^ 32 }
+    ensures { IfOk result (λ text. text.items ≡ fleets_tails tables.now plan.now rotations.now past (map day_on dates.now) (length rotations.now)) }
 {
     let mut text = Vec::new(alloc);
     for fleet in 0..rotations.len() as u32 {
         let made = &rotations[fleet as usize];
-        push_tails(alloc, &mut text, tables, plan, fleet, made, dates)?;
+        push_tails(alloc, &mut text, tables, plan, fleet, made, past, dates)?;
     }
     Ok(text)
 }
@@ -71,18 +75,28 @@ fn push_tails(
     plan: &Assignment,
     fleet: u32,
     made: &FleetRotation,
+    past: u32,
     dates: &[Date],
 ) -> Result<(), NoMemory>
     requires plan { IsAssignment tables.now plan.now }
     requires fleet { fleet < fleets_in tables.now }
     requires made { IsFleetRotation tables.now made.now }
     requires tour { IsFlown tables.now plan.now fleet (last_made made.now) }
-    requires few { length dates.now < 2 ^ 32 }
-    ensures { OnOk result (text.new.items ≡ text.old.items ++ fleet_tails tables.now plan.now fleet made.now (map day_on dates.now)) }
+    requires few { past + length dates.now < 2 ^ 32 }
+    ensures { OnOk result (text.new.items ≡ text.old.items ++ fleet_tails tables.now plan.now fleet made.now past (map day_on dates.now)) }
 {
     match made.last() {
         Rotation::Tour(tour) => {
-            push_tour(alloc, text, tables, plan, fleet, tour.as_slice(), dates)
+            push_tour(
+                alloc,
+                text,
+                tables,
+                plan,
+                fleet,
+                tour.as_slice(),
+                past,
+                dates,
+            )
         }
         _ => push_no_tour(alloc, text, tables, plan, fleet, made),
     }
@@ -96,17 +110,18 @@ fn push_tour(
     plan: &Assignment,
     fleet: u32,
     tour: &[u32],
+    past: u32,
     dates: &[Date],
 ) -> Result<(), NoMemory>
     requires plan { IsAssignment tables.now plan.now }
     requires fleet { fleet < fleets_in tables.now }
     requires tour { IsTour tables.now plan.now fleet tour.now }
     requires begins { BeginsAfterStart tables.now fleet tour.now }
-    requires few { length dates.now < 2 ^ 32 }
-    ensures { OnOk result (text.new.items ≡ text.old.items ++ days_lines tables.now (lines_by tables.now plan.now fleet tour.now) (map day_on dates.now) (length (map day_on dates.now))) }
+    requires few { past + length dates.now < 2 ^ 32 }
+    ensures { OnOk result (text.new.items ≡ text.old.items ++ days_lines tables.now (lines_by tables.now plan.now fleet tour.now) past (map day_on dates.now) (length (map day_on dates.now))) }
 {
     let flown = lines_by(alloc, tables, plan, fleet, tour)?;
-    push_days(alloc, text, tables, &flown, dates)
+    push_days(alloc, text, tables, &flown, past, dates)
 }
 
 /// Appends `F: A` of a fleet that has no tour.
@@ -156,25 +171,26 @@ pub fn lines_by(
     })
 }
 
-/// Appends the lines of all aircraft on some days.
+/// Appends the lines of all aircraft on some days, of which the first comes so many days after a first day of the period.
 fn push_days(
     alloc: Global,
     text: &mut Vec<u8>,
     tables: &Tables,
     flown: &FleetLines,
+    past: u32,
     dates: &[Date],
 ) -> Result<(), NoMemory>
     requires flown { AreLinesOf tables.now flown.now }
-    requires few { length dates.now < 2 ^ 32 }
-    ensures { OnOk result (text.new.items ≡ text.old.items ++ days_lines tables.now flown.now (map day_on dates.now) (length dates.now)) }
+    requires few { past + length dates.now < 2 ^ 32 }
+    ensures { OnOk result (text.new.items ≡ text.old.items ++ days_lines tables.now flown.now past (map day_on dates.now) (length dates.now)) }
 {
     for day in 0..dates.len() as u32 {
-        push_day(alloc, text, tables, flown, dates[day as usize], day)?;
+        push_day(alloc, text, tables, flown, dates[day as usize], past + day)?;
     }
     Ok(())
 }
 
-/// Appends the lines of all aircraft on a date, so many days after the first one.
+/// Appends the lines of all aircraft on a date, so many days after a first day of the period.
 fn push_day(
     alloc: Global,
     text: &mut Vec<u8>,
@@ -193,7 +209,7 @@ fn push_day(
     Ok(())
 }
 
-/// Appends `DATE F/K: FLIGHTS` of the aircraft after so many, so many days after the first date.
+/// Appends `DATE F/K: FLIGHTS` of the aircraft after so many, so many days after a first day of the period.
 fn push_tail(
     alloc: Global,
     text: &mut Vec<u8>,
@@ -223,8 +239,8 @@ fn push_tail(
     )
 }
 
-/// The line that an aircraft flies so many days after the first date: it begins a period after the one before it, and
-/// comes to the next line each day. Takes no memory.
+/// The line that an aircraft flies so many days after a first day of the period: on that day it begins a period after the one
+/// before it, and it comes to the next line each day. Takes no memory.
 fn line_on<'a>(tables: &Tables, flown: &'a FleetLines, day: u32, aircraft: u32) -> &'a [u32]
     requires flown { AreLinesOf tables.now flown.now }
     requires aircraft { aircraft < flown.now.used }
@@ -235,8 +251,8 @@ fn line_on<'a>(tables: &Tables, flown: &'a FleetLines, day: u32, aircraft: u32) 
     line_from(tables, flown, day, first)
 }
 
-/// The line that an aircraft flies so many days after the first date, where it begins with the line after so many: it
-/// comes to the next line each day. Takes no memory.
+/// The line that an aircraft flies so many days after a date on which it begins with the line after so many: it comes to the
+/// next line each day. Takes no memory.
 pub fn line_from<'a>(tables: &Tables, flown: &'a FleetLines, day: u32, first: u64) -> &'a [u32]
     requires flown { AreLinesOf tables.now flown.now }
     requires first { first < flown.now.used * days_in tables.now }

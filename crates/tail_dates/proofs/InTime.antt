@@ -5,7 +5,6 @@ use Rattle.std.proofs.lemmas.Bool.Decides.{nat_tests}
 use Rattle.std.proofs.lemmas.Nat.{div-mul-add}
 use Rattle.fleet_model.specs.declared.tables.Tables.{Tables}
 use Rattle.fleet_model.specs.Schedule.{days_in}
-use Rattle.fleet_model.proofs.PeriodMinutes.{some_days}
 use Rattle.ground_turns.proofs.Regroup.{by_places}
 use Rattle.sums.specs.Below.{count_below, sum_below}
 use Rattle.sums.proofs.Counts.{count_below-no_two}
@@ -27,11 +26,8 @@ one_reach nights first one other is too = elim (cases_order one other) [
 ]
 
 -- the start of a line
-start_of : (t : Tables) (start : ℕ) → start_line t start / days_in t ≡ start
-start_of t start = ap (λ n. n / days_in t) (plus (start_line t start)) ∙ div-mul-add start (days_in t) 0 (some_days t)
-  where
-    plus : (n : ℕ) → n ≡ n + 0
-    plus n = omega arith
+start_of : (t : Tables) (day start : ℕ) → day < days_in t → start_line t day start / days_in t ≡ start
+start_of t day start within = div-mul-add start (days_in t) day within
 
 -- ---- starts by rank
 module _ (lefts reaches : List ℕ) where
@@ -62,15 +58,15 @@ module _ (lefts reaches : List ℕ) where
     | inr early ↦ early
   ]
 
-module _ (t : Tables) (f : ℕ) (tour lefts reaches : List ℕ) (used : ℕ) (as_many : length lefts ≡ used) (are : AreReaches t f tour used reaches) where
-  pub starts_in_time : (lines : List ℕ) → IsNeverLate lefts reaches → AreStarts t lefts reaches lines → AreInTime t f tour used lefts lines
+module _ (t : Tables) (f : ℕ) (tour lefts reaches : List ℕ) (day used : ℕ) (inside : day < days_in t) (as_many : length lefts ≡ used) (are : AreReaches t f tour day used reaches) where
+  pub starts_in_time : (lines : List ℕ) → IsNeverLate lefts reaches → AreStarts t day lefts reaches lines → AreInTime t f tour day used lefts lines
   starts_in_time lines never starts = record {
     each_tail = starts.each_tail;
     each = λ k below. of_start k below (starts.each k below);
     own = λ j k lt less same. own j k lt less (starts.each j lt) (starts.each k less) same;
   }
     where
-      of_start : (k : ℕ) → k < length lefts → IsStartOf t lefts reaches k (slice_index lines k) → ComesInTime t f tour used (slice_index lefts k) (slice_index lines k)
+      of_start : (k : ℕ) → k < length lefts → IsStartOf t day lefts reaches k (slice_index lines k) → ComesInTime t f tour day used (slice_index lefts k) (slice_index lines k)
       of_start k below is =
           let within : is.start < used = subst (λ n. is.start < n) are.each_start is.within in
           record {
@@ -82,15 +78,15 @@ module _ (t : Tables) (f : ℕ) (tour lefts reaches : List ℕ) (used : ℕ) (as
             in_time = in_time lefts reaches never is.start k below is.same_rank;
           }
 
-      own : (j k : ℕ) → j < length lefts → k < length lefts → IsStartOf t lefts reaches j (slice_index lines j) → IsStartOf t lefts reaches k (slice_index lines k)
+      own : (j k : ℕ) → j < length lefts → k < length lefts → IsStartOf t day lefts reaches j (slice_index lines j) → IsStartOf t day lefts reaches k (slice_index lines k)
           → slice_index lines j ≡ slice_index lines k → j ≡ k
       own j k lt less first second same =
-          let line : start_line t first.start ≡ start_line t second.start = sym first.its_line ∙ same ∙ second.its_line in
-          let start : first.start ≡ second.start = sym (start_of t first.start) ∙ ap (λ n. n / days_in t) line ∙ start_of t second.start in
+          let line : start_line t day first.start ≡ start_line t day second.start = sym first.its_line ∙ same ∙ second.its_line in
+          let start : first.start ≡ second.start = sym (start_of t day first.start inside) ∙ ap (λ n. n / days_in t) line ∙ start_of t day second.start inside in
           one_rank lefts j k lt less (sym first.same_rank ∙ ap (rank_in reaches) start ∙ second.same_rank)
 
   -- ---- none where tails are late
-  pub none_in_time : (nights : ℕ) → IsLateAt lefts reaches nights → (lines : List ℕ) → ¬ (AreInTime t f tour used lefts lines)
+  pub none_in_time : (nights : ℕ) → IsLateAt lefts reaches nights → (lines : List ℕ) → ¬ (AreInTime t f tour day used lefts lines)
   none_in_time nights late lines is =
       let by_start = sum_below-le (λ k. if nat_le (slice_index lefts k) nights then 1 else 0) (λ k. early (start k)) (length lefts) (record { each = λ k below. of_tail k below }) in
       let regrouped = by_places start early used (length lefts) start_within in
@@ -105,7 +101,7 @@ module _ (t : Tables) (f : ℕ) (tour lefts reaches : List ℕ) (used : ℕ) (as
       start k = slice_index lines k / days_in t
 
       start_is : (k : ℕ) (below : k < length lefts) → start k ≡ (is.each k below).start
-      start_is k below = ap (λ n. n / days_in t) (is.each k below).its_line ∙ start_of t (is.each k below).start
+      start_is k below = ap (λ n. n / days_in t) (is.each k below).its_line ∙ start_of t day (is.each k below).start inside
 
       start_within : (k : ℕ) → k < length lefts → start k < used
       start_within k below = subst (λ s. s < used) (sym (start_is k below)) (is.each k below).within
@@ -113,7 +109,7 @@ module _ (t : Tables) (f : ℕ) (tour lefts reaches : List ℕ) (used : ℕ) (as
       own_start : (j k : ℕ) → j < length lefts → k < length lefts → start j ≡ start k → j ≡ k
       own_start j k lt less same =
           is.own j k lt less
-          ((is.each j lt).its_line ∙ ap (start_line t) (sym (start_is j lt) ∙ same ∙ start_is k less) ∙ sym (is.each k less).its_line)
+          ((is.each j lt).its_line ∙ ap (start_line t day) (sym (start_is j lt) ∙ same ∙ start_is k less) ∙ sym (is.each k less).its_line)
 
       no_later : (left reach nights : ℕ) → reach ≤ left → (if nat_le left nights then 1 else 0) ≤ (if nat_le reach nights then 1 else 0)
       no_later left reach nights le = grind (arith, nat_tests)
@@ -132,16 +128,16 @@ module _ (t : Tables) (f : ℕ) (tour lefts reaches : List ℕ) (used : ℕ) (as
           once x count le = grind arith
 
 -- ---- the same of lists and a number that are equal to these
-module _ (t : Tables) (f : ℕ) (tour : List ℕ) (lefts reaches : List ℕ) (used : ℕ) where
+module _ (t : Tables) (f : ℕ) (tour : List ℕ) (lefts reaches : List ℕ) (day used : ℕ) (inside : day < days_in t) where
   pub placed_in_time : (first second reached counted lines : List ℕ) (number : ℕ) → first ≡ lefts → second ≡ lefts → reached ≡ reaches → counted ≡ reaches → number ≡ used → length lefts ≡ used
-      → AreReaches t f tour number reaches → IsNeverLate first reached → AreStarts t second counted lines → AreInTime t f tour used lefts lines
+      → AreReaches t f tour day number reaches → IsNeverLate first reached → AreStarts t day second counted lines → AreInTime t f tour day used lefts lines
   placed_in_time first second reached counted lines number one two three four same as_many are never starts =
-      starts_in_time t f tour lefts reaches used as_many (subst (λ n. AreReaches t f tour n reaches) same are) lines
+      starts_in_time t f tour lefts reaches day used inside as_many (subst (λ n. AreReaches t f tour day n reaches) same are) lines
       (subst (λ xs. IsNeverLate xs reaches) one (subst (IsNeverLate first) three never))
-      (subst (λ xs. AreStarts t xs reaches lines) two (subst (λ ys. AreStarts t second ys lines) four starts))
+      (subst (λ xs. AreStarts t day xs reaches lines) two (subst (λ ys. AreStarts t day second ys lines) four starts))
 
   pub late_none : (first reached : List ℕ) (number nights : ℕ) → first ≡ lefts → reached ≡ reaches → number ≡ used → length lefts ≡ used
-      → AreReaches t f tour number reaches → IsLateAt first reached nights → (lines : List ℕ) → ¬ (AreInTime t f tour used lefts lines)
+      → AreReaches t f tour day number reaches → IsLateAt first reached nights → (lines : List ℕ) → ¬ (AreInTime t f tour day used lefts lines)
   late_none first reached number nights one two same as_many are late lines =
-      none_in_time t f tour lefts reaches used as_many (subst (λ n. AreReaches t f tour n reaches) same are) nights
+      none_in_time t f tour lefts reaches day used inside as_many (subst (λ n. AreReaches t f tour day n reaches) same are) nights
       (subst (λ xs. IsLateAt xs reaches nights) one (subst (λ ys. IsLateAt first ys nights) two late)) lines

@@ -17,18 +17,18 @@ use Rattle.sums.specs.Below.{sum_below}
 use Rattle.tail_dates.specs.Reaches.{AreReaches, HasReach, IsReach, maintenance_nights, night_ending, start_line}
 use Rattle.tail_dates.proofs.Nights.{all_nights}
 
-pub reaches_more : (t : Tables) (f : ℕ) (tour reaches grown : List ℕ) (start reach : ℕ) → AreReaches t f tour start reaches
-    → grown ≡ reaches ++ reach ∷ [] → HasReach t f tour (start_line t start) reach → AreReaches t f tour (start + 1) grown
-reaches_more t f tour reaches grown start reach so_far pushed new = record {
+pub reaches_more : (t : Tables) (f : ℕ) (tour : List ℕ) (day : ℕ) (reaches grown : List ℕ) (start reach : ℕ) → AreReaches t f tour day start reaches
+    → grown ≡ reaches ++ reach ∷ [] → HasReach t f tour (start_line t day start) reach → AreReaches t f tour day (start + 1) grown
+reaches_more t f tour day reaches grown start reach so_far pushed new = record {
   each_start = ap length pushed ∙ length-append reaches (reach ∷ []) ∙ ap (λ n. n + 1) so_far.each_start;
   each = λ k below. elim (cases_lt k start) [
     | inl less ↦
-        subst (HasReach t f tour (start_line t k))
+        subst (HasReach t f tour (start_line t day k))
         (sym (ap (λ xs. slice_index xs k) pushed ∙ get_or_append_left reaches (reach ∷ []) 0 k (omega (arith, less, so_far.each_start)))) (so_far.each k less)
     | inr ge ↦
         let same : start ≡ k = omega (arith, below, ge) in
-        subst (λ n. HasReach t f tour (start_line t n) (slice_index grown n)) same
-        (subst (HasReach t f tour (start_line t start)) (sym (ap (λ xs. slice_index xs start) pushed ∙ get_or_push reaches reach 0 start so_far.each_start)) new)
+        subst (λ n. HasReach t f tour (start_line t day n) (slice_index grown n)) same
+        (subst (HasReach t f tour (start_line t day start)) (sym (ap (λ xs. slice_index xs start) pushed ∙ get_or_push reaches reach 0 start so_far.each_start)) new)
   ];
 }
 
@@ -44,12 +44,21 @@ module _ (t : Tables) (a : List ℕ) (f : ℕ) (tour : List ℕ) (is : IsTour t 
   pub nights_few : used_of t (weights_of a) f < 4294967296 → length (maintenance_nights t f tour) < 34359738368
   nights_few few = omega (arith, all_nights t a f tour is, mul-le-mul_left (used_of t (weights_of a) f) (few_days t), few)
 
--- a start's first night lies in the nights, or in as many more
-pub first_few : (nights early start used days most : ℕ) → nights ≡ used * days → start < used → nights < most → nights - early + start * days < 2 * most
-first_few nights early start used days most all within few = omega (arith, all, product, few)
+-- a start's line is one of the tour's
+pub line_within : (start day used days : ℕ) → start < used → day < days → start * days + day < used * days
+line_within start day used days within inside =
+    let room : days * (start + 1) ≤ days * used = mul-le-mul_left days (omega (arith, within)) in
+    omega (arith, room, turned start days, turned used days, more start days, inside)
   where
-    product : start * days ≤ used * days
-    product = grind arith
+    turned : (m n : ℕ) → m * n ≡ n * m
+    turned m n = grind arith
+
+    more : (m n : ℕ) → n * (m + 1) ≡ n * m + n
+    more m n = grind arith
+
+-- its first night lies in the nights, or in as many more
+pub first_few : (nights early start day used days most : ℕ) → nights ≡ used * days → start < used → day < days → nights < most → nights - early + (start * days + day) < 2 * most
+first_few nights early start day used days most all within inside few = omega (arith, all, line_within start day used days within inside, few)
 
 pub reach_is : (t : Tables) (f : ℕ) (tour : List ℕ) (nights : List Bool) (line first reach : ℕ) → nights ≡ maintenance_nights t f tour
     → first ≡ night_ending t f tour line → IsReach nights first reach → HasReach t f tour line reach

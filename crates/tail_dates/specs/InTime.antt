@@ -9,35 +9,35 @@ use Rattle.tail_dates.specs.declared.placing.Placed.{Placed}
 use Rattle.tail_dates.specs.declared.placing.Placed.TheVariants as placed
 use Rattle.tail_dates.specs.declared.tails.TailState.{TailState}
 
--- the line starts a period of the tour, and from it maintenance comes within the nights left
-pub record ComesInTime (t : Tables) (f : ℕ) (tour : List ℕ) (used left line : ℕ) : Type 0 where
+-- the line is a start of the day of the period, and from it maintenance comes within the nights left
+pub record ComesInTime (t : Tables) (f : ℕ) (tour : List ℕ) (day used left line : ℕ) : Type 0 where
   pub start : ℕ
   pub within : start < used
-  pub its_line : line ≡ start_line t start
+  pub its_line : line ≡ start_line t day start
   pub reach : ℕ
   pub has_reach : HasReach t f tour line reach
   pub in_time : reach ≤ left
 
 -- each tail has a line of its own from which it comes to maintenance in time
-pub record AreInTime (t : Tables) (f : ℕ) (tour : List ℕ) (used : ℕ) (lefts lines : List ℕ) : Type 0 where
+pub record AreInTime (t : Tables) (f : ℕ) (tour : List ℕ) (day used : ℕ) (lefts lines : List ℕ) : Type 0 where
   pub each_tail : length lines ≡ length lefts
-  pub each : (k : ℕ) → k < length lefts → ComesInTime t f tour used (slice_index lefts k) (slice_index lines k)
+  pub each : (k : ℕ) → k < length lefts → ComesInTime t f tour day used (slice_index lefts k) (slice_index lines k)
   pub own : (j k : ℕ) → j < length lefts → k < length lefts → slice_index lines j ≡ slice_index lines k → j ≡ k
 
 -- the lines that are given are such
-abbrev pub AnswersInTime : Tables → ℕ → List ℕ → ℕ → List ℕ → Placed → Type 0
-AnswersInTime t f tour used lefts (placed.WrongNumber tails told) = Unit {0}
-AnswersInTime t f tour used lefts (placed.Late within tails starts) = Unit {0}
-AnswersInTime t f tour used lefts (placed.Lines lines) = AreInTime t f tour used lefts lines
+abbrev pub AnswersInTime : Tables → ℕ → List ℕ → ℕ → ℕ → List ℕ → Placed → Type 0
+AnswersInTime t f tour day used lefts (placed.WrongNumber tails told) = Unit {0}
+AnswersInTime t f tour day used lefts (placed.Late within tails starts) = Unit {0}
+AnswersInTime t f tour day used lefts (placed.Lines lines) = AreInTime t f tour day used lefts lines
 
 -- where tails are late there are none such
-abbrev pub AnswersNone : Tables → ℕ → List ℕ → ℕ → List ℕ → Placed → Type 0
-AnswersNone t f tour used lefts (placed.WrongNumber tails told) = Unit {0}
-AnswersNone t f tour used lefts (placed.Late within tails starts) = (lines : List ℕ) → ¬ (AreInTime t f tour used lefts lines)
-AnswersNone t f tour used lefts (placed.Lines lines) = Unit {0}
+abbrev pub AnswersNone : Tables → ℕ → List ℕ → ℕ → ℕ → List ℕ → Placed → Type 0
+AnswersNone t f tour day used lefts (placed.WrongNumber tails told) = Unit {0}
+AnswersNone t f tour day used lefts (placed.Late within tails starts) = (lines : List ℕ) → ¬ (AreInTime t f tour day used lefts lines)
+AnswersNone t f tour day used lefts (placed.Lines lines) = Unit {0}
 
-abbrev pub GivesStarts : Tables → List ℕ → ℕ → List ℕ → List TailState → Placed → Type 0
-GivesStarts t a f tour tails answer = AnswersInTime t f tour (used_of t (weights_of a) f) (lefts_of f tails) answer
+abbrev pub GivesStarts : Tables → List ℕ → ℕ → List ℕ → ℕ → List TailState → Placed → Type 0
+GivesStarts t a f tour day tails answer = AnswersInTime t f tour day (used_of t (weights_of a) f) (lefts_of f tails) answer
 
-abbrev pub ShowsNone : Tables → List ℕ → ℕ → List ℕ → List TailState → Placed → Type 0
-ShowsNone t a f tour tails answer = AnswersNone t f tour (used_of t (weights_of a) f) (lefts_of f tails) answer
+abbrev pub ShowsNone : Tables → List ℕ → ℕ → List ℕ → ℕ → List TailState → Placed → Type 0
+ShowsNone t a f tour day tails answer = AnswersNone t f tour day (used_of t (weights_of a) f) (lefts_of f tails) answer

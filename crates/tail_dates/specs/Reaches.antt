@@ -18,9 +18,10 @@ is_maintained nights k = slice_index_or nights (k % length nights) false
 abbrev pub night_ending : Tables → ℕ → List ℕ → ℕ → ℕ
 night_ending t f tour line = length (maintenance_nights t f tour) - first_day t f tour + line
 
--- the line that starts a period of the tour, of those counted from 0
-abbrev pub start_line : Tables → ℕ → ℕ
-start_line t period = period * days_in t
+-- The line of a day of the period in one of the tour's periods, the day counted from 0 and the period too. These are the starts
+-- of that day: with each of them an aircraft can begin then.
+abbrev pub start_line : Tables → ℕ → ℕ → ℕ
+start_line t day period = period * days_in t + day
 
 -- of the nights from one on, the last of so many is the first for maintenance
 pub record IsReach (nights : List Bool) (first reach : ℕ) : Type 0 where
@@ -32,7 +33,7 @@ pub record IsReach (nights : List Bool) (first reach : ℕ) : Type 0 where
 abbrev pub HasReach : Tables → ℕ → List ℕ → ℕ → ℕ → Type 0
 HasReach t f tour line reach = IsReach (maintenance_nights t f tour) (night_ending t f tour line) reach
 
--- the reaches of a tour's first starts
-pub record AreReaches (t : Tables) (f : ℕ) (tour : List ℕ) (starts : ℕ) (reaches : List ℕ) : Type 0 where
+-- the reaches of a tour's first starts on a day of the period
+pub record AreReaches (t : Tables) (f : ℕ) (tour : List ℕ) (day starts : ℕ) (reaches : List ℕ) : Type 0 where
   pub each_start : length reaches ≡ starts
-  pub each : (i : ℕ) → i < starts → HasReach t f tour (start_line t i) (slice_index reaches i)
+  pub each : (i : ℕ) → i < starts → HasReach t f tour (start_line t day i) (slice_index reaches i)

@@ -1,6 +1,6 @@
 ghost use Rattle.std.specs.Prelude.{◌<◌, ℕ, IfOk};
 ghost use Rattle.fleet_model.specs.Legal.{IsAssignment};
-ghost use Rattle.fleet_model.specs.Schedule.{fleets_in};
+ghost use Rattle.fleet_model.specs.Schedule.{days_in, fleets_in};
 ghost use Rattle.ground_turns.specs.Maps.{IsTour};
 ghost use Rattle.ground_turns.specs.Nights.{IsKeptFor, nights_of_tour};
 ghost use Rattle.lines_of_flying.specs.Lines.{BeginsAfterStart};
@@ -39,9 +39,9 @@ pub enum Placed {
     Lines(Entries<u64>),
 }
 
-/// With which line of a fleet's tour each of its tails begins. A start is the first line of each period of the tour. Its
-/// reach is how many nights pass up to the first one for maintenance, the one that ends its line among them. Tails by the
-/// nights that they have left take the starts by their reach, equal ones in their order.
+/// With which line of a fleet's tour each of its tails begins, on a day of the period, counted from 0. A start is the line of
+/// that day in each period of the tour. Its reach is how many nights pass up to the first one for maintenance, the one that
+/// ends its line among them. Tails by the nights that they have left take the starts by their reach, equal ones in their order.
 ///
 /// The tour is one that comes to maintenance, and begins as `euler_rotation::rotate` gives it.
 pub fn place(
@@ -50,6 +50,7 @@ pub fn place(
     plan: &Assignment,
     fleet: u32,
     tour: &[u32],
+    day: u32,
     tails: &[TailState],
 ) -> Result<Placed, NoMemory>
     requires plan { IsAssignment tables.now plan.now }
@@ -57,9 +58,10 @@ pub fn place(
     requires tour { IsTour tables.now plan.now fleet tour.now }
     requires begins { BeginsAfterStart tables.now fleet tour.now }
     requires kept { (days : ℕ) × (IsKeptFor tables.now (nights_of_tour tables.now fleet tour.now) days) }
-    ensures placed { IfOk result (IsPlaced tables.now plan.now fleet tour.now tails.now) }
-    ensures in_time { IfOk result (GivesStarts tables.now plan.now fleet tour.now tails.now) }
-    ensures none { IfOk result (ShowsNone tables.now plan.now fleet tour.now tails.now) }
+    requires day { day < days_in tables.now }
+    ensures placed { IfOk result (IsPlaced tables.now plan.now fleet tour.now day tails.now) }
+    ensures in_time { IfOk result (GivesStarts tables.now plan.now fleet tour.now day tails.now) }
+    ensures none { IfOk result (ShowsNone tables.now plan.now fleet tour.now day tails.now) }
 {
     let lefts = lefts_of(alloc, tails, fleet)?;
     let used = used(tables, plan, fleet);
@@ -69,13 +71,13 @@ pub fn place(
             used,
         });
     }
-    let reaches = reaches_of(alloc, tables, plan, fleet, tour, used)?;
+    let reaches = reaches_of(alloc, tables, plan, fleet, tour, day, used)?;
     match first_late(&lefts, &reaches) {
         Some(within) => Ok(Placed::Late {
             within,
             tails: at_most(&lefts, within),
             starts: at_most(&reaches, within),
         }),
-        None => Ok(Placed::Lines(starts_by_rank(alloc, tables, &lefts, &reaches)?)),
+        None => Ok(Placed::Lines(starts_by_rank(alloc, tables, day, &lefts, &reaches)?)),
     }
 }

@@ -7,7 +7,7 @@ ghost use Rattle.fleet_model.specs.Use.{used_of};
 ghost use Rattle.ground_turns.specs.Maps.{IsTour, turn_after};
 ghost use Rattle.ground_turns.specs.Nights.{IsKeptFor, can_maintain, nights_in_turn, nights_of_tour};
 ghost use Rattle.lines_of_flying.specs.Lines.{AreLegs, BeginsAfterStart};
-ghost use Rattle.tail_dates.specs.Reaches.{AreReaches, IsReach, maintenance_nights};
+ghost use Rattle.tail_dates.specs.Reaches.{AreReaches, IsReach, maintenance_nights, start_line};
 ghost use Rattle.tail_dates.specs.Rounds.{HasMaintenance};
 
 use entries::NoMemory;
@@ -16,13 +16,14 @@ use ground_turns::{flight, nights_waited};
 use lines_of_flying::{first_day, turn_after};
 use std::alloc::Global;
 
-/// The reach of each start of a tour of so many aircraft.
+/// The reach of each start of a tour of so many aircraft, on a day of the period, counted from 0.
 pub(crate) fn reaches_of(
     alloc: Global,
     tables: &Tables,
     plan: &Assignment,
     fleet: u32,
     tour: &[u32],
+    day: u32,
     used: u32,
 ) -> Result<Vec<u64>, NoMemory>
     requires plan { IsAssignment tables.now plan.now }
@@ -30,17 +31,28 @@ pub(crate) fn reaches_of(
     requires tour { IsTour tables.now plan.now fleet tour.now }
     requires begins { BeginsAfterStart tables.now fleet tour.now }
     requires kept { (days : ℕ) × (IsKeptFor tables.now (nights_of_tour tables.now fleet tour.now) days) }
+    requires day { day < days_in tables.now }
     requires used { used ≡ used_of tables.now (weights_of plan.now) fleet }
-    ensures { IfOk result (λ reaches. AreReaches tables.now fleet tour.now used reaches.items) }
+    ensures { IfOk result (λ reaches. AreReaches tables.now fleet tour.now day used reaches.items) }
 {
     let nights = maintenance_nights(alloc, tables, fleet, tour)?;
     let first = nights.len() as u64 - u64::from(first_day(tables, fleet, tour));
     let mut reaches = Vec::new(alloc);
     for start in 0..used {
-        let line = u64::from(start) * u64::from(tables.day_count());
+        let line = start_line(tables, day, u64::from(start));
         reaches.push(reach(&nights, first + line))?;
     }
     Ok(reaches)
+}
+
+/// The line of a start on a day of the period: of that day in the period after so many.
+pub(crate) fn start_line(tables: &Tables, day: u32, period: u64) -> u64
+    requires day { day < days_in tables.now }
+    requires few { period < 2 ^ 32 }
+    ensures value { result ≡ start_line tables.now day period }
+    ensures few { result < 2 ^ 40 }
+{
+    period * u64::from(tables.day_count()) + u64::from(day)
 }
 
 /// Of the nights from one on, going round, how many pass to the first for maintenance, it among them. Takes no memory.

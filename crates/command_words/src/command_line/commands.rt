@@ -35,8 +35,12 @@ const SEARCH_OPTIONS: &[Argument<'static>] = &[
     Argument::Flag("json"),
 ];
 
-/// `DATE COUNT`: dates one after the other.
-const DATES: &[Argument<'static>] = &[Argument::Word("date"), Argument::Word("count")];
+/// `DATE COUNT [--first-day FIRST]`: dates one after the other, and a first day of the period.
+const DATES: &[Argument<'static>] = &[
+    Argument::Word("date"),
+    Argument::Word("count"),
+    Argument::Option("first-day"),
+];
 
 /// `NUMBER LEGS`: what tables are made of.
 const MADE: &[Argument<'static>] = &[Argument::Word("number"), Argument::Word("legs")];

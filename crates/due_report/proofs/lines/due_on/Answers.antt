@@ -16,7 +16,7 @@ loop-fleet-preserved c =
     let days = map day_on c.args.dates.now in
     let n = c.loop-fleet.fleet in
     let within : n < length rotations = omega arith in
-    let placed : n < length placings = omega (arith, within, c.requires.placings.each_fleet) in
+    let placed : n < length placings = omega (arith, within, c.requires.placings.2.each_fleet) in
     let made : c.index-rotations-fleet.result ≡ rotation_of rotations n = c.index-rotations-fleet.is ∙ get_or_default rotations n c.index-rotations-fleet.result no_rotation within in
     let placing : c.index-placings-fleet.result ≡ placing_of placings n = c.index-placings-fleet.is ∙ get_or_default placings n c.index-placings-fleet.result None placed in
     c.in_ok-push_due.ensures ∙ ap (λ text. text ++ fleet_due t plan n c.index-rotations-fleet.result tails c.index-placings-fleet.result days) c.loop-fleet.invariant
@@ -49,8 +49,12 @@ push_due-requires-clause-placing c =
     let placings = c.args.placings.now in
     let n = c.loop-fleet.fleet in
     let within : n < length rotations = omega arith in
-    let placed : n < length placings = omega (arith, within, c.requires.placings.each_fleet) in
+    let placed : n < length placings = omega (arith, within, c.requires.placings.2.each_fleet) in
     let made : c.index-rotations-fleet.result ≡ rotation_of rotations n = c.index-rotations-fleet.is ∙ get_or_default rotations n c.index-rotations-fleet.result no_rotation within in
     let placing : c.index-placings-fleet.result ≡ placing_of placings n = c.index-placings-fleet.is ∙ get_or_default placings n c.index-placings-fleet.result None placed in
-    subst (λ one. IsPlacing t a n tails (last_made one) c.index-placings-fleet.result) (sym made)
-    (subst (IsPlacing t a n tails (last_made (rotation_of rotations n))) (sym placing) (c.requires.placings.each n within))
+    let day = c.requires.placings.0 in (
+      day,
+      c.requires.placings.1,
+      subst (λ one. IsPlacing t a n day tails (last_made one) c.index-placings-fleet.result) (sym made)
+          (subst (IsPlacing t a n day tails (last_made (rotation_of rotations n))) (sym placing) (c.requires.placings.2.each n within)),
+    )

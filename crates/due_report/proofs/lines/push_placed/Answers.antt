@@ -13,5 +13,6 @@ push_begun-requires-clause-begun c =
     let f = c.args.fleet in
     let tour = c.args.tour.now in
     let tails = c.args.tails.now in
-    let is : IsPlaced t a f tour tails (placed.Lines c.in-Lines.starts) = subst (IsPlaced t a f tour tails) c.in-Lines.is c.requires.placed in
-    subst (AreBegun t (lines_by t a f tour) (names_of f tails)) (sym c.as_slice-starts.ensures) (placed_begin t f tails a tour c.in-Lines.starts is)
+    let day = c.requires.placed.0 in
+    let is : IsPlaced t a f tour day tails (placed.Lines c.in-Lines.starts) = subst (IsPlaced t a f tour day tails) c.in-Lines.is c.requires.placed.2 in
+    subst (AreBegun t (lines_by t a f tour) (names_of f tails)) (sym c.as_slice-starts.ensures) (placed_begin t f tails a tour day c.in-Lines.starts c.requires.placed.1 is)

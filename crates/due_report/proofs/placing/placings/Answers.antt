@@ -14,8 +14,8 @@ loop-fleet-preserved c =
     let within : n < length rotations = omega arith in
     let same : c.last.result.now ≡ last_made (rotation_of rotations n) =
     c.last.ensures ∙ ap last_made (c.index-rotations-fleet.is ∙ get_or_default rotations n c.index-rotations-fleet.result no_rotation within) in
-    placing_pushed t a rotations c.args.tails.now c.loop-fleet.placings.items n c.in_ok-placing.field-0 c.push.new.self.items c.in_ok-push.ensures.items c.loop-fleet.invariant
-    (subst (λ made. IsPlacing t a n c.args.tails.now made c.in_ok-placing.field-0) same c.in_ok-placing.ensures)
+    placing_pushed t a rotations c.args.day c.args.tails.now c.loop-fleet.placings.items n c.in_ok-placing.field-0 c.push.new.self.items c.in_ok-push.ensures.items c.loop-fleet.invariant
+    (subst (λ made. IsPlacing t a n c.args.day c.args.tails.now made c.in_ok-placing.field-0) same c.in_ok-placing.ensures)
 
 pub placing-requires-clause-tour : goal.placing-requires-clause-tour
 placing-requires-clause-tour c =

@@ -14,8 +14,8 @@ loop-fleet-preserved c =
     let n = c.loop-fleet.fleet in
     let within : n < length rotations = omega arith in
     let same : c.index-rotations-fleet.result ≡ rotation_of rotations n = c.index-rotations-fleet.is ∙ get_or_default rotations n c.index-rotations-fleet.result no_rotation within in
-    c.in_ok-push_tails.ensures ∙ ap (λ text. text ++ fleet_tails t plan n c.index-rotations-fleet.result days) c.loop-fleet.invariant
-    ∙ ap (λ made. fleets_tails t plan rotations days n ++ fleet_tails t plan n made days) same ∙ ap (fleets_tails t plan rotations days) (sym (add-one n))
+    c.in_ok-push_tails.ensures ∙ ap (λ text. text ++ fleet_tails t plan n c.index-rotations-fleet.result c.args.past days) c.loop-fleet.invariant
+    ∙ ap (λ made. fleets_tails t plan rotations c.args.past days n ++ fleet_tails t plan n made c.args.past days) same ∙ ap (fleets_tails t plan rotations c.args.past days) (sym (add-one n))
 
 pub push_tails-requires-clause-made : goal.push_tails-requires-clause-made
 push_tails-requires-clause-made c =
@@ -34,4 +34,4 @@ push_tails-requires-clause-tour c =
 pub returns : goal.returns
 returns c =
     let all : c.loop-fleet.fleet ≡ length c.args.rotations.now = omega arith in
-    c.loop-fleet.invariant ∙ ap (fleets_tails c.args.tables.now c.args.plan.now c.args.rotations.now (map day_on c.args.dates.now)) all
+    c.loop-fleet.invariant ∙ ap (fleets_tails c.args.tables.now c.args.plan.now c.args.rotations.now c.args.past (map day_on c.args.dates.now)) all

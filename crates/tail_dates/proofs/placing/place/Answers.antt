@@ -11,14 +11,14 @@ first_late-requires-clause-few c = subst AreBytes (sym c.deref.ensures.value) c.
 pub returns-in-Some-clause-none : goal.returns-in-Some-clause-none
 returns-in-Some-clause-none c =
     let as_many : length (lefts_of c.args.fleet c.args.tails.now) ≡ used_of c.args.tables.now (weights_of c.args.plan.now) c.args.fleet = search rules in
-    late_none c.args.tables.now c.args.fleet c.args.tour.now (lefts_of c.args.fleet c.args.tails.now) c.in_ok-reaches.reaches.items (used_of c.args.tables.now (weights_of c.args.plan.now) c.args.fleet)
+    late_none c.args.tables.now c.args.fleet c.args.tour.now (lefts_of c.args.fleet c.args.tails.now) c.in_ok-reaches.reaches.items c.args.day (used_of c.args.tables.now (weights_of c.args.plan.now) c.args.fleet) c.requires.day
     c.deref.result.now c.deref-2.result.now c.used-used.result c.in-Some.within (c.deref.ensures.value ∙ c.in_ok-lefts.ensures.value) c.deref-2.ensures.value c.used-used.ensures as_many
     c.in_ok-reaches.ensures c.in-Some.ensures.late
 
 pub returns-clause-in_time : goal.returns-clause-in_time
 returns-clause-in_time c =
     let as_many : length (lefts_of c.args.fleet c.args.tails.now) ≡ used_of c.args.tables.now (weights_of c.args.plan.now) c.args.fleet = search rules in
-    placed_in_time c.args.tables.now c.args.fleet c.args.tour.now (lefts_of c.args.fleet c.args.tails.now) c.in_ok-reaches.reaches.items (used_of c.args.tables.now (weights_of c.args.plan.now) c.args.fleet)
+    placed_in_time c.args.tables.now c.args.fleet c.args.tour.now (lefts_of c.args.fleet c.args.tails.now) c.in_ok-reaches.reaches.items c.args.day (used_of c.args.tables.now (weights_of c.args.plan.now) c.args.fleet) c.requires.day
     c.deref.result.now c.deref-in-None.result.now c.deref-2.result.now c.deref-in-None-2.result.now c.in_ok-starts_by_rank-in-None.field-0 c.used-used.result
     (c.deref.ensures.value ∙ c.in_ok-lefts.ensures.value) (c.deref-in-None.ensures.value ∙ c.in_ok-lefts.ensures.value) c.deref-2.ensures.value c.deref-in-None-2.ensures.value c.used-used.ensures as_many
     c.in_ok-reaches.ensures c.in-None.ensures c.in_ok-starts_by_rank-in-None.ensures

@@ -1,4 +1,4 @@
-use Rattle.std.proofs.Common.{◌≡◌, ◌-◌, ◌+◌, ◌*◌, length, rules, sym, ◌∙◌, ap, subst, arith}
+use Rattle.std.proofs.Common.{◌≡◌, ◌-◌, ◌+◌, ◌*◌, ◌<◌, length, rules, sym, ◌∙◌, ap, subst, arith}
 use Rattle.lines_of_flying.proofs.TourLines.{known_legs}
 use Rattle.lines_of_flying.specs.Lines.{first_day}
 use Rattle.fleet_model.specs.Schedule.{days_in}
@@ -37,11 +37,10 @@ reach-requires-clause-first c =
     let count : c.len.result ≡ length c.in_ok-nights.nights.items = search rules in
     let nights : c.len.result ≡ length (maintenance_nights c.args.tables.now c.args.fleet c.args.tour.now) = count ∙ ap length c.in_ok-nights.ensures in
     let few = nights_few c.args.tables.now c.args.plan.now c.args.fleet c.args.tour.now c.requires.tour (omega (arith, c.requires.used)) in
-    let start : c.from-in-loop-start.result ≡ c.loop-start.start = c.from-in-loop-start.ensures in
-    let days : c.from-in-loop-start-2.result ≡ days_in c.args.tables.now = c.from-in-loop-start-2.ensures ∙ c.day_count.ensures.value in
-    let all : c.len.result ≡ c.args.used * c.from-in-loop-start-2.result =
-    nights ∙ all_nights c.args.tables.now c.args.plan.now c.args.fleet c.args.tour.now c.requires.tour ∙ ap (λ n. n * days_in c.args.tables.now) (sym c.requires.used) ∙ ap (λ n. c.args.used * n) (sym days) in
-    omega (arith, first_few c.len.result c.from.result c.from-in-loop-start.result c.args.used c.from-in-loop-start-2.result 34359738368 all (omega (arith, start, c.loop-start-test.true)) (omega (arith, nights, few)))
+    let all : c.len.result ≡ c.args.used * days_in c.args.tables.now =
+    nights ∙ all_nights c.args.tables.now c.args.plan.now c.args.fleet c.args.tour.now c.requires.tour ∙ ap (λ n. n * days_in c.args.tables.now) (sym c.requires.used) in
+    let start : c.from-in-loop-start.result < c.args.used = omega (arith, c.from-in-loop-start.ensures, c.loop-start-test.true) in
+    omega (arith, c.start_line-line.ensures.value, first_few c.len.result c.from.result c.from-in-loop-start.result c.args.day c.args.used (days_in c.args.tables.now) 34359738368 all start c.requires.day (omega (arith, nights, few)))
 
 pub loop-start-preserved : goal.loop-start-preserved
 loop-start-preserved c =
@@ -49,9 +48,8 @@ loop-start-preserved c =
     let count : c.len.result ≡ length c.in_ok-nights.nights.items = search rules in
     let nights : c.len.result ≡ length (maintenance_nights c.args.tables.now c.args.fleet c.args.tour.now) = count ∙ ap length c.in_ok-nights.ensures in
     let early : c.from.result ≡ first_day c.args.tables.now c.args.fleet c.args.tour.now = c.from.ensures ∙ c.first_day.ensures.value in
-    let line : c.from-in-loop-start.result * c.from-in-loop-start-2.result ≡ start_line c.args.tables.now c.loop-start.start =
-    ap (λ n. n * c.from-in-loop-start-2.result) c.from-in-loop-start.ensures ∙ ap (λ n. c.loop-start.start * n) (c.from-in-loop-start-2.ensures ∙ c.day_count.ensures.value) in
-    let first : c.len.result - c.from.result + c.from-in-loop-start.result * c.from-in-loop-start-2.result ≡ night_ending c.args.tables.now c.args.fleet c.args.tour.now (start_line c.args.tables.now c.loop-start.start) =
+    let line : c.start_line-line.result ≡ start_line c.args.tables.now c.args.day c.loop-start.start = c.start_line-line.ensures.value ∙ ap (start_line c.args.tables.now c.args.day) c.from-in-loop-start.ensures in
+    let first : c.len.result - c.from.result + c.start_line-line.result ≡ night_ending c.args.tables.now c.args.fleet c.args.tour.now (start_line c.args.tables.now c.args.day c.loop-start.start) =
     omega (arith, nights, early, line) in
-    reaches_more c.args.tables.now c.args.fleet c.args.tour.now c.loop-start.reaches.items c.push.new.self.items c.loop-start.start c.reach.result c.loop-start.invariant c.in_ok-push.ensures.items
-    (reach_is c.args.tables.now c.args.fleet c.args.tour.now c.deref.result.now (start_line c.args.tables.now c.loop-start.start) _ c.reach.result same first c.reach.ensures)
+    reaches_more c.args.tables.now c.args.fleet c.args.tour.now c.args.day c.loop-start.reaches.items c.push.new.self.items c.loop-start.start c.reach.result c.loop-start.invariant c.in_ok-push.ensures.items
+    (reach_is c.args.tables.now c.args.fleet c.args.tour.now c.deref.result.now (start_line c.args.tables.now c.args.day c.loop-start.start) _ c.reach.result same first c.reach.ensures)

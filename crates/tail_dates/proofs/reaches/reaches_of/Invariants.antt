@@ -2,4 +2,4 @@ use Rattle.tail_dates.specs.Reaches.{AreReaches}
 use Rattle.tail_dates.proofs.reaches.reaches_of.Given as goal
 
 abbrev pub invariant-loop-start : goal.invariant-loop-start
-invariant-loop-start l = AreReaches l.tables l.fleet l.tour l.start l.reaches.items
+invariant-loop-start l = AreReaches l.tables l.fleet l.tour l.day l.start l.reaches.items
