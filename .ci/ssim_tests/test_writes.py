@@ -66,7 +66,7 @@ def test_interrupted(name: str, number: int, scratch: Path) -> None:
 @pytest.mark.parametrize("name, number, is_new", NEW_OR_OLD)
 def test_killed(name: str, number: int, is_new: bool, scratch: Path) -> None:
     """A process that is killed at a step of writing tables: a new folder isn't there, and in an older one each file is an older one or a
-    whole one."""
+    whole one. Unless all are of one call there is no legs.csv, so that the folder doesn't read."""
     lay(scratch)
     tables(scratch)
     whole = standing(scratch / "day")
@@ -78,8 +78,11 @@ def test_killed(name: str, number: int, is_new: bool, scratch: Path) -> None:
     after = standing(scratch / "day")
     stand = after and {it: data for it, data in after.items() if not it.startswith(".")}
     put = {it for it, data in stand.items() if data != before[it]} if stand else set()
-    assert stand == (before and {it: whole[it] if it in put else before[it] for it in before})
-    assert len(put) <= (number - 1 if name == "replace" and not is_new else 0)
+    is_mixed = name == "replace" and not is_new and number > 1
+    assert stand == (before and {it: whole[it] if it in put else before[it] for it in before if it != "legs.csv" or not is_mixed})
+    assert len(put) <= (number - 2 if is_mixed else 0)
+    assert tables(scratch)[0] == 0
+    assert {it: data for it, data in standing(scratch / "day").items() if not it.startswith(".")} == {**(stand or {}), **whole}
 
 
 @pytest.mark.parametrize("before", [None, b"mine"])

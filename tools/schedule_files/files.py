@@ -3,11 +3,11 @@
 from __future__ import annotations
 
 import os
-from typing import Mapping, Optional, Sequence
+from typing import Callable, Mapping, Optional, Sequence
 
 from fleetplan import judged as judging
 from fleetplan.errors import FAULT, Unread
-from fleetplan.files import Data, new_folder, told_of, write, write_all
+from fleetplan.files import Data, locked, new_folder, told_of, write, write_all
 from fleetplan.forms import Wrong
 from fleetplan.judged import SAYING, Key
 from fleetplan.records import Rows, bytes_of, read_table
@@ -42,14 +42,17 @@ def write_whole(path: str, data: Data) -> None:
         write(path, data)
 
 
-def write_tables(folder: str, texts: Mapping[str, Data]) -> None:
-    """Writes files of a folder, each whole or not at all, or raises Unread: none stands in its place before all are written beside. A
+def write_tables(folder: str, texts: Mapping[str, Data], want: Callable[[], None] = lambda: None) -> None:
+    """Writes files of a folder, or raises Unread: all or none. Who is killed meanwhile leaves a folder that doesn't read, since legs.csv is
+    taken away first and put last; who writes there at the same time is waited for, and then `want` asks whether the files may be written. A
     folder that isn't there comes with its files."""
     for name in texts:
         want_no_folder(os.path.join(folder, name))
     with told_of(folder):
         if os.path.lexists(folder):
-            write_all(folder, texts)
+            with locked(folder):
+                want()
+                write_all(folder, texts, "legs.csv")
         else:
             with new_folder(folder) as beside:
                 write_all(beside, texts)

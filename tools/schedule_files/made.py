@@ -13,16 +13,16 @@ from schedule_files.selecting import Choice
 NAME = "made.csv"
 HEADER = ("word", "value")
 SURFACE, SERVICE, STATIONS, EXTRA = "surface", "service", "stations-only", "extra"
-AIRLINE, MAP, CHARGE = "airline", "map", "change-cost"
-WORDS = (AIRLINE, MAP, CHARGE, SURFACE, SERVICE, STATIONS, EXTRA)
+AIRLINE, MAP, CHARGE, SUM = "airline", "map", "change-cost", "sum"
+WORDS = (AIRLINE, MAP, CHARGE, SURFACE, SERVICE, STATIONS, EXTRA, SUM)
 
 
 class Made:
     """What tables were made by: the choice of legs, the minutes of a turn beyond the fleet's at stations that the tables haven't, by the
-    caller's file, and what each change of a fleet costs in them."""
+    caller's file, what each change of a fleet costs in them, and the sums of the files as they were made."""
 
-    def __init__(self, choice: Choice, extras: Mapping[str, int], charge: int) -> None:
-        self.choice, self.extras, self.charge = choice, dict(extras), charge
+    def __init__(self, choice: Choice, extras: Mapping[str, int], charge: int, sums: Mapping[str, str]) -> None:
+        self.choice, self.extras, self.charge, self.sums = choice, dict(extras), charge, dict(sums)
 
     @classmethod
     def read(cls, folder: str) -> Made:
@@ -37,11 +37,12 @@ class Made:
             extras = {code: int(minutes) for code, minutes in (it.split() for it in found[EXTRA])}
             families = dict(it.split("=") for it in found[MAP])
             charge = int((found[CHARGE] or ["0"])[0])
+            sums = dict(it.split() for it in found[SUM])
         except ValueError as error:
             raise Unread.of(path, f"has a value that isn't of its form: {error}, it should be as tools/ssim tables wrote it") from error
         airline = found[AIRLINE][0] if found[AIRLINE] else None
         choice = Choice(bool(found[SURFACE]), _codes(found[SERVICE]), None, _codes(found[STATIONS]), airline, families)
-        return cls(choice, extras, charge)
+        return cls(choice, extras, charge, sums)
 
     def text(self) -> str:
         """Returns the text of made.csv."""
@@ -61,6 +62,8 @@ class Made:
                 yield word, " ".join(sorted(codes))
         for code, minutes in sorted(self.extras.items()):
             yield EXTRA, f"{code} {minutes}"
+        for name, text in self.sums.items():
+            yield SUM, f"{name} {text}"
 
 
 def _codes(values: Sequence[str]) -> Optional[FrozenSet[str]]:

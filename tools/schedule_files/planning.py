@@ -19,6 +19,7 @@ from schedule_files.changing import Change, changes_told
 from schedule_files.days import WEEK, Dates, iso, text_of, weekday_of
 from schedule_files.files import rows
 from schedule_files.layout import BadLine, ZEROS
+from schedule_files.keeping import want_together
 from schedule_files.naming import NAMES, ZONED
 from schedule_files.reading import MOST_RECORDS, Leg, Schedule, read_schedule
 from schedule_files.retiming import common_dates, move_of, moved, retimed
@@ -66,6 +67,7 @@ def planning_of(schedule: Schedule, folder: str, scope: Scope) -> Planning:
     """Returns what the plan of a folder changes, or raises Unread."""
     path = os.path.join(folder, "names.csv")
     named, ways = [it[: len(NAMES)] for it in rows(path, NAMES, ZONED)], ways_of(folder)
+    want_together(folder, "names.csv", scope.sums)
     plan, added = plan_of(folder, [it[0] for it in named], ways)
     legs = {it.number: it for it in schedule.legs}
     flown = [leg_named(schedule, legs, path, number, row) for number, row in enumerate(named, 2)]

@@ -19,6 +19,7 @@ from schedule_files.changing import Changing, Charged
 from schedule_files.days import Dates, iso
 from schedule_files.figures import Figured, Priced
 from schedule_files.files import write_tables
+from schedule_files.keeping import Keeping, sums_of, want_as_made, want_no_source
 from schedule_files.layout import LEG
 from schedule_files.naming import ZONED
 from schedule_files.reading import Schedule
@@ -128,10 +129,10 @@ class Tables:
         own = it.name, leg.airline.strip(), leg.flight, leg.suffix.strip(), leg.variation, leg.sequence, leg.number, iso(it.operates)
         return (*own, *(LEG[f"{end}'s variation from UTC"].of(line) for end in ("departure", "arrival")))
 
-    def made(self) -> str:
-        """Returns the text of what says how the tables were made."""
+    def made(self, texts: Mapping[str, str]) -> str:
+        """Returns the text of what says how the tables were made, and what their files are."""
         extras = costing.extras_beside(self.sources.stations, self.schedule, self.stations)
-        return made.Made(self.choice, extras, self.sources.changing.cost).text()
+        return made.Made(self.choice, extras, self.sources.changing.cost, sums_of(texts)).text()
 
     def settings(self, folder: str) -> str:
         """Returns the text of the settings by which the tables are read, where the folder's other ones stay."""
@@ -194,10 +195,19 @@ def encoded(name: str, records: Iterable[Iterable[object]]) -> str:
     return text_of(HEADERS[name], records)
 
 
-def make_tables(schedule: Schedule, folder: str, dates: Dates, choice: Choice, sources: Sources) -> List[str]:
-    """Writes the tables of some dates into a folder, and returns what is told of them."""
+def make_tables(
+    schedule: Schedule, folder: str, dates: Dates, choice: Choice, sources: Sources, keeping: Keeping = Keeping()
+) -> List[str]:
+    """Writes the tables of some dates into a folder, and returns what is told of them. What the caller has changed there stays."""
     tables = Tables(schedule, dates, choice, sources)
     left = [it for option, it in ASKED.items() if option not in sources.options] + ([] if sources.figured else [PARTED])
     older = [it for it in left if os.path.lexists(os.path.join(folder, it))]
-    write_tables(folder, {**tables.texts(), made.NAME: tables.made(), SETTINGS: tables.settings(folder)})
+    texts = {**tables.texts(), SETTINGS: tables.settings(folder)}
+    want_no_source(folder, [*texts, made.NAME], keeping.reads)
+
+    def want() -> None:
+        if not keeping.is_anyway:
+            want_as_made(folder, texts, made.Made.read(folder).sums)
+
+    write_tables(folder, {**texts, made.NAME: tables.made(texts)}, want)
     return [*tables.told(), *tables.told_of_asked(), *(f"{it} stays in {folder} as it was" for it in older)]

@@ -56,7 +56,7 @@ class Scope:
 
     def __init__(self, folder: str) -> None:
         made = Made.read(folder)
-        self.choice, self.charge = made.choice, made.charge
+        self.choice, self.charge, self.sums = made.choice, made.charge, made.sums
         fleets = judged(os.path.join(folder, "fleets.csv"), HEADERS["fleets.csv"], TABLE["fleets.csv"].forms)
         self.fleets = {name: Fleet(int(aircraft), int(turn)) for name, aircraft, turn in fleets}
         path = os.path.join(folder, "stations.csv")

@@ -14,6 +14,7 @@ from schedule_files.days import ALL_DAYS, Dates
 from schedule_files.planning import Laying
 from schedule_files.selecting import Choice
 from schedule_files.figures import FIGURES, Figured
+from schedule_files.keeping import Keeping
 from schedule_files.tables import Sources
 
 TABLES = {
@@ -35,6 +36,7 @@ TABLES = {
     "airline": "XX",
     "map": "T=F",
     "surface": None,
+    "anyway": None,
 }
 # The options that may stand several times.
 SEVERAL = ("map",)
@@ -155,6 +157,8 @@ class TablesCall:
         if len(rest) != 2:
             raise Usage
         self.path, self.folder = rest
+        forms: Options = {**TABLES, **NEW}
+        self.keeping = Keeping([self.path, *(found[it] for it in found if forms[it] == "FILE")], "anyway" in found)
         figured = figures(found)
         self.dates = dates(found)
         services = listed(found, "service", "[A-Z]+")
