@@ -33,13 +33,15 @@ NOTHING = "nothing is written: --anyway writes it all the same"
 CHANGES_TOLD = "another aircraft type", "legs change: ", "configurations (bytes 173 to 192), classes (76 to 100) and onward flights (138 to 146) stay as filed"
 
 
-def lay(folder: Path, legs: Sequence[str], fleets: str, changes: Mapping[str, str], option: str = "--date", date: str = DATE) -> None:
+def lay(
+    folder: Path, legs: Sequence[str], fleets: str, changes: Mapping[str, str], option: str = "--date", date: str = DATE, *more: object
+) -> None:
     """Makes tables of legs with so many aircraft as `320 1, E90 1`, and changes fleets of flights, on each of their days, in the plan."""
     lines = numbered([header(), carrier("ZZ"), *legs, trailer("ZZ")])
     (folder / "season").write_bytes(text(lines).encode("ascii"))
     rows = "".join(f"{it.replace(' ', ',')},30\n" for it in fleets.split(", "))
     (folder / "fleets").write_text(f"fleet,aircraft,turn\n{rows}", encoding="ascii")
-    assert asked("tables", folder / "season", folder / "day", option, date, "--fleets", folder / "fleets")[0] == 0
+    assert asked("tables", folder / "season", folder / "day", option, date, "--fleets", folder / "fleets", *more)[0] == 0
     plan = [it.split(",") for it in records(folder / "day", "plan.csv")]
     own = "".join(f"{name},{changes.get(name.split('D')[0], changes.get(name, kind))}\n" for name, kind in plan)
     (folder / "day" / "plan.csv").write_text(f"flight,fleet\n{own}", encoding="ascii")
@@ -92,6 +94,51 @@ def test_not_back_with_aircraft_to_spare(scratch: Path) -> None:
     lay(scratch, DAYS, "320 9, E90 9", {"ZZ1": "E90", "ZZ3": "320"})
     status, told = write(scratch)
     assert (status, told[-3].partition(": ")[2][:75]) == (9, "at LHR on 2026-12-07 11:00 no aircraft is there for ZZ2; ZZ1 is ready there")
+
+
+# On one date alone there and back again, so that no week repeats: the 320 is ready at LHR at 10:20 in UTC.
+MONDAY = ("30NOV26", "30NOV26")
+
+
+@pytest.mark.parametrize("minute, status", [("1020", 0), ("1019", 9)])
+def test_the_minute_of_readiness(minute: str, status: int, scratch: Path) -> None:
+    """An aircraft may depart in the minute in which it is ready, and not before."""
+    legs = [leg("ZZ", 1, OUT, "E90", period=MONDAY), leg("ZZ", 2, f"LHR {minute} +0000 ZRH 1250 +0100", "E90", period=MONDAY)]
+    lay(scratch, legs, "E90 2, 320 1", {"ZZ1": "320", "ZZ2": "320"})
+    came, told = write(scratch)
+    assert came == status and told[1] == "the 7 days from 2026-11-27 don't repeat as filed: they are judged by those beside them alone"
+    place = "at LHR on 2026-11-30 10:19 no aircraft is there for ZZ2; ZZ1 is ready there at 2026-11-30 10:20"
+    line = f"320 would need 2 aircraft from 2026-11-20 to 2026-12-10, as filed 0, and has 1: {place}"
+    assert [it for it in told if "would" in it] == ([line] if status else [])
+
+
+# To GVA and back, then there on one day and back after some weeks, by an E90 as filed.
+AWAY = [
+    leg("ZZ", 3, GVA_OUT, "E90", period=("29NOV26", "29NOV26")), leg("ZZ", 4, GVA_BACK, "E90", period=("29NOV26", "29NOV26")),
+    leg("ZZ", 1, OUT, "E90", period=MONDAY), leg("ZZ", 2, BACK, "E90", period=("11JAN27", "11JAN27")),
+]  # fmt: skip
+
+
+def test_behind_the_weeks(scratch: Path) -> None:
+    """A type that the plan leaves elsewhere than as filed lacks where the file wants it, some weeks later."""
+    lay(scratch, AWAY, "E90 1, 320 1", {"ZZ1": "320"})
+    status, told = write(scratch)
+    place = "at LHR on 2027-01-11 11:00 no aircraft is there for ZZ2, and none comes there"
+    wanted = [f"E90 would need 2 aircraft from 2026-11-20 to 2027-01-19, as filed 1, and has 1: {place}"]
+    assert (status, [it for it in told if "would" in it]) == (9, wanted)
+    lay(scratch, AWAY, "E90 2, 320 1", {"ZZ1": "320"})
+    assert write(scratch)[0] == 0
+
+
+@pytest.mark.parametrize("lhr, gva, status", [(40, 165, 0), (41, 165, 9), (40, 166, 9)])
+def test_extra_minutes(lhr: int, gva: int, status: int, scratch: Path) -> None:
+    """Turns are longer by the extra minutes of stations, also of GVA, which the tables of the Monday haven't: 70 minutes pass at LHR, and
+    195 there on Tuesdays."""
+    legs = [leg("ZZ", 1, OUT, "E90", "1"), leg("ZZ", 2, BACK, "E90", "1"), leg("ZZ", 3, GVA_OUT, "320", "2"), leg("ZZ", 4, GVA_BACK, "320", "2")]
+    (scratch / "stations").write_text(f"code,extra,maintenance\nZRH,0,no\nLHR,{lhr},no\nGVA,{gva},no\n", encoding="ascii")
+    lay(scratch, legs, "E90 2, 320 1", {"ZZ1": "320", "ZZ2": "320"}, "--date", DATE, "--stations", scratch / "stations")
+    assert records(scratch / "day", "made.csv") == [f"extra,GVA {gva}"]
+    assert write(scratch)[0] == status
 
 
 def test_border(scratch: Path) -> None:
