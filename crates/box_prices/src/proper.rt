@@ -1,26 +1,26 @@
-use crate::frame::{Frame, Place};
+use crate::priced_lines::{Place, PricedLines};
 use fixed_numbers::{at, put};
 
 /// Makes proper prices of dual values, by lines, in place: no charge and no rent is below 0, and on no arc an aircraft gains. The
 /// values of cover lines become 0.
-pub fn make_proper(frame: &Frame, duals: &mut [i128]) {
-    for line in 0..frame.first_node() {
+pub fn make_proper(priced: &PricedLines, duals: &mut [i128]) {
+    for line in 0..priced.first_node() {
         put(duals, line, 0);
     }
-    for line in frame.first_count()..duals.len() {
+    for line in priced.first_count()..duals.len() {
         put(duals, line, at(duals, line, 0).min(0));
     }
     let mut last = 0i128;
-    for number in (0..frame.places.len()).rev() {
-        let place = frame.places[number];
-        let line = frame.first_node().wrapping_add(number);
+    for number in (0..priced.places.len()).rev() {
+        let place = priced.places[number];
+        let line = priced.first_node().wrapping_add(number);
         if place.is_last {
             last = at(duals, line, 0).wrapping_sub(at(duals, place.night as usize, 0));
         } else {
             raise(duals, line, place);
         }
         if place.is_first {
-            lower_count(frame, duals, line, place, last);
+            lower_count(priced, duals, line, place, last);
         }
     }
 }
@@ -34,8 +34,8 @@ fn raise(duals: &mut [i128], line: usize, place: Place) {
 
 // Raises the rent of a fleet to what an aircraft gains that waits from the last node of a station to the first: `last` is the price of
 // the last one, with the charge of its night.
-fn lower_count(frame: &Frame, duals: &mut [i128], line: usize, place: Place, last: i128) {
-    let count = frame.first_count().wrapping_add(place.fleet as usize);
+fn lower_count(priced: &PricedLines, duals: &mut [i128], line: usize, place: Place, last: i128) {
+    let count = priced.first_count().wrapping_add(place.fleet as usize);
     let most = last.wrapping_sub(at(duals, line, 0));
     put(duals, count, at(duals, count, 0).min(most));
 }

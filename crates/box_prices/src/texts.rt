@@ -1,5 +1,5 @@
-use crate::frame::Frame;
-use crate::lines_of_text::{push_charge, push_rent, push_step, push_weight};
+use crate::priced_lines::PricedLines;
+use crate::text_lines::{push_charge, push_rent, push_step, push_weight};
 use dual_bound::{Charge, PriceStep, Prices};
 use entries::NoMemory;
 use fixed_numbers::{at, place_of};
@@ -12,18 +12,18 @@ pub fn push_duals(
     alloc: Global,
     text: &mut Vec<u8>,
     tables: &Tables,
-    frame: &Frame,
+    priced: &PricedLines,
     duals: &[i128],
     scale: i128,
 ) -> Result<(), NoMemory> {
     push_line(alloc, text, tables, &Line::Scale { scale })?;
-    for fleet in 0..frame.fleets {
-        let dual = at(duals, frame.first_count().wrapping_add(fleet), 0);
+    for fleet in 0..priced.fleets {
+        let dual = at(duals, priced.first_count().wrapping_add(fleet), 0);
         push_rent(alloc, text, tables, place_of(fleet), dual.wrapping_neg())?;
     }
-    for number in 0..frame.parks.len() {
-        let park = frame.parks[number];
-        let dual = at(duals, frame.first_night().wrapping_add(number), 0);
+    for number in 0..priced.parks.len() {
+        let park = priced.parks[number];
+        let dual = at(duals, priced.first_night().wrapping_add(number), 0);
         let charge = Charge {
             station: park.station,
             day: park.day,
@@ -31,7 +31,7 @@ pub fn push_duals(
         };
         push_charge(alloc, text, tables, charge)?;
     }
-    push_steps(alloc, text, tables, frame, duals)
+    push_steps(alloc, text, tables, priced, duals)
 }
 
 // Appends the steps: at the first node of a fleet at a station where any price there isn't 0, and else where a price is another than
@@ -40,15 +40,15 @@ fn push_steps(
     alloc: Global,
     text: &mut Vec<u8>,
     tables: &Tables,
-    frame: &Frame,
+    priced: &PricedLines,
     duals: &[i128],
 ) -> Result<(), NoMemory> {
-    for number in 0..frame.places.len() {
-        let place = frame.places[number];
-        let line = frame.first_node().wrapping_add(number);
+    for number in 0..priced.places.len() {
+        let place = priced.places[number];
+        let line = priced.first_node().wrapping_add(number);
         let value = at(duals, line, 0);
         let is_step = if place.is_first {
-            is_any(frame, duals, number)
+            is_any(priced, duals, number)
         } else {
             value != at(duals, line.wrapping_sub(1), 0)
         };
@@ -66,12 +66,12 @@ fn push_steps(
 }
 
 // Whether a price isn't 0 from this node on to the last of its fleet at its station.
-fn is_any(frame: &Frame, duals: &[i128], number: usize) -> bool {
-    for place in number..frame.places.len() {
-        if at(duals, frame.first_node().wrapping_add(place), 0) != 0 {
+fn is_any(priced: &PricedLines, duals: &[i128], number: usize) -> bool {
+    for place in number..priced.places.len() {
+        if at(duals, priced.first_node().wrapping_add(place), 0) != 0 {
             return true;
         }
-        if frame.places[place].is_last {
+        if priced.places[place].is_last {
             return false;
         }
     }
@@ -104,14 +104,14 @@ pub fn push_weights(
     alloc: Global,
     text: &mut Vec<u8>,
     tables: &Tables,
-    frame: &Frame,
+    priced: &PricedLines,
     weights: &[i128],
     scale: i128,
 ) -> Result<(), NoMemory> {
     push_line(alloc, text, tables, &Line::Mixed { scale })?;
-    for column in 0..frame.pairs.len() {
+    for column in 0..priced.pairs.len() {
         let weight = at(weights, column, 0);
-        push_weight(alloc, text, tables, frame.pairs[column], weight)?;
+        push_weight(alloc, text, tables, priced.pairs[column], weight)?;
     }
     Ok(())
 }

@@ -1,4 +1,4 @@
-use crate::frame::Frame;
+use crate::priced_lines::PricedLines;
 use dual_pivots::Lines;
 use fixed_numbers::at;
 
@@ -6,14 +6,20 @@ use fixed_numbers::at;
 /// less. With the scale 0 costs don't count, and no plan is in it where the worth is above 0.
 ///
 /// Prices have 79 bits and fewer, numbers of columns two, and the scale times a cost 82, so the sum has fewer than 96.
-pub fn worth(frame: &Frame, lines: &Lines, held: &[bool], duals: &[i128], scale: i128) -> i128 {
+pub fn worth(
+    priced: &PricedLines,
+    lines: &Lines,
+    held: &[bool],
+    duals: &[i128],
+    scale: i128,
+) -> i128 {
     let mut total = 0i128;
     for line in 0..lines.right.len() {
         let right = i128::from(at(&lines.right, line, 0));
         total = total.wrapping_add(right.wrapping_mul(at(duals, line, 0)));
     }
-    for leg in 0..frame.legs {
-        let least = least_of_leg(frame, lines, held, duals, scale, leg);
+    for leg in 0..priced.legs {
+        let least = least_of_leg(priced, lines, held, duals, scale, leg);
         total = total.wrapping_add(least.unwrap_or(0));
     }
     total
@@ -21,14 +27,14 @@ pub fn worth(frame: &Frame, lines: &Lines, held: &[bool], duals: &[i128], scale:
 
 // The least that a pair of a leg costs above what it weighs.
 fn least_of_leg(
-    frame: &Frame,
+    priced: &PricedLines,
     lines: &Lines,
     held: &[bool],
     duals: &[i128],
     scale: i128,
     leg: usize,
 ) -> Option<i128> {
-    let (first, end) = frame.pairs_of(leg);
+    let (first, end) = priced.pairs_of(leg);
     let mut least = None;
     for column in first..end {
         if !at(held, column, true) {

@@ -1,8 +1,8 @@
-use crate::boxes::{State, Subproblem};
 use crate::choosing::{InPart, push_in_part};
 use crate::problem::Problem;
 use crate::search::Search;
-use box_prices::lines_of_text::push_split;
+use crate::subproblems::{State, Subproblem};
+use box_prices::text_lines::push_split;
 use box_prices::{make_proper, push_duals, push_weights};
 use entries::NoMemory;
 use exact_ends::ExactEnd;
@@ -37,10 +37,10 @@ impl Search {
         problem: &Problem,
         nodes: u64,
     ) -> Result<Turn, NoMemory> {
-        let Some(number) = self.boxes.next() else {
+        let Some(number) = self.subproblems.next() else {
             return Ok(Turn::Done);
         };
-        if self.work > MOST_WORK || self.boxes.text.len() > MOST_TEXT {
+        if self.work > MOST_WORK || self.subproblems.text.len() > MOST_TEXT {
             return Ok(Turn::GaveUp);
         }
         match self.exact_of(alloc, problem, number)? {
@@ -81,7 +81,7 @@ impl Search {
     fn take_exact(&mut self, problem: &Problem, end: &ExactEnd) -> Result<(), NoMemory> {
         self.duals.clear();
         self.duals.extend_from_slice(&end.duals.numbers)?;
-        make_proper(&problem.frame, self.duals.as_mut_slice());
+        make_proper(&problem.priced, self.duals.as_mut_slice());
         Ok(())
     }
 
@@ -95,10 +95,10 @@ impl Search {
         end: &ExactEnd,
         weights: &[i128],
     ) -> Result<(), NoMemory> {
-        let begun = self.boxes.text.len();
-        push_line(alloc, &mut self.boxes.text, tables, &Line::OpenNodes)?;
+        let begun = self.subproblems.text.len();
+        push_line(alloc, &mut self.subproblems.text, tables, &Line::OpenNodes)?;
         self.push_exact(alloc, tables, problem, end, weights)?;
-        self.boxes.settle(number, State::Leaf, begun);
+        self.subproblems.settle(number, State::Leaf, begun);
         Ok(())
     }
 
@@ -111,10 +111,10 @@ impl Search {
         end: &ExactEnd,
         weights: &[i128],
     ) -> Result<(), NoMemory> {
-        let frame = &problem.frame;
-        let text = &mut self.boxes.text;
-        push_duals(alloc, text, tables, frame, &self.duals, end.duals.den)?;
-        push_weights(alloc, text, tables, frame, weights, end.point.den)
+        let priced = &problem.priced;
+        let text = &mut self.subproblems.text;
+        push_duals(alloc, text, tables, priced, &self.duals, end.duals.den)?;
+        push_weights(alloc, text, tables, priced, weights, end.point.den)
     }
 
     // Splits a subproblem, and solves its parts.
@@ -137,11 +137,11 @@ impl Search {
         let Some(pair) = chosen else {
             return Ok(Turn::GaveUp);
         };
-        let begun = self.boxes.text.len();
-        let named = problem.frame.pair(pair.column);
-        push_split(alloc, &mut self.boxes.text, tables, named)?;
+        let begun = self.subproblems.text.len();
+        let named = problem.priced.pair(pair.column);
+        push_split(alloc, &mut self.subproblems.text, tables, named)?;
         self.push_exact(alloc, tables, problem, end, weights)?;
-        self.boxes.settle(number, State::Split, begun);
+        self.subproblems.settle(number, State::Split, begun);
         self.splits = self.splits.wrapping_add(1);
         self.solve_parts(alloc, tables, problem, number, pair)
     }
@@ -163,10 +163,10 @@ impl Search {
         let Some(no) = self.solve_part(alloc, tables, problem, part, pair.part)? else {
             return Ok(Turn::GaveUp);
         };
-        let mut made = self.boxes.at(number);
+        let mut made = self.subproblems.at(number);
         made.yes = yes;
         made.no = no;
-        self.boxes.put(number, made);
+        self.subproblems.put(number, made);
         Ok(Turn::Went)
     }
 }

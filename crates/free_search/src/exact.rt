@@ -17,7 +17,7 @@ impl Search {
         number: u32,
     ) -> Result<Option<ExactEnd>, NoMemory> {
         self.hold_for(problem, number);
-        let slot = self.boxes.at(number).slot;
+        let slot = self.subproblems.at(number).slot;
         if self.slots.take(slot, &mut self.head, &mut self.weights)? {
             let found = self.exact_here(alloc, problem)?;
             if found.is_some() {

@@ -1,11 +1,11 @@
-use crate::boxes::{NONE, Subproblem};
 use crate::closing::Turn;
 use crate::outcome::Outcome;
 use crate::problem::Problem;
 use crate::search::Search;
+use crate::subproblems::{NONE, Subproblem};
 use crate::tree_text::{push_end, push_head, push_plan, push_tree};
 use crate::whole_lines::whole_lines;
-use box_prices::lines_of_text::push_bare;
+use box_prices::text_lines::push_bare;
 use entries::{Entries, NoMemory};
 use fleet_model::limits::{MAX_CHOICES, MAX_LEGS};
 use fleet_model::{Kept, Pair, Step, Tables};
@@ -85,7 +85,7 @@ impl Search {
         nodes: u64,
     ) -> Result<bool, NoMemory> {
         let whole = Subproblem::part(NONE, NONE, false);
-        let number = self.boxes.push(whole)?;
+        let number = self.subproblems.push(whole)?;
         let outcome = self.solve(alloc, tables, problem, number, false)?;
         if matches!(outcome, Outcome::Lost) {
             return Ok(false);
@@ -130,11 +130,11 @@ fn texts_of(
     let planned = search.best.is_some();
     let mut proof = Vec::new(alloc);
     push_head(alloc, &mut proof, tables, planned, removals)?;
-    push_tree(alloc, &mut proof, &search.boxes)?;
+    push_tree(alloc, &mut proof, &search.subproblems)?;
     push_end(alloc, &mut proof, tables)?;
     let mut pairs: Vec<Pair> = Vec::new(alloc);
     for column in &search.plan {
-        pairs.push(problem.frame.pair(*column))?;
+        pairs.push(problem.priced.pair(*column))?;
     }
     let mut plan = Vec::new(alloc);
     if planned {

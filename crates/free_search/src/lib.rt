@@ -1,7 +1,6 @@
 //! Looks for a whole tree of subproblems that proves a plan cheapest, by any choices. What it finds is a text, which others judge.
 #![tactic(auto)]
 
-pub mod boxes;
 pub mod choosing;
 pub mod closing;
 pub mod exact;
@@ -14,6 +13,7 @@ pub mod running;
 pub mod search;
 pub mod slots;
 pub mod start;
+pub mod subproblems;
 pub mod tree_text;
 pub mod whole_lines;
 

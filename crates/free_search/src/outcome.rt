@@ -1,6 +1,6 @@
-use crate::boxes::State;
 use crate::problem::Problem;
 use crate::search::Search;
+use crate::subproblems::State;
 use box_prices::{make_proper, push_duals, worth};
 use dual_pivots::Ended;
 use entries::NoMemory;
@@ -148,12 +148,12 @@ impl Search {
 
     // Takes of each leg the pair that is flown, and answers what they cost, or none where a leg has none.
     fn plan_cost(&mut self, problem: &Problem) -> Result<Option<i128>, NoMemory> {
-        reset(&mut self.pairs, problem.frame.legs, NONE)?;
+        reset(&mut self.pairs, problem.priced.legs, NONE)?;
         for line in 0..self.basis.head.len() {
             let column = at(&self.basis.head, line, NONE);
             let part = at(&self.basis.point, line, Fixed::ZERO).parts;
             if (column as usize) < problem.pair_count() && part > WHOLE / 2 {
-                let leg = problem.frame.pair(column).leg as usize;
+                let leg = problem.priced.pair(column).leg as usize;
                 put(self.pairs.as_mut_slice(), leg, column);
             }
         }
@@ -180,7 +180,7 @@ impl Search {
         self.basis.factors.backward(self.parts.as_mut_slice());
         self.take_parts(problem, 0)?;
         let held = &self.basis.held;
-        Ok(worth(&problem.frame, &problem.lines, held, &self.duals, 0) > 0)
+        Ok(worth(&problem.priced, &problem.lines, held, &self.duals, 0) > 0)
     }
 
     // Takes the dual values of the basis by the costs as they are, rounded, and answers whether they are worth so much when that is
@@ -201,7 +201,7 @@ impl Search {
         for part in &self.parts {
             self.duals.push(rounded(part.parts, shift))?;
         }
-        make_proper(&problem.frame, self.duals.as_mut_slice());
+        make_proper(&problem.priced, self.duals.as_mut_slice());
         Ok(())
     }
 
@@ -211,7 +211,7 @@ impl Search {
             Some(end) => {
                 self.duals.clear();
                 self.duals.extend_from_slice(&end.duals.numbers)?;
-                make_proper(&problem.frame, self.duals.as_mut_slice());
+                make_proper(&problem.priced, self.duals.as_mut_slice());
                 Ok(end.duals.den)
             }
             None => Ok(0),
@@ -221,7 +221,7 @@ impl Search {
     /// What the prices over a scale are worth in the subproblem, rounded up to a whole number.
     pub fn rounded_worth(&self, problem: &Problem, scale: i128) -> i128 {
         let held = &self.basis.held;
-        let worth = worth(&problem.frame, &problem.lines, held, &self.duals, scale);
+        let worth = worth(&problem.priced, &problem.lines, held, &self.duals, scale);
         let whole = worth.checked_div(scale).unwrap_or(0);
         if whole.wrapping_mul(scale) < worth {
             whole.wrapping_add(1)
@@ -240,12 +240,12 @@ impl Search {
         first: Line,
         scale: i128,
     ) -> Result<Outcome, NoMemory> {
-        let begun = self.boxes.text.len();
-        push_first(alloc, &mut self.boxes.text, tables, first)?;
-        let frame = &problem.frame;
-        let text = &mut self.boxes.text;
-        push_duals(alloc, text, tables, frame, &self.duals, scale)?;
-        self.boxes.settle(number, State::Leaf, begun);
+        let begun = self.subproblems.text.len();
+        push_first(alloc, &mut self.subproblems.text, tables, first)?;
+        let priced = &problem.priced;
+        let text = &mut self.subproblems.text;
+        push_duals(alloc, text, tables, priced, &self.duals, scale)?;
+        self.subproblems.settle(number, State::Leaf, begun);
         Ok(Outcome::Leaf)
     }
 }

@@ -1,9 +1,9 @@
-use crate::boxes::Subproblem;
 use crate::gains::GAIN_BITS;
 use crate::outcome::Outcome;
 use crate::problem::Problem;
 use crate::running::parts_of;
 use crate::search::Search;
+use crate::subproblems::Subproblem;
 use entries::NoMemory;
 use fixed_numbers::PART_BITS;
 use fleet_model::Tables;
@@ -14,7 +14,7 @@ const DOUBT: i128 = 1 << 20;
 
 impl Search {
     /// Solves a subproblem from the basis that was saved, where there is one; else, or where that shows nothing, from a start of its
-    /// own; and once more without a cut-off. Answers whether that showed anything.
+    /// own; and once more without a cut-off, where there was one. Answers whether that showed anything.
     pub fn solve(
         &mut self,
         alloc: Global,
@@ -32,7 +32,7 @@ impl Search {
         }
         let ended = self.run_anew(problem, number, true)?;
         let outcome = self.judged(alloc, tables, problem, number, ended)?;
-        if self.is_told(number, outcome)? {
+        if self.is_told(number, outcome)? || self.best.is_none() {
             return Ok(outcome);
         }
         let ended = self.run_anew(problem, number, false)?;
@@ -47,11 +47,11 @@ impl Search {
             Outcome::Leaf => Ok(true),
             Outcome::Lost => Ok(false),
             Outcome::Waits { value } => {
-                let mut made = self.boxes.at(number);
+                let mut made = self.subproblems.at(number);
                 made.value = value;
                 made.rank = rank_of(value);
                 made.slot = self.slots.keep(&self.basis.head, &self.basis.weights)?;
-                self.boxes.put(number, made);
+                self.subproblems.put(number, made);
                 Ok(true)
             }
         }
@@ -67,8 +67,8 @@ impl Search {
         part: Subproblem,
         flown: i64,
     ) -> Result<Option<u32>, NoMemory> {
-        let before = self.boxes.at(part.parent).value;
-        let number = self.boxes.push(part)?;
+        let before = self.subproblems.at(part.parent).value;
+        let number = self.subproblems.push(part)?;
         match self.solve(alloc, tables, problem, number, true)? {
             Outcome::Lost => return Ok(None),
             Outcome::Leaf => {}

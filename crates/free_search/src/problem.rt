@@ -1,5 +1,5 @@
 use crate::whole_lines::WholeLines;
-use box_prices::Frame;
+use box_prices::PricedLines;
 use dual_pivots::Lines;
 use entries::NoMemory;
 use fleet_model::{Kept, Tables};
@@ -10,7 +10,7 @@ use std::alloc::Global;
 #[derive(Drop)]
 pub struct Problem {
     pub lines: Lines,
-    pub frame: Frame,
+    pub priced: PricedLines,
     /// Of each node the column of the arc that leaves it.
     pub arcs: Vec<u32>,
     /// The first column of the fleets' slacks, and of the nights' rooms.
@@ -31,7 +31,7 @@ impl Problem {
         let slacks = outline.pairs.len().wrapping_add(outline.arcs.len());
         let rooms = slacks.wrapping_add(outline.fleets as usize);
         Ok(Problem {
-            frame: Frame::new(alloc, tables, kept, outline, &lines)?,
+            priced: PricedLines::new(alloc, tables, kept, outline, &lines)?,
             lines,
             arcs,
             slacks,
@@ -41,6 +41,6 @@ impl Problem {
 
     /// How many pairs there are, whose columns are the first.
     pub fn pair_count(&self) -> usize {
-        self.frame.pairs.len()
+        self.priced.pairs.len()
     }
 }

@@ -1,7 +1,7 @@
-use crate::boxes::NONE;
 use crate::problem::Problem;
 use crate::search::Search;
 use crate::start::lay_start;
+use crate::subproblems::NONE;
 use dual_pivots::{Ended, Limits};
 use entries::NoMemory;
 use fixed_numbers::{PART_BITS, place_of};
@@ -24,8 +24,8 @@ impl Search {
             self.basis.hold(place_of(column), false);
         }
         let mut here = number;
-        for _step in 0..self.boxes.all.len() {
-            let made = self.boxes.at(here);
+        for _step in 0..self.subproblems.all.len() {
+            let made = self.subproblems.at(here);
             if made.parent == NONE {
                 return;
             }
@@ -40,8 +40,8 @@ impl Search {
             self.basis.hold(column, true);
             return;
         }
-        let pair = problem.frame.pair(column);
-        let (first, end) = problem.frame.pairs_of(pair.leg as usize);
+        let pair = problem.priced.pair(column);
+        let (first, end) = problem.priced.pairs_of(pair.leg as usize);
         for other in first..end {
             if place_of(other) != column {
                 self.basis.hold(place_of(other), true);

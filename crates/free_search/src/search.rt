@@ -1,7 +1,7 @@
-use crate::boxes::Boxes;
 use crate::gains::Gains;
 use crate::problem::Problem;
 use crate::slots::Slots;
+use crate::subproblems::Subproblems;
 use dual_pivots::{Basis, Saved, Workspace};
 use entries::NoMemory;
 use fixed_numbers::Fixed;
@@ -14,7 +14,7 @@ pub struct Search {
     pub space: Workspace,
     /// The basis of the subproblem that is being split.
     pub saved: Saved,
-    pub boxes: Boxes,
+    pub subproblems: Subproblems,
     pub slots: Slots,
     pub gains: Gains,
     /// What the cheapest plan costs that was found, and its pairs by their columns, leg by leg.
@@ -44,7 +44,7 @@ impl Search {
             basis: Basis::new(alloc, &problem.lines)?,
             space: Workspace::new(alloc, lines, problem.lines.column_count())?,
             saved: Saved::new(alloc),
-            boxes: Boxes::new(alloc),
+            subproblems: Subproblems::new(alloc),
             slots: Slots::new(alloc, lines),
             gains: Gains::new(alloc),
             best: None,

@@ -1,5 +1,5 @@
 use crate::problem::Problem;
-use box_prices::Frame;
+use box_prices::PricedLines;
 use entries::NoMemory;
 use fixed_numbers::{Fixed, PART_BITS, at, place_of, put, reset};
 
@@ -30,8 +30,8 @@ pub fn lay_start(
 
 // Lays of each leg the cheapest pair, at a tie the first.
 fn lay_pairs(problem: &Problem, held: &[bool], head: &mut [u32]) {
-    for leg in 0..problem.frame.legs {
-        let (first, end) = problem.frame.pairs_of(leg);
+    for leg in 0..problem.priced.legs {
+        let (first, end) = problem.priced.pairs_of(leg);
         let mut best = NONE;
         for column in first..end {
             if !at(held, column, true)
@@ -50,9 +50,9 @@ fn cost(problem: &Problem, column: usize) -> i128 {
 
 // Lays the arc into each node but a station's first one.
 fn lay_arcs(problem: &Problem, head: &mut [u32]) {
-    for number in 1..problem.frame.places.len() {
-        if !problem.frame.places[number].is_first {
-            let line = problem.frame.first_node().wrapping_add(number);
+    for number in 1..problem.priced.places.len() {
+        if !problem.priced.places[number].is_first {
+            let line = problem.priced.first_node().wrapping_add(number);
             put(head, line, at(&problem.arcs, number.wrapping_sub(1), NONE));
         }
     }
@@ -60,13 +60,13 @@ fn lay_arcs(problem: &Problem, head: &mut [u32]) {
 
 // Lays slacks, rooms, and artificial columns where none stands.
 fn lay_rest(problem: &Problem, head: &mut [u32]) {
-    let count = problem.frame.first_count();
-    for fleet in 0..problem.frame.fleets {
+    let count = problem.priced.first_count();
+    for fleet in 0..problem.priced.fleets {
         let column = place_of(problem.slacks.wrapping_add(fleet));
         put(head, count.wrapping_add(fleet), column);
     }
-    let night = problem.frame.first_night();
-    for park in 0..problem.frame.parks.len() {
+    let night = problem.priced.first_night();
+    for park in 0..problem.priced.parks.len() {
         let column = place_of(problem.rooms.wrapping_add(park));
         put(head, night.wrapping_add(park), column);
     }
@@ -79,7 +79,7 @@ fn lay_rest(problem: &Problem, head: &mut [u32]) {
 
 // Lays the weights: first of each line the squares of what the legs' pairs have there.
 fn lay_weights(problem: &Problem, head: &[u32], weights: &mut [Fixed]) {
-    for leg in 0..problem.frame.legs {
+    for leg in 0..problem.priced.legs {
         for unit in problem.lines.columns.of(at(head, leg, NONE)) {
             if unit.place as usize != leg {
                 let square = i64::from(unit.number).wrapping_mul(i64::from(unit.number));
@@ -87,19 +87,19 @@ fn lay_weights(problem: &Problem, head: &[u32], weights: &mut [Fixed]) {
             }
         }
     }
-    for number in (0..problem.frame.places.len()).rev() {
-        add_next(&problem.frame, weights, number);
+    for number in (0..problem.priced.places.len()).rev() {
+        add_next(&problem.priced, weights, number);
     }
 }
 
 // Adds the weight of the next node's line to that of a node, and to that of the night between.
-fn add_next(frame: &Frame, weights: &mut [Fixed], number: usize) {
-    if number >= frame.places.len() {
+fn add_next(priced: &PricedLines, weights: &mut [Fixed], number: usize) {
+    if number >= priced.places.len() {
         return;
     }
-    let place = frame.places[number];
+    let place = priced.places[number];
     if !place.is_last {
-        let line = frame.first_node().wrapping_add(number);
+        let line = priced.first_node().wrapping_add(number);
         let next = at(weights, line.wrapping_add(1), Fixed::ZERO).parts;
         add(weights, line, next);
         add(weights, place.night as usize, next);

@@ -1,6 +1,6 @@
 //! The texts of a tree that was found.
-use crate::boxes::{Boxes, NONE, State};
-use box_prices::lines_of_text::push_trim;
+use crate::subproblems::{NONE, State, Subproblems};
+use box_prices::text_lines::push_trim;
 use box_prices::texts::push_prices;
 use entries::NoMemory;
 use fleet_model::{Pair, Tables};
@@ -36,15 +36,19 @@ pub fn push_head(
 }
 
 /// Appends the tree: of each subproblem its own lines, then its parts.
-pub fn push_tree(alloc: Global, text: &mut Vec<u8>, boxes: &Boxes) -> Result<(), NoMemory> {
+pub fn push_tree(
+    alloc: Global,
+    text: &mut Vec<u8>,
+    subproblems: &Subproblems,
+) -> Result<(), NoMemory> {
     let mut waiting = Vec::new(alloc);
     waiting.push(0u32)?;
-    for _turn in 0..boxes.all.len() {
+    for _turn in 0..subproblems.all.len() {
         let Some(number) = waiting.pop() else {
             return Ok(());
         };
-        let made = boxes.at(number);
-        push_own(text, boxes, made.text, made.text_end)?;
+        let made = subproblems.at(number);
+        push_own(text, subproblems, made.text, made.text_end)?;
         if matches!(made.state, State::Split) && made.yes != NONE && made.no != NONE {
             waiting.push(made.no)?;
             waiting.push(made.yes)?;
@@ -54,9 +58,14 @@ pub fn push_tree(alloc: Global, text: &mut Vec<u8>, boxes: &Boxes) -> Result<(),
 }
 
 // Appends the lines between two places.
-fn push_own(text: &mut Vec<u8>, boxes: &Boxes, begun: usize, end: usize) -> Result<(), NoMemory> {
-    if begun <= end && end <= boxes.text.len() {
-        text.extend_from_slice(&boxes.text[begun..end])?;
+fn push_own(
+    text: &mut Vec<u8>,
+    subproblems: &Subproblems,
+    begun: usize,
+    end: usize,
+) -> Result<(), NoMemory> {
+    if begun <= end && end <= subproblems.text.len() {
+        text.extend_from_slice(&subproblems.text[begun..end])?;
     }
     Ok(())
 }

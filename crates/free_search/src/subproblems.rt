@@ -41,7 +41,7 @@ pub struct Subproblem {
 
 /// All subproblems, in the order in which they were made, with their lines of the text.
 #[derive(Drop)]
-pub struct Boxes {
+pub struct Subproblems {
     pub all: Vec<Subproblem>,
     pub text: Vec<u8>,
 }
@@ -65,9 +65,9 @@ impl Subproblem {
     }
 }
 
-impl Boxes {
-    pub fn new(alloc: Global) -> Boxes {
-        Boxes {
+impl Subproblems {
+    pub fn new(alloc: Global) -> Subproblems {
+        Subproblems {
             all: Vec::new(alloc),
             text: Vec::new(alloc),
         }

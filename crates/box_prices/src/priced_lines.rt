@@ -28,7 +28,7 @@ pub struct Place {
 /// What the lines of a linear program are of whose dual values are prices: the cover lines, behind them those of the nodes, then
 /// those that count fleets, then those of nights with a limit.
 #[derive(Drop)]
-pub struct Frame {
+pub struct PricedLines {
     pub legs: usize,
     pub places: Vec<Place>,
     pub fleets: usize,
@@ -39,7 +39,7 @@ pub struct Frame {
     pub firsts: Vec<u32>,
 }
 
-impl Frame {
+impl PricedLines {
     /// That of the kept pairs, by their outline and the lines that were made of it.
     pub fn new(
         alloc: Global,
@@ -47,8 +47,8 @@ impl Frame {
         kept: &Kept,
         outline: &Outline,
         lines: &Lines,
-    ) -> Result<Frame, NoMemory> {
-        let mut frame = Frame {
+    ) -> Result<PricedLines, NoMemory> {
+        let mut priced = PricedLines {
             legs: outline.legs as usize,
             places: Vec::new(alloc),
             fleets: outline.fleets as usize,
@@ -56,12 +56,12 @@ impl Frame {
             pairs: Vec::new(alloc),
             firsts: Vec::new(alloc),
         };
-        frame.parks.extend_from_slice(outline.parks.as_slice())?;
-        frame.pairs.extend_from_slice(outline.pairs.as_slice())?;
-        frame.lay_firsts(alloc)?;
-        frame.lay_places(alloc, tables, kept)?;
-        frame.lay_nights(outline, lines);
-        Ok(frame)
+        priced.parks.extend_from_slice(outline.parks.as_slice())?;
+        priced.pairs.extend_from_slice(outline.pairs.as_slice())?;
+        priced.lay_firsts(alloc)?;
+        priced.lay_places(alloc, tables, kept)?;
+        priced.lay_nights(outline, lines);
+        Ok(priced)
     }
 
     /// The first line of a node.
