@@ -2,6 +2,7 @@
 
 from __future__ import annotations
 
+import shutil
 from pathlib import Path
 from typing import List, Tuple
 
@@ -40,6 +41,7 @@ def made(folder: Path, *words: object, keep: str = "flight\n", option: str = "--
     for name, data in (("season", text(file_of(out(), back()))), ("prices", PRICES), ("fleets", FLEETS), ("keep", keep)):
         (folder / name).write_text(data, encoding="ascii")
     given = ["--fleets", folder / "fleets", "--costs", folder / "prices"]
+    shutil.rmtree(folder / "day", ignore_errors=True)
     status, told = asked("tables", folder / "season", folder / "day", option, DATE, *given, *words)
     return status, told.replace(f"{folder}/", "")
 

@@ -2,6 +2,7 @@
 
 from __future__ import annotations
 
+import shutil
 from pathlib import Path
 from typing import Dict, List, Tuple
 
@@ -23,6 +24,7 @@ LEGS = [
 def made(folder: Path, lines: List[str], *words: object, option: str = "--date") -> Tuple[int, str]:
     """Makes tables of lines."""
     (folder / "season").write_bytes(text(lines).encode("ascii"))
+    shutil.rmtree(folder / "day", ignore_errors=True)
     status, told = asked("tables", folder / "season", folder / "day", option, DATE, *words)
     return status, told.replace(f"{folder}/", "")
 

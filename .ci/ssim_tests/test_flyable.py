@@ -4,6 +4,7 @@ reckoning of their own."""
 from __future__ import annotations
 
 import random
+import shutil
 from pathlib import Path
 from typing import Dict, List, Mapping, Sequence, Tuple
 
@@ -41,6 +42,7 @@ def lay(
     (folder / "season").write_bytes(text(lines).encode("ascii"))
     rows = "".join(f"{it.replace(' ', ',')},30\n" for it in fleets.split(", "))
     (folder / "fleets").write_text(f"fleet,aircraft,turn\n{rows}", encoding="ascii")
+    shutil.rmtree(folder / "day", ignore_errors=True)
     assert asked("tables", folder / "season", folder / "day", option, date, "--fleets", folder / "fleets", *more)[0] == 0
     plan = [it.split(",") for it in records(folder / "day", "plan.csv")]
     own = "".join(f"{name},{changes.get(name.split('D')[0], changes.get(name, kind))}\n" for name, kind in plan)
@@ -112,6 +114,16 @@ def test_the_minute_of_readiness(minute: str, status: int, scratch: Path) -> Non
     assert [it for it in told if "would" in it] == ([line] if status else [])
 
 
+def test_in_the_air(scratch: Path) -> None:
+    """An aircraft that is in the air as the weeks that are walked begin is one of the fleet's, though no flight wants it later."""
+    night = leg("ZZ", 8, "ZRH 0030 +0100 LHR 0120 +0000", "320", period=("20NOV26", "20NOV26"))
+    lay(scratch, [night, *(f"{it[:14]}30NOV2630NOV26{it[28:]}" for it in DAYS[2:])], "E90 1, 320 1", {"ZZ3": "320", "ZZ4": "320"})
+    status, told = write(scratch)
+    place = "at ZRH on 2026-11-30 07:00 no aircraft is there for ZZ3; ZZ4 is ready there at 2026-11-30 12:15"
+    wanted = [f"320 would need 2 aircraft from 2026-11-20 to 2026-12-10, as filed 1, and has 1: {place}"]
+    assert (status, [it for it in told if "would" in it]) == (9, wanted)
+
+
 # To GVA and back, then there on one day and back after some weeks, by an E90 as filed.
 AWAY = [
     leg("ZZ", 3, GVA_OUT, "E90", period=("29NOV26", "29NOV26")), leg("ZZ", 4, GVA_BACK, "E90", period=("29NOV26", "29NOV26")),
@@ -137,7 +149,7 @@ def test_extra_minutes(lhr: int, gva: int, status: int, scratch: Path) -> None:
     legs = [leg("ZZ", 1, OUT, "E90", "1"), leg("ZZ", 2, BACK, "E90", "1"), leg("ZZ", 3, GVA_OUT, "320", "2"), leg("ZZ", 4, GVA_BACK, "320", "2")]
     (scratch / "stations").write_text(f"code,extra,maintenance\nZRH,0,no\nLHR,{lhr},no\nGVA,{gva},no\n", encoding="ascii")
     lay(scratch, legs, "E90 2, 320 1", {"ZZ1": "320", "ZZ2": "320"}, "--date", DATE, "--stations", scratch / "stations")
-    assert records(scratch / "day", "made.csv") == [f"extra,GVA {gva}"]
+    assert f"extra,GVA {gva}" in records(scratch / "day", "made.csv")
     assert write(scratch)[0] == status
 
 
@@ -277,6 +289,7 @@ def flyable(chance: random.Random, folder: Path, option: str) -> Tuple[List[str]
         prices = [f"{it},{chance.randint(0, 900)},{chance.randint(1, 9)},,\n" for it in TYPES]
         (folder / "prices").write_text("fleet,departure,minute,longest,closed\n" + "".join(prices), encoding="ascii")
         date = FIRST.fromordinal(first).isoformat()
+        shutil.rmtree(folder / "day", ignore_errors=True)
         status, told = asked("tables", folder / "season", folder / "day", option, date, "--costs", folder / "prices")
         if status or "the plan as filed uses: " not in told or len(records(folder / "day", "fleets.csv")) < 2:
             continue

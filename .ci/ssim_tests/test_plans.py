@@ -280,6 +280,8 @@ def test_refused(name: str, scratch: Path) -> None:
         (scratch / "day" / file).unlink()
     else:
         (scratch / "day" / file).write_text(put, encoding="ascii")
+        # Without the sums of the files as they were made.
+        (scratch / "day" / "made.csv").unlink()
     before = standing(scratch)
     status, told = call("plan", scratch / "season", scratch / "day", scratch / "new")
     assert (status, told.replace(f"{scratch}/", "")) == (7 if put is None else 6, f"ssim: day/{line}\n")

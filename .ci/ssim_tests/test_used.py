@@ -186,6 +186,7 @@ def test_header_of_before(saving: Path) -> None:
     path = saving / "day" / "names.csv"
     rows = path.read_text(encoding="ascii").splitlines()
     path.write_text("".join(f"{it.rsplit(',', 2)[0]}\n" for it in rows), encoding="ascii")
+    (saving / "day" / "made.csv").unlink()
     assert asked("plan", saving / "season", saving / "day", saving / "new")[0] == 0
     assert (saving / "new").read_bytes() == (saving / "season").read_bytes()
     assert zones_of(str(saving / "day")) == {}
