@@ -3,6 +3,7 @@ flies what on dates."""
 
 from __future__ import annotations
 
+import io
 import os
 import re
 import subprocess
@@ -12,11 +13,13 @@ from typing import Dict, List, Optional, Sequence, Tuple
 from fleetplan.errors import FAULT, REFUSED, UNREADABLE, Unread
 from fleetplan.program import PROGRAM, answer, held
 from fleetplan.proofs import counts_of
+from fleetplan.tables import TABLE
 
 # What a run of the program may take.
 SECONDS = 20
 # The status of `due` where aircraft can't all come to maintenance by their dates.
 LATE = 10
+MOST_FLEETS = TABLE["fleets.csv"].most
 
 
 @dataclass(frozen=True)
@@ -67,10 +70,10 @@ class Asker:
             return None
         try:
             found = held(self.folder, self.reading, SECONDS)
+            if not found or found[0] is None:
+                return None
             counts = counts_of(os.path.join(self.folder, "proof.txt"))
         except (OSError, subprocess.SubprocessError):
-            return None
-        if not found or found[0] is None:
             return None
         opened = f"{counts['nodes']} nodes, {counts['pivots']} pivots, {counts['grew']} grew"
         return Proof(found[1], counts["splits"], opened)
@@ -97,11 +100,13 @@ class Asker:
             kept = status if status in (UNREADABLE, REFUSED) else FAULT
             raise Unread(f"{command} ended with status {status}: {said.strip() or 'it said nothing'}", kept)
         found = Lines({}, {})
-        for line in said.splitlines():
-            name, _, rest = line.partition(": ")
+        for line in io.StringIO(said):
+            name, _, rest = line.rstrip("\n").partition(": ")
             date = re.fullmatch(r"\d{4}-\d\d-\d\d (\S+)", name)
             if date:
                 found.flights.setdefault(date[1], []).append([] if rest == "-" else rest.split())
             else:
                 found.causes[name] = rest
+                if len(found.causes) > MOST_FLEETS:
+                    raise Unread(f"{command} tells of more fleets than there may be", FAULT)
         return found

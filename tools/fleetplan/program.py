@@ -4,12 +4,16 @@ from __future__ import annotations
 
 import os
 import re
+import selectors
 import shutil
 import subprocess
-from typing import Optional, Sequence, Tuple
+import time
+from typing import IO, Optional, Sequence, Tuple
 
 TOP = os.path.dirname(os.path.dirname(os.path.dirname(os.path.realpath(__file__))))
 PROGRAM = os.path.join(TOP, "crates", "fleetplan", "out", "fleetplan")
+# The most bytes that are read of what the program prints: more than it has to say of any tables.
+MOST_PRINTED = 1 << 25
 _HOLDS = re.compile(r"holds: (?:cost (-?\d+) )?bound (-?\d+)\n")
 
 
@@ -21,10 +25,33 @@ def program() -> str:
 
 
 def answer(words: Sequence[str], seconds: float) -> Tuple[int, bytes]:
-    """Returns the status of a call of the program and what it prints, or raises OSError or SubprocessError, as after so many seconds."""
+    """Returns the status of a call of the program and what it prints, or raises OSError or SubprocessError: after so many seconds, and
+    where it prints more than MOST_PRINTED bytes."""
+    ends = time.monotonic() + seconds
     pipe, nothing = subprocess.PIPE, subprocess.DEVNULL
-    ran = subprocess.run([PROGRAM, *words], timeout=seconds, check=False, stdin=nothing, stdout=pipe, stderr=nothing)
-    return ran.returncode, ran.stdout
+    with subprocess.Popen([PROGRAM, *words], stdin=nothing, stdout=pipe, stderr=nothing) as ran:
+        try:
+            said = _printed(ran, ends) if ran.stdout else b""
+            return ran.wait(max(0, ends - time.monotonic())), said
+        except BaseException:
+            ran.kill()
+            raise
+
+
+def _printed(ran: "subprocess.Popen[bytes]", ends: float) -> bytes:
+    """Returns what a process prints until it closes its output, by parts; or raises SubprocessError where that is too much, or too late."""
+    said = bytearray()
+    output: IO[bytes] = ran.stdout  # type: ignore[assignment]
+    with selectors.DefaultSelector() as waiting:
+        waiting.register(output, selectors.EVENT_READ)
+        while waiting.select(max(0, ends - time.monotonic())):
+            part = os.read(output.fileno(), 1 << 16)
+            if not part:
+                return bytes(said)
+            said += part
+            if len(said) > MOST_PRINTED:
+                raise subprocess.SubprocessError(f"it prints more than {MOST_PRINTED} bytes")
+    raise subprocess.SubprocessError("it doesn't end in time")
 
 
 def held(folder: str, reading: Sequence[str], seconds: float) -> Optional[Tuple[Optional[int], int]]:

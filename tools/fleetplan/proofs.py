@@ -1,4 +1,4 @@
-"""What can be counted in the text of a proof."""
+"""What can be counted in the text of a proof, which is read by parts: it may be as long as the disk has room for."""
 
 from __future__ import annotations
 
@@ -10,15 +10,21 @@ from typing import Dict
 _OPEN = {"splits": (b"split ",), "nodes": (b"open nodes\n",), "pivots": (b"open pivots ",), "grew": (b"open grew ", b"open lift ")}
 
 
+# So much of a line is read at once. The words that are counted stand before that.
+_PART = 1 << 20
+
+
 def counts_of(path: str) -> Dict[str, int]:
     """Returns how many splits the proof has that was written, and how many leaves that stayed open, by what was too little. It raises
     OSError where the file can't be read."""
     counts = dict.fromkeys(_OPEN, 0)
     if not stat.S_ISREG(os.stat(path).st_mode):
         return counts
-    with open(path, "rb") as lines:
-        for line in lines:
-            if line.startswith((b"open ", b"split ")):
+    is_begin = True
+    with open(path, "rb") as it:
+        for part in iter(lambda: it.readline(_PART), b""):
+            if is_begin and part.startswith((b"open ", b"split ")):
                 for name, starts in _OPEN.items():
-                    counts[name] += line.startswith(starts)
+                    counts[name] += part.startswith(starts)
+            is_begin = part.endswith(b"\n")
     return counts

@@ -6,7 +6,7 @@ import csv
 import io
 import os
 import stat
-from typing import Dict, Iterable, Iterator, List, NamedTuple, Optional, Sequence, Tuple
+from typing import Dict, Iterable, Iterator, List, NamedTuple, NoReturn, Optional, Sequence, Tuple
 
 from fleetplan.errors import FAULT, Unread
 from fleetplan.tables import MOST_BYTES, Header, headers_of
@@ -91,21 +91,25 @@ def names_in(path: str) -> List[str]:
 def read_table(path: str, headers: Sequence[Header], saying: Saying = _PLAINLY) -> Tuple[Header, Rows]:
     """Returns which of its headers a table has, and the records below it as lists of texts, or raises Unread."""
     header, found = headers[0], []
-    told: Dict[str, object] = {"wanted": " or ".join(",".join(it) for it in headers)}
+    wanted = " or ".join(",".join(it) for it in headers)
+
+    def refuse(it: Record, why: str) -> NoReturn:
+        told = why.format(wanted=wanted, number=it.number, printed=printed(str(it)), width=len(header))
+        raise Unread(f"{path} {told}", file=path, record=it.number)
+
     try:
         for it in records_of(path):
             fields = [field.decode(saying.encoding) for field in it.fields]
-            told.update(number=it.number, printed=printed(str(it)), width=len(header))
             if it.number == 1 and tuple(fields) not in headers:
-                raise Unread(f"{path} {saying.header.format(**told)}", file=path, record=1)
+                refuse(it, saying.header)
             header = tuple(fields) if it.number == 1 else header
             if len(fields) != len(header):
-                raise Unread(f"{path} {saying.width.format(**told)}", file=path, record=it.number)
+                refuse(it, saying.width)
             found.append(fields)
     except (UnicodeDecodeError, csv.Error) as error:
         raise Unread.of(path, saying.letters) from error
     if not found:
-        raise Unread.of(path, saying.empty.format(**told))
+        raise Unread.of(path, saying.empty.format(wanted=wanted))
     return header, found[1:]
 
 

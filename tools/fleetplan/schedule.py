@@ -199,6 +199,8 @@ def _fault(folder: str, table: str, what: str) -> Unread:
 def _checked(folder: str, name: str, period: int) -> Rows:
     """Returns the records of a table whose fields all have their form, each flight with its day."""
     header, rows = table_of(folder, name, headers_of(name, period))
+    if len(rows) > TABLE[name].most_read:
+        raise Unread.of(os.path.join(folder, name), f"has {len(rows)} records, and may have {TABLE[name].most_read}")
     forms = forms_of(name, header, period)
     for number, row in enumerate(rows, 2):
         for column, text, wrong in zip(header, row, forms):

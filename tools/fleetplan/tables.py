@@ -40,6 +40,11 @@ class Table(NamedTuple):
         return tuple(it.heading for it in self.columns)
 
     @property
+    def most_read(self) -> int:
+        """The most records, also where another table limits them."""
+        return self.most or MOST_TRIPLES
+
+    @property
     def forms(self) -> Tuple[Wrong, ...]:
         """Of each column what says what is wrong with a field."""
         return tuple(it.wrong for it in self.columns)

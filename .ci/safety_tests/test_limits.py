@@ -1,0 +1,136 @@
+"""What is too much is refused in one line, within 512 MB and five seconds of the processor; and the greatest tables are drawn within them."""
+
+from __future__ import annotations
+
+import itertools
+import shutil
+import string
+from pathlib import Path
+from typing import Dict, Iterable, List, Tuple
+
+import pytest
+from fleetplan.program import MOST_PRINTED
+from fleetplan.proofs import counts_of
+from fleetplan.tables import MOST_BYTES
+from safety_tests.trying import TOP, call, stand_in
+
+START = ["--day-start", "00:00"]
+HOLDS = 'case $1 in check) echo "holds: cost 70 bound 70" ;; *) echo "legal: cost 70" ;; esac'
+# Of each table as many records as there may be: its header, and the form of a record with its number.
+MOST: Dict[str, Tuple[str, str, int]] = {
+    "stations.csv": ("code,extra,maintenance", "{code},0,yes", 200),
+    "fleets.csv": ("fleet,aircraft,turn", "F{0},1,30", 20),
+    "legs.csv": ("flight,from,dep,to,arr", "X{0},AAA,08:00,BBB,09:00", 1000),
+    "costs.csv": ("flight,fleet,cost", "X{0},F1,1", 20_000),
+    "throughs.csv": ("in,out,value", "X{0},X1,1", 2000),
+    "windows.csv": ("flight,shift,extra", "X{0},5,1", 8000),
+    "optional.csv": ("flight,skip", "X{0},1", 1000),
+}
+CODES = ["".join(it) for it in itertools.islice(itertools.product(string.ascii_uppercase, repeat=3), 10_000)]
+
+
+def lay(scratch: Path) -> Path:
+    """Lays a folder with a plan."""
+    folder = scratch / "split"
+    shutil.copytree(TOP / "examples" / "split", folder)
+    return folder
+
+
+def table(name: str, count: int) -> str:
+    """Returns a table of so many records."""
+    header, form, _ = MOST[name]
+    return "\n".join([header, *(form.format(it, code=CODES[it % len(CODES)]) for it in range(count)), ""])
+
+
+@pytest.mark.parametrize("name", MOST)
+def test_too_many_records(name: str, scratch: Path) -> None:
+    """A table of more records than it may have is refused by its number of them, and no page is written."""
+    folder = lay(scratch)
+    most = MOST[name][2]
+    text = table(name, most + 1)
+    (folder / name).write_text(text, encoding="ascii")
+    flags = [f"--{it}" for it in ("windows", "optional") if name.startswith(it)]
+    ended = call(["draw", folder, *START, *flags], scratch)
+    count = text.count("\n") - 1
+    assert (ended.status, ended.told) == (6, [f"tools/draw: {folder / name} has {count} records, and may have {most}"])
+    assert not (folder / "plan.html").exists()
+
+
+@pytest.mark.parametrize("text", ["a\n", '"', "X1,F1\n"], ids=ascii)
+@pytest.mark.parametrize("name", ["legs.csv", "costs.csv", "plan.csv", "rotation.csv", "settings.csv"])
+def test_long_files(name: str, text: str, scratch: Path) -> None:
+    """A file of any one text, as often as it has room for, is refused."""
+    folder = lay(scratch)
+    header = {"plan.csv": "flight,fleet", "rotation.csv": "fleet,round,kind,a,b", "settings.csv": "word,value"}.get(name) or MOST[name][0]
+    (folder / name).write_text(f"{header}\n{text * (MOST_BYTES // len(text) - 100)}", encoding="ascii")
+    ended = call(["draw", folder, *START], scratch)
+    assert ended.status in (6, 9) and len(ended.told) == 1, ended
+
+
+def great(folder: Path) -> None:
+    """Lays the greatest tables that there may be, with a plan of them."""
+    folder.mkdir()
+    ways: List[str] = []
+    plan: List[str] = []
+    for number in range(0, 1000, 2):
+        home, away, minute = CODES[0], CODES[1 + number // 2 % 199], number * 7 % 1200
+        times = [f"{it // 60 % 24:02}:{it % 60:02}" for it in (minute, minute + 60, minute + 100, minute + 160)]
+        ways += [f"X{number},{home},{times[0]},{away},{times[1]}", f"X{number + 1},{away},{times[2]},{home},{times[3]}"]
+        plan += [f"X{it},F{number // 2 % 20}" for it in (number, number + 1)]
+    costs = [f"X{flight},F{fleet},{flight + fleet}" for flight in range(1000) for fleet in range(20)]
+    texts: Dict[str, Iterable[str]] = {
+        "stations.csv": table("stations.csv", 200).splitlines(),
+        "fleets.csv": ["fleet,aircraft,turn", *(f"F{it},500,30" for it in range(20))],
+        "legs.csv": [MOST["legs.csv"][0], *ways],
+        "costs.csv": [MOST["costs.csv"][0], *costs],
+        "throughs.csv": ["in,out,value"],
+        "plan.csv": ["flight,fleet", *plan],
+    }
+    for name, lines in texts.items():
+        (folder / name).write_text("".join(f"{it}\n" for it in lines), encoding="ascii")
+
+
+def test_greatest_tables(scratch: Path) -> None:
+    """The greatest tables are drawn."""
+    great(scratch / "great")
+    ended = call(["draw", "great", *START], scratch)
+    assert (ended.status, (scratch / "great" / "plan.html").exists()) == (0, True), ended
+
+
+def test_long_proof(scratch: Path) -> None:
+    """A proof of 3 GB without a line's end is read by parts."""
+    folder, program = lay(scratch), stand_in(scratch / "program", HOLDS)
+    with open(folder / "proof.txt", "wb") as it:
+        it.write(b"split \nopen nodes\n")
+        it.truncate(3 << 30)
+    ended = call(["draw", folder, *START], scratch, program)
+    assert (ended.status, ended.told) == (0, [])
+    assert "70" in (folder / "plan.html").read_text(encoding="utf-8")
+
+
+@pytest.mark.parametrize("size", [1 << 20, (1 << 20) - 3, (1 << 20) - 6, 5])
+def test_counts(size: int, scratch: Path) -> None:
+    """Lines are counted by their beginnings, whatever part of the proof they stand in."""
+    (scratch / "proof.txt").write_text(f"{'x' * size}split \nsplit 1\nopen nodes\nopen pivots 3\nopen nodes more\n{'y' * size}open nodes\n", encoding="ascii")
+    assert counts_of(str(scratch / "proof.txt")) == {"splits": 1, "nodes": 1, "pivots": 1, "grew": 0}
+
+
+ENDLESS = {
+    "judge": ("head -c 3000000000 /dev/zero", []),
+    "lines": ("yes", ["--from", "2026-11-30"]),
+    "dates": ("yes '2026-11-30 F1/1: X1'", ["--from", "2026-11-30"]),
+    "fleets": ("seq 1 9999999 | sed 's/$/: unused/'", ["--from", "2026-11-30"]),
+}
+
+
+@pytest.mark.parametrize("name", ENDLESS)
+def test_endless_answers(name: str, scratch: Path) -> None:
+    """What a program prints without end is cut."""
+    script, words = ENDLESS[name]
+    folder, program = lay(scratch), stand_in(scratch / "program", script)
+    (folder / "proof.txt").unlink(missing_ok=True)
+    ended = call(["draw", folder, *START, *words], scratch, program)
+    command = "tails" if words else "judge"
+    assert ended.status == 7 and len(ended.told) == 1
+    assert f"{command} can't be asked: it prints more than {MOST_PRINTED} bytes" in ended.told[0], ended
+    assert not (folder / "plan.html").exists()
