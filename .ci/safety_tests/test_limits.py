@@ -5,6 +5,8 @@ from __future__ import annotations
 import itertools
 import shutil
 import string
+import subprocess
+import sys
 from pathlib import Path
 from typing import Dict, Iterable, List, Tuple
 
@@ -13,6 +15,7 @@ from fleetplan.program import MOST_PRINTED
 from fleetplan.proofs import counts_of
 from fleetplan.tables import MOST_BYTES
 from safety_tests.trying import TOP, call, stand_in
+from schedule_lines import leg, text as text_of_lines, whole
 
 START = ["--day-start", "00:00"]
 HOLDS = 'case $1 in check) echo "holds: cost 70 bound 70" ;; *) echo "legal: cost 70" ;; esac'
@@ -111,11 +114,12 @@ def test_long_proof(scratch: Path) -> None:
 @pytest.mark.parametrize("size", [1 << 20, (1 << 20) - 3, (1 << 20) - 6, 5])
 def test_counts(size: int, scratch: Path) -> None:
     """Lines are counted by their beginnings, whatever part of the proof they stand in."""
-    (scratch / "proof.txt").write_text(f"{'x' * size}split \nsplit 1\nopen nodes\nopen pivots 3\nopen nodes more\n{'y' * size}open nodes\n", encoding="ascii")
+    lines = [f"{'x' * size}split ", "split 1", "open nodes", "open pivots 3", "open nodes more", f"{'y' * size}open nodes"]
+    (scratch / "proof.txt").write_text("".join(f"{it}\n" for it in lines), encoding="ascii")
     assert counts_of(str(scratch / "proof.txt")) == {"splits": 1, "nodes": 1, "pivots": 1, "grew": 0}
 
 
-ENDLESS = {
+ENDLESS: Dict[str, Tuple[str, List[str]]] = {
     "judge": ("head -c 3000000000 /dev/zero", []),
     "lines": ("yes", ["--from", "2026-11-30"]),
     "dates": ("yes '2026-11-30 F1/1: X1'", ["--from", "2026-11-30"]),
@@ -134,3 +138,40 @@ def test_endless_answers(name: str, scratch: Path) -> None:
     assert ended.status == 7 and len(ended.told) == 1
     assert f"{command} can't be asked: it prints more than {MOST_PRINTED} bytes" in ended.told[0], ended
     assert not (folder / "plan.html").exists()
+
+
+HOSTILE: Dict[str, Tuple[bytes, int, str]] = {
+    "line feeds": (b"\n", 1 << 30, "has 1,048,576 lines in 1,048,576 bytes, and each line of a schedule file has 200"),
+    "short lines": (b"3ZZ\n", 1 << 28, "has 262,144 lines in 1,048,576 bytes, and each line of a schedule file has 200"),
+    "one line": (b"1", 1 << 30, "line 1: the line has more than 1048576 bytes (bytes 1 to 1048576), it should be 200 bytes long"),
+    "too long": (b"", (1 << 30) + 1, "is longer than 1073741824 bytes"),
+}
+
+
+@pytest.mark.parametrize("command", ["tables", "plan"])
+@pytest.mark.parametrize("name", HOSTILE)
+def test_schedule_files(name: str, command: str, scratch: Path) -> None:
+    """A file of far too many lines, or of one that is far too long, is refused before it is split."""
+    text, length, why = HOSTILE[name]
+    folder, place = lay(scratch), scratch / "season"
+    with open(place, "wb") as it:
+        for _ in range(min(length, 1 << 25) // (1 << 20) if text else 0):
+            it.write(text * ((1 << 20) // len(text)))
+        it.truncate(length)
+    rest = [folder, "--date", "2026-11-30"] if command == "tables" else [folder, scratch / "new"]
+    ended = call(["ssim", command, place, *rest], scratch)
+    assert (ended.status, ended.told) == (6, [f"ssim: {place} {why}"])
+    assert not (scratch / "new").exists()
+
+
+def test_season(scratch: Path) -> None:
+    """A season takes some 1,100 bytes for each of its lines, so that one of 980,000 needs little more than 1 GB."""
+    legs = [leg("ZZ", it, "ZRH 0800 +0100 LHR 0950 +0000", "320", variation=1 + more) for more in range(4) for it in range(1, 10_000)]
+    (scratch / "season").write_text(text_of_lines(whole("ZZ", legs)), encoding="ascii")
+    script = "import resource, sys; sys.path.insert(0, sys.argv[1]); from schedule_files.files import schedule_bytes as read; " + (
+        "from schedule_files.reading import read_schedule; place = sys.argv[2]; peak = lambda: resource.getrusage(resource.RUSAGE_SELF).ru_maxrss; "
+        "before = peak(); found = read_schedule(place, read(place)); print(1024 * (peak() - before) // len(found.lines))"
+    )
+    words = [sys.executable, "-B", "-c", script, str(TOP / "tools"), str(scratch / "season")]
+    said = subprocess.run(words, stdout=subprocess.PIPE, check=True, encoding="ascii").stdout
+    assert int(said) < 1300

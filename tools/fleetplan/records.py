@@ -6,7 +6,7 @@ import csv
 import io
 import os
 import stat
-from typing import Dict, Iterable, Iterator, List, NamedTuple, NoReturn, Optional, Sequence, Tuple
+from typing import Iterable, Iterator, List, NamedTuple, NoReturn, Optional, Sequence, Tuple
 
 from fleetplan.errors import FAULT, Unread
 from fleetplan.tables import MOST_BYTES, Header, headers_of
@@ -14,6 +14,8 @@ from fleetplan.texts import printed
 
 MARK = b"\xef\xbb\xbf"
 Rows = List[List[str]]
+# Of a long file so many bytes are looked at once.
+PART = 1 << 20
 
 
 class Record(NamedTuple):
@@ -49,15 +51,34 @@ _PLAINLY = Saying("doesn't begin with {wanted}", "record {number} hasn't {width}
 def bytes_of(path: str, most: int = MOST_BYTES) -> bytes:
     """Returns what stands in a file, or raises Unread where it is none, longer than so many bytes, or may not be read."""
     try:
-        found = os.stat(path)
-        if not stat.S_ISREG(found.st_mode):
-            raise Unread.of(path, "is no file", FAULT)
-        if found.st_size > most:
-            raise Unread.of(path, f"is longer than {most} bytes")
+        _want_file(path, most)
         with open(path, "rb") as it:
             return it.read(most + 1)
     except (OSError, ValueError) as error:
-        raise Unread.of(path, f"can't be read: {getattr(error, 'strerror', None) or error}", FAULT) from error
+        raise _unread(path, error) from error
+
+
+def parts_of(path: str, most: int) -> Iterator[bytes]:
+    """Yields the bytes of a file part by part, or raises Unread as `bytes_of` does."""
+    try:
+        _want_file(path, most)
+        with open(path, "rb") as it:
+            yield from iter(lambda: it.read(PART), b"")
+    except (OSError, ValueError) as error:
+        raise _unread(path, error) from error
+
+
+def _want_file(path: str, most: int) -> None:
+    """Raises Unread where no file stands in a place, or one longer than so many bytes."""
+    found = os.stat(path)
+    if not stat.S_ISREG(found.st_mode):
+        raise Unread.of(path, "is no file", FAULT)
+    if found.st_size > most:
+        raise Unread.of(path, f"is longer than {most} bytes")
+
+
+def _unread(path: str, error: Exception) -> Unread:
+    return Unread.of(path, f"can't be read: {getattr(error, 'strerror', None) or error}", FAULT)
 
 
 def records_in(data: bytes) -> Iterator[Record]:

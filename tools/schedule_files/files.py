@@ -10,16 +10,32 @@ from fleetplan.errors import FAULT, Unread
 from fleetplan.files import Data, locked, new_folder, told_of, write, write_all
 from fleetplan.forms import Wrong
 from fleetplan.judged import SAYING, Key
-from fleetplan.records import Rows, bytes_of, read_table
+from fleetplan.records import PART, Rows, bytes_of, parts_of, read_table
 from fleetplan.tables import Header
+from schedule_files.layout import LENGTH, BadLine
 
 # The most bytes of a schedule file: 999,999 lines and more.
 MOST_BYTES = 1 << 30
+# A file with so many lines more than its bytes have room for is none of schedules. No more are split.
+MOST_SHORT = 100_000
 
 
 def schedule_bytes(path: str) -> bytes:
     """Returns what stands in a schedule file, or raises Unread."""
+    want_lines(path)
     return bytes_of(path, MOST_BYTES)
+
+
+def want_lines(path: str) -> None:
+    """Raises Unread where a file has a line that is far too long, or too many that are too short, before its lines are held."""
+    length = lines = 0
+    for part in parts_of(path, MOST_BYTES):
+        ends = part.count(b"\n")
+        if not ends and len(part) == PART:
+            raise BadLine(path, lines + 1, f"the line has more than {PART} bytes", f"bytes 1 to {PART}", f"{LENGTH} bytes long")
+        length, lines = length + len(part), lines + ends
+        if lines - length // LENGTH > MOST_SHORT:
+            raise Unread.of(path, f"has {lines:,} lines in {length:,} bytes, and each line of a schedule file has {LENGTH}")
 
 
 def rows(path: str, *headers: Header) -> Rows:

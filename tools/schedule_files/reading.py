@@ -2,6 +2,7 @@
 
 from __future__ import annotations
 
+from sys import intern
 from typing import Dict, Iterator, List, NamedTuple, Sequence, Tuple
 
 from fleetplan.errors import Unread
@@ -114,6 +115,8 @@ class Schedule:
         if len(lines) > 1 and not self.tail.startswith("\n") and all(it.endswith("\r") for it in lines[:-1]):
             self.end = "\r\n"
             lines = [*(it[:-1] for it in lines[:-1]), lines[-1]]
+        # Of a season each of these is 200 MB.
+        del text, whole
         self.lines = [it if len(it) == LENGTH else in_letters(it) for it in lines]
         reader = Reader(path, self.lines)
         self.carriers = reader.read()
@@ -229,15 +232,16 @@ class Reader:
         carrier = self.carriers[-1]
         self.airline(number, line)
         leg = Leg()
+        # Of a season's texts each is kept once.
         leg.carrier, leg.number, leg.last = carrier, number, number
-        leg.suffix, leg.airline, leg.flight = line[1], line[2:5], int(line[5:9])
-        leg.variation, leg.sequence, leg.service = (line[127] + line[9:11].replace(" ", "0")).strip(), int(line[11:13]), line[13]
-        start, end, leg.days, leg.rate = day_of(line[14:21]), day_of(line[21:28]), line[28:35], line[35]
+        leg.suffix, leg.airline, leg.flight = line[1], intern(line[2:5]), int(line[5:9])
+        leg.variation, leg.sequence, leg.service = intern((line[127] + line[9:11].replace(" ", "0")).strip()), int(line[11:13]), line[13]
+        start, end, leg.days, leg.rate = day_of(line[14:21]), day_of(line[21:28]), intern(line[28:35]), line[35]
         if start is None or end is None or start > end:
             self.period(layout.LEG, ("first date of the period", "last date of the period"), number, line)
         else:
             leg.start, leg.end = start, end
-        leg.origin, leg.destination, leg.type = line[36:39], line[54:57], line[72:75]
+        leg.origin, leg.destination, leg.type = intern(line[36:39]), intern(line[54:57]), intern(line[72:75])
         leg.disclosure, leg.is_duplicate = line[148], False
         leg.departure = DATE_VARIATIONS[line[192]] * DAY + TIMES[line[43:47]]
         leg.arrival = DATE_VARIATIONS[line[193]] * DAY + TIMES[line[57:61]]
@@ -245,7 +249,7 @@ class Reader:
             leg.departure -= VARIATIONS[line[47:52]]
             leg.arrival -= VARIATIONS[line[65:70]]
         self.flown(leg, number, line)
-        key = line[1:5], leg.flight, leg.variation, leg.sequence
+        key = intern(line[1:5]), leg.flight, leg.variation, leg.sequence
         if self.known.setdefault(key, number) != number:
             raise BadLine(self.path, number, f"{leg} stands twice", "bytes 2 to 13 and 128", f"another than in line {self.known[key]}")
         self.count(number, line)
