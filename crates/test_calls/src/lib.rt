@@ -9,7 +9,7 @@ mod fields;
 #[cfg(test)]
 mod fractions;
 #[cfg(test)]
-mod hinted_trees;
+mod judged_trees;
 #[cfg(test)]
 mod leg_times;
 #[cfg(test)]
