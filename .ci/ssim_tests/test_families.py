@@ -55,6 +55,8 @@ def test_family(scratch: Path) -> None:
     assert "ssim: 2 legs change: E90 to 320 ZZ5 ZZ6\n" in told
     assert "ssim: codes of 320 in the new file: 319 in 2 records, 320 in 4 records\n" in told
     assert ": 320 2 2 2, E90 1 1 1\n" in told
+    # The 320 flies its own trip and, on Mondays, the one that was the E90's behind it.
+    assert "ssim: by its codes, each alone, 320 needs 319 1, 320 1 in the 7 days from 2026-10-30 and 20 weeks like these\n" in told
 
 
 def test_out_of_a_family(scratch: Path) -> None:

@@ -92,9 +92,9 @@ class Walk:
         return found
 
 
-def repeated(week: Week, fleet: str) -> Walk:
-    """Returns what a fleet needs for a week that repeats."""
-    flights = week.of(fleet)
+def repeated(week: Week, fleet: str, code: Optional[str] = None) -> Walk:
+    """Returns what a fleet needs for a week that repeats, or one aircraft type of it alone."""
+    flights = [it for it in week.of(fleet) if code in (None, it.leg.type)]
     return Walk(flights, DAY * week.first, [it.later(-WEEK) for it in flights])
 
 

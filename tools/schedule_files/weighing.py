@@ -82,6 +82,7 @@ class Weighing:
         counts = [f"{fleet} {one} {other} {self.scope.fleets[fleet].aircraft}" for fleet, one, other in pairs]
         span = f"in the 7 days from {iso(written.first)}{others}"
         self.told.append(f"aircraft {span}, as filed, with the plan and in fleets.csv: {', '.join(counts)}")
+        self.told.extend(f"{line} {span}" for line in self.by_codes(written))
         if not self.repeats(number):
             self.told.append(f"the 7 days from {iso(written.first)} don't repeat as filed: they are judged by those beside them alone")
             return
@@ -95,6 +96,16 @@ class Weighing:
                 self.lack(fleet, f"{fleet} would not come back {span}, arrivals less departures {more}", place)
             elif count is None:
                 self.lack(fleet, f"{fleet} can't be judged {span}: {behind.reasons[fleet]}", None)
+
+    def by_codes(self, week: Week) -> Iterator[str]:
+        """Tells how many aircraft of each of its codes a family needs for a week, where none flies for another."""
+        for fleet in sorted(set(self.scope.choice.families.values())):
+            counts = []
+            for code in sorted({it.leg.type for it in week.of(fleet)}):
+                ends = [(it.leg.origin, it.leg.destination) for it in week.of(fleet) if it.leg.type == code]
+                is_balanced = sorted(it for it, _ in ends) == sorted(it for _, it in ends)
+                counts.append(f"{code} {repeated(week, fleet, code).need if is_balanced else UNKNOWN}")
+            yield f"by its codes, each alone, {fleet} needs {', '.join(counts) or 'none'}"
 
     def lack(self, fleet: str, what: str, place: Optional[object]) -> None:
         """Notes what a fleet lacks, the first of it alone."""
