@@ -46,7 +46,8 @@ def test_status(scratch: Path) -> None:
 
 def test_tries_at_once(scratch: Path) -> None:
     """Two tries of one job never work at once: the second begins when the first has ended, though nobody knows of that any more."""
-    first = subprocess.Popen(job(scratch, 1, "touch first-began; while [ ! -e go ]; do sleep 0.05; done; touch first-ended"), cwd=scratch)
+    waits = "at=0; while [ ! -e go ] && [ $at -lt 400 ]; do sleep 0.05; at=$((at+1)); done"
+    first = subprocess.Popen(job(scratch, 1, f"touch first-began; {waits}; touch first-ended"), cwd=scratch)
     wait_for(scratch / "first-began")
     (scratch / "other").mkdir()
     (scratch / "another").mkdir()
