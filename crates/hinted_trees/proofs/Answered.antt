@@ -1,5 +1,5 @@
 -- Whether leaves are answered, by their bounds, and a tree, by its nodes.
-use Rattle.std.proofs.Common.{Box, Global, ◌≡◌, ℕ, Bool, true, false, MatchBool, List, [], ◌∷◌, ◌++◌, All, Option, Some, None, IfSome, IsSomeAnd, ℤ, pos, ◌≤ℤ◌, ◌<ℤ◌, refl, sym, subst, arith}
+use Rattle.std.proofs.Common.{Box, Global, ◌≡◌, ◌≢◌, ℕ, Bool, true, false, MatchBool, List, [], ◌∷◌, ◌++◌, All, Option, Some, None, IfSome, IsSomeAnd, ℤ, pos, ◌≤ℤ◌, ◌<ℤ◌, refl, sym, subst, arith}
 use Rattle.std.proofs.lemmas.Int.{ints}
 use Rattle.std.proofs.lemmas.List.Elements.{All-head, All-tail}
 use Rattle.frac_row.proofs.Ceilings.{same_ceiling}
@@ -96,6 +96,19 @@ module _ (t : Tables) (cost : Option ℤ) (keeps : Domains) where
       let there = subst (λ w. IsAnswered t cost (node keeps w)) e here in
       subst (AreAnswered t cost keeps) (sym e) (record { each = subst (All (IsAnswered t cost)) (sym alone) (all_one (IsAnswered t cost) (node keeps leaf) there) })
 
+  -- a leaf by its own test
+  pub leaf_told : (b : Bool) (whole leaf : Tree) → whole ≡ leaf → nodes_in keeps leaf ≡ node keeps leaf ∷ [] → MatchBool b (IsAnswered t cost (node keeps whole)) (¬ (IsAnswered t cost (node keeps whole)))
+      → MatchBool b (AreAnswered t cost keeps whole) (¬ (AreAnswered t cost keeps whole))
+  leaf_told true whole leaf e alone here = leaf_alone whole leaf e alone here
+  leaf_told false whole leaf e alone other = not_here whole other
+
+  -- any node but a sole and an open leaf is answered
+  pub other_answered : (whole : Tree) → whole ≢ tree.Sole → ((prices : Prices) (why : Cause) → whole ≢ tree.Open prices why) → IsAnswered t cost (node keeps whole)
+  other_answered whole not_sole not_open = record {
+    sole = record { answers = λ e. absurd (not_sole e) };
+    gap = record { gap = λ prices why e. absurd (not_open prices why e) };
+  }
+
   -- what is asked of the children of a trim or a split, where it holds of the whole
   both_sound : (one : Node) (leg choice : ℕ) (first second : Box Tree Global) → All (IsSound t cost) (one ∷ (nodes_in (part keeps leg choice true) first.value ++ nodes_in (part keeps leg choice false) second.value))
       → (with_pair without : Tree) → with_pair ≡ first.value → without ≡ second.value → KeepAllRules t cost (part keeps leg choice true) with_pair × KeepAllRules t cost (part keeps leg choice false) without
@@ -122,8 +135,8 @@ module _ (t : Tables) (cost : Option ℤ) (keeps : Domains) where
         let parts = both_sound (node keeps (Split leg choice prices mixed first second)) leg choice first second all.each with_pair without p q in
         (of_tables.0, (subst (IsOfTables t) (sym p) of_tables.3, (subst (IsOfTables t) (sym q) of_tables.4, parts)))
 
-    -- a whole tree, of its own node and of what is told of its children
-    module _ (b : Bool) (here : IsAnswered t cost (node keeps whole))
+    -- a whole tree, of what is told of its children
+    module _ (b : Bool)
         (below : MatchBool b (AreBothAnswered t cost keeps leg choice with_pair without) (¬ (AreBothAnswered t cost keeps leg choice with_pair without))) where
       in_boxes : MatchBool b (AreBothAnswered t cost keeps leg choice first.value second.value) (¬ (AreBothAnswered t cost keeps leg choice first.value second.value))
       in_boxes = subst (λ x. MatchBool b (AreBothAnswered t cost keeps leg choice first.value x) (¬ (AreBothAnswered t cost keeps leg choice first.value x))) q
@@ -141,13 +154,13 @@ module _ (t : Tables) (cost : Option ℤ) (keeps : Domains) where
           })
 
       by_parent : (parent : Tree) → whole ≡ parent → nodes_in keeps parent ≡ node keeps parent ∷ (nodes_in (part keeps leg choice true) first.value ++ nodes_in (part keeps leg choice false) second.value)
-          → MatchBool b (AreAnswered t cost keeps whole) (¬ (AreAnswered t cost keeps whole))
-      by_parent parent e order =
+          → IsAnswered t cost (node keeps parent) → MatchBool b (AreAnswered t cost keeps whole) (¬ (AreAnswered t cost keeps whole))
+      by_parent parent e order own =
           subst (λ w. MatchBool b (AreAnswered t cost keeps w) (¬ (AreAnswered t cost keeps w))) (sym e)
-          (by_nodes parent order (subst (λ w. IsAnswered t cost (node keeps w)) e here) b in_boxes)
+          (by_nodes parent order own b in_boxes)
 
       pub of_trim : whole ≡ Trim leg choice first second → MatchBool b (AreAnswered t cost keeps whole) (¬ (AreAnswered t cost keeps whole))
-      of_trim e = by_parent (Trim leg choice first second) e refl
+      of_trim e = by_parent (Trim leg choice first second) e refl (other_answered (Trim leg choice first second) (λ p. cc) (λ prices why p. cc))
 
       pub of_split : (prices : Prices) (mixed : Mixed) → whole ≡ Split leg choice prices mixed first second → MatchBool b (AreAnswered t cost keeps whole) (¬ (AreAnswered t cost keeps whole))
-      of_split prices mixed e = by_parent (Split leg choice prices mixed first second) e refl
+      of_split prices mixed e = by_parent (Split leg choice prices mixed first second) e refl (other_answered (Split leg choice prices mixed first second) (λ p. cc) (λ other why p. cc))

@@ -34,9 +34,6 @@ fn answers(tables: &Tables, cost: &Option<i128>, kept: &mut Kept, tree: &Tree) -
     ensures kept { kept.new ≡ kept.old }
     ensures answered { MatchBool result (AreAnswered tables.now cost.now (kept_by kept.old) tree.now) (¬ (AreAnswered tables.now cost.now (kept_by kept.old) tree.now)) }
 {
-    if !is_answered(tables, cost, kept, tree) {
-        return false;
-    }
     match tree {
         Tree::Trim {
             leg,
@@ -51,9 +48,9 @@ fn answers(tables: &Tables, cost: &Option<i128>, kept: &mut Kept, tree: &Tree) -
             no,
             ..
         } => answers_both(tables, cost, kept, *leg, *choice, yes, no),
-        Tree::Bare { .. } | Tree::Sole | Tree::Refuted(_) | Tree::Priced(_) | Tree::Open(..) => {
-            true
-        }
+        Tree::Sole => is_answered(tables, cost, kept, tree),
+        Tree::Open(..) => is_answered(tables, cost, kept, tree),
+        Tree::Bare { .. } | Tree::Refuted(_) | Tree::Priced(_) => true,
     }
 }
 
@@ -113,9 +110,9 @@ fn answers_part(
     answered
 }
 
-// Whether a node is no leaf, or one that is answered.
+// Whether a node is no sole and no open leaf, or one that is answered.
 //
-// It stands apart from the walk, so that a level of the tree takes little of the stack.
+// It stands apart from the walk and is called at two places, so that a level of the tree takes little of the stack.
 #[inline(never)]
 fn is_answered(tables: &Tables, cost: &Option<i128>, kept: &Kept, node: &Tree) -> bool
     requires { IsSound tables.now cost.now (node_at kept.now node.now) }
