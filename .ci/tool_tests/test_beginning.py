@@ -160,9 +160,9 @@ def test_relative_rt(scratch: Path) -> None:
     assert (ended.status, clone.places.program.is_file()) == (0, True), ended.told
 
 
-def test_help() -> None:
+@pytest.mark.parametrize("tool", [*TOOLS, "build", "cited_lemmas", "hint", "ready", "rt_beside"])
+def test_help(tool: str) -> None:
     """Each tool has its page, by Python 3.8 too, where pyenv has it."""
     for python in (sys.executable, *map(str, Path.home().glob(".pyenv/versions/3.8.*/bin/python3"))):
-        for tool in TOOLS:
-            ran = subprocess.run([python, "-B", TOP / "tools" / tool, "--help"], stdout=subprocess.PIPE, stderr=subprocess.PIPE, check=False)
-            assert (ran.returncode, ran.stderr, b"usage" in ran.stdout) == (0, b"", True), (python, tool)
+        ran = subprocess.run([python, "-B", TOP / "tools" / tool, "--help"], stdout=subprocess.PIPE, stderr=subprocess.PIPE, check=False)
+        assert (ran.returncode, ran.stderr, b"usage" in ran.stdout) == (0, b"", True), python

@@ -16,7 +16,7 @@ import pytest
 from breaking import MEMORY
 from fleetplan.texts import can_be_typed, plain, shown, tell, typed
 from hints.saying import BRIEF, JSON, WHOLE, Hint
-from hypothesis import given, settings, strategies as st
+from hypothesis import example, given, settings, strategies as st
 
 TOP = Path(__file__).resolve().parent.parent.parent
 # Letters that a terminal obeys, that end a line, that turn it round, that can't be encoded, and plain ones.
@@ -47,6 +47,7 @@ def test_told(texts: List[str], encoding: str) -> None:
 
 @settings(max_examples=60)
 @given(st.lists(st.one_of(WORDS, st.text(st.sampled_from(LETTERS.replace("\x00", "").replace("\ud800", "")))), min_size=1))
+@example(["$HOME", "`id`", "~", "*", "a b", "", "#x", "-\x01'$(id)"])
 def test_typed(words: List[str]) -> None:
     """A call that is shown can be printed, and parsed by a shell it gives the words again."""
     if can_be_typed(words):

@@ -14,8 +14,9 @@ from fleetplan.texts import some
 
 # What `solve` and the caller's words change too, and what is renewed in part: they are written anew.
 CHANGING = ("plan.csv", SETTINGS)
-# The files that may stand in a folder of tables.
-OWN = (*TABLE, *WRITTEN, SETTINGS, "names.csv", "made.csv")
+# The files that `tables` may write, and all that may stand in a folder of tables.
+MADE = (*TABLE, "plan.csv", SETTINGS, "names.csv", "made.csv", "costs-parts.csv")
+OWN = (*MADE, *WRITTEN)
 
 
 class Keeping(NamedTuple):

@@ -19,7 +19,7 @@ from schedule_files.changing import Changing, Charged
 from schedule_files.days import Dates, iso
 from schedule_files.figures import Figured, Priced
 from schedule_files.files import write_tables
-from schedule_files.keeping import Keeping, sums_of, want_as_made, want_no_source
+from schedule_files.keeping import MADE, Keeping, sums_of, want_as_made, want_no_source
 from schedule_files.layout import LEG
 from schedule_files.naming import ZONED
 from schedule_files.reading import Schedule
@@ -199,12 +199,11 @@ def make_tables(
     schedule: Schedule, folder: str, dates: Dates, choice: Choice, sources: Sources, keeping: Keeping = Keeping()
 ) -> List[str]:
     """Writes the tables of some dates into a folder, and returns what is told of them. What the caller has changed there stays."""
+    want_no_source(folder, MADE, keeping.reads)
     tables = Tables(schedule, dates, choice, sources)
     left = [it for option, it in ASKED.items() if option not in sources.options] + ([] if sources.figured else [PARTED])
     older = [it for it in left if os.path.lexists(os.path.join(folder, it))]
     texts = {**tables.texts(), SETTINGS: tables.settings(folder)}
-    want_no_source(folder, [*texts, made.NAME], keeping.reads)
-
     def want() -> None:
         if not keeping.is_anyway:
             want_as_made(folder, texts, made.Made.read(folder).sums)
