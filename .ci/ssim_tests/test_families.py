@@ -148,6 +148,18 @@ def test_second_airline(scratch: Path) -> None:
     assert new == numbered([it if it == ZEROS else f"{it[:194]}000000" for it in new])
 
 
+def test_airline_without_blocks(scratch: Path) -> None:
+    """No lines of zeros come into the part of another airline, whose trailer stands where a block would begin."""
+    first = [header(), carrier("YY"), leg("YY", 1, "ZRH 0800 +0100 LHR 0950 +0000", "319"), leg("YY", 2, "LHR 1100 +0000 ZRH 1250 +0100", "319")]
+    lines = [*numbered([*first, trailer("YY", "C")]), *numbered([header(), carrier("ZZ"), *LEGS[:4], trailer("ZZ")])[1:]]
+    assert len(lines) % 5 == 1
+    made(scratch, lines, "--airline", "YY")
+    (scratch / "day" / "fleets.csv").write_text("fleet,aircraft,turn\n319,1,30\n320,1,30\n", encoding="ascii")
+    assert plan(scratch, {"YY1": "320", "YY2": "320"})[0] == 0
+    assert (scratch / "new").read_bytes().decode("ascii").splitlines()[-6:] == lines[-6:]
+    assert ZEROS not in (scratch / "new").read_bytes().decode("ascii").splitlines()
+
+
 # Each with its onward flight: airline, number, layover and suffix.
 ON = "ZZ    3  "
 ONWARD = {

@@ -102,14 +102,15 @@ def test_not_back_with_aircraft_to_spare(scratch: Path) -> None:
 MONDAY = ("30NOV26", "30NOV26")
 
 
-@pytest.mark.parametrize("minute, status", [("1020", 0), ("1019", 9)])
-def test_the_minute_of_readiness(minute: str, status: int, scratch: Path) -> None:
-    """An aircraft may depart in the minute in which it is ready, and not before."""
+@pytest.mark.parametrize("minute, extra, status", [("1020", 0, 0), ("1019", 0, 9), ("1025", 5, 0), ("1024", 5, 9)])
+def test_the_minute_of_readiness(minute: str, extra: int, status: int, scratch: Path) -> None:
+    """An aircraft may depart in the minute in which it is ready, by its turn and the extra minutes of the station, and not before."""
+    (scratch / "stations").write_text(f"code,extra,maintenance\nZRH,0,no\nLHR,{extra},no\n", encoding="ascii")
     legs = [leg("ZZ", 1, OUT, "E90", period=MONDAY), leg("ZZ", 2, f"LHR {minute} +0000 ZRH 1250 +0100", "E90", period=MONDAY)]
-    lay(scratch, legs, "E90 2, 320 1", {"ZZ1": "320", "ZZ2": "320"})
+    lay(scratch, legs, "E90 2, 320 1", {"ZZ1": "320", "ZZ2": "320"}, "--date", DATE, "--stations", scratch / "stations")
     came, told = write(scratch)
     assert came == status and told[1] == "the 7 days from 2026-11-27 don't repeat as filed: they are judged by those beside them alone"
-    place = "at LHR on 2026-11-30 10:19 no aircraft is there for ZZ2; ZZ1 is ready there at 2026-11-30 10:20"
+    place = f"at LHR on 2026-11-30 10:{minute[2:]} no aircraft is there for ZZ2; ZZ1 is ready there at 2026-11-30 10:{int(minute[2:]) + 1}"
     line = f"320 would need 2 aircraft from 2026-11-20 to 2026-12-10, as filed 0, and has 1: {place}"
     assert [it for it in told if "would" in it] == ([line] if status else [])
 
