@@ -204,6 +204,7 @@ def make_tables(
     left = [it for option, it in ASKED.items() if option not in sources.options] + ([] if sources.figured else [PARTED])
     older = [it for it in left if os.path.lexists(os.path.join(folder, it))]
     texts = {**tables.texts(), SETTINGS: tables.settings(folder)}
+
     def want() -> None:
         if not keeping.is_anyway:
             want_as_made(folder, texts, made.Made.read(folder).sums)
