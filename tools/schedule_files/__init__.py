@@ -10,6 +10,7 @@ figures     what it costs by a planner's own figures
 choosing    other times and legs that may be left out, by files of the caller's
 tables      the tables of a folder
 splitting   an itinerary that a plan changes on some of its dates, in parts
+laying      on which dates a plan is laid
 retiming    a leg that departs later or earlier
 planning    a plan written back into the file
 changing    few changes: their cost, flights that keep their fleet, what is told of a plan

@@ -16,8 +16,9 @@ from fleetplan.tables import DATED, HEADERS, NO_FLEET, SHIFTED, headers_of
 from fleetplan.texts import printed, some
 from fleetplan.times import DAY, clock
 from schedule_files.changing import Change, changes_told
-from schedule_files.days import WEEK, Dates, iso, text_of, weekday_of
+from schedule_files.days import WEEK, Dates, iso, text_of
 from schedule_files.files import rows
+from schedule_files.laying import Laying, laid_on
 from schedule_files.layout import BadLine, ZEROS
 from schedule_files.keeping import want_together
 from schedule_files.naming import NAMES, ZONED
@@ -26,8 +27,6 @@ from schedule_files.retiming import common_dates, move_of, moved, retimed
 from schedule_files.splitting import LEFT_OUT, Changes, Chosen, Held, Part, Planned, parts_by_date, parts_by_weekday
 from schedule_files.weeks import Fleet, Scope
 
-# The status where words don't fit the tables.
-WRONG_WORDS = 2
 # How many records fill a block, with lines of zeros where there are too few.
 BLOCK = 5
 # What the legs of an itinerary have in common: the line of their carrier, their flight and its variation.
@@ -37,19 +36,6 @@ Cut = Callable[[Sequence[Leg], Changes], List[Part]]
 Variations = Dict[Tuple[Itinerary, Optional[Part]], int]
 LETTERS = " ABCDEFGHIJKLMNOPQRSTUVWXYZ"
 SHIFT = re.compile("0|-?[1-9][0-9]{0,2}")
-
-
-class Laying(NamedTuple):
-    """On which dates a plan is laid: on its own, with `is_season` on their days of the week through each record's period, or on days of
-    operation through that, `days`, each as the one date that the plan is of."""
-
-    is_season: bool = False
-    days: str = ""
-
-    @property
-    def is_by_weekday(self) -> bool:
-        """Whether records are split by days of operation."""
-        return self.is_season or bool(self.days)
 
 
 class Planning(NamedTuple):
@@ -104,19 +90,6 @@ def check_fleet(folder: str, flight: str, leg: Leg, planned: Chosen, fleets: Map
     if planned is not None and planned.type not in (leg.type, *fleets):
         should = f"one of {os.path.join(folder, 'fleets.csv')}: {', '.join(fleets)}"
         raise Unread(f"{os.path.join(folder, 'plan.csv')}: the fleet of {printed(flight)} is {planned.type}, it should be {should}")
-
-
-def laid_on(planning: Planning, days: str) -> Dict[Itinerary, Changes]:
-    """Returns what is planned of one date for days of operation: of each the same as many days beside it as beside that date."""
-    if planning.dates is not None and planning.dates.count > 1:
-        raise Unread(f"--days {days} is for a plan of one date, and this one is of a week: --whole-season lays that on its days", WRONG_WORDS)
-    found: Dict[Itinerary, Changes] = {}
-    for itinerary, changes in planning.changes.items():
-        for date, planned in changes.items():
-            for day in map(int, days):
-                at = date + day - weekday_of(planning.dates.first if planning.dates else date)
-                found.setdefault(itinerary, {}).setdefault(at, {}).update(planned)
-    return found
 
 
 def ways_of(folder: str) -> Ways:
@@ -361,7 +334,7 @@ class Written(NamedTuple):
 def write_plan(schedule: Schedule, folder: str, scope: Scope, laying: Laying) -> Written:
     """Returns a file with what a plan says of its legs, or raises Unread."""
     planning = planning_of(schedule, folder, scope)
-    changes = laid_on(planning, laying.days) if laying.days else planning.changes
+    changes = laid_on(planning.changes, planning.dates, laying.days) if laying.days else planning.changes
     pieces = pieces_of(schedule, changes, parts_by_weekday if laying.is_by_weekday else parts_by_date)
     variations = variations_of(pieces, changes)
     if max(variations.values(), default=0) >= 100 * len(LETTERS):

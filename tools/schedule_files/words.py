@@ -11,7 +11,7 @@ from fleetplan.forms import TRILLION
 from fleetplan.tables import ASKED
 from schedule_files.changing import Changing
 from schedule_files.days import ALL_DAYS, Dates
-from schedule_files.planning import Laying
+from schedule_files.laying import Laying
 from schedule_files.selecting import Choice
 from schedule_files.figures import FIGURES, Figured
 from schedule_files.keeping import Keeping
