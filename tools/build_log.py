@@ -1,8 +1,9 @@
 """What a build says: to the caller, and of a log of rt that tells of faults."""
 
 import re
-import sys
 from pathlib import Path
+
+from fleetplan.texts import tell as tell_lines
 
 # The lines of a log that tell what is wrong, and how many are printed.
 FAULT = re.compile(
@@ -13,13 +14,12 @@ MOST_LINES = 20
 
 def say(text: str) -> None:
     """Tells something on standard error."""
-    print(f"fleetplan: {text}", file=sys.stderr, flush=True)
+    tell_lines(f"fleetplan: {text}")
 
 
 def tell(log: Path, of: str, top: Path) -> None:
     """Prints what a log says of faults, or else its end, and where it stands."""
     lines = log.read_text(encoding="utf-8", errors="replace").splitlines()
     faults = [it for it in lines if FAULT.match(it)][:MOST_LINES]
-    for line in faults or lines[-MOST_LINES:]:
-        print(line, file=sys.stderr)
+    tell_lines(*(faults or lines[-MOST_LINES:]))
     say(f"all that was said of {of} stands in {log.relative_to(top)}")

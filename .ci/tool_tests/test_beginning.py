@@ -136,7 +136,7 @@ STEPS: Dict[str, List[str]] = {
     "check": ["p", "place", "100", "1", "0", "solved"],
     "sizes": ["p", "place", "100", "1", "0", "solved"],
     "draw": ["place", "0", "solved", "name"],
-    "summary": ["scenarios.csv", "folder"],
+    "summary": ["scenarios.csv", "folder", "p"],
 }
 
 

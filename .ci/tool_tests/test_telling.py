@@ -105,7 +105,7 @@ CALLS: Dict[str, List[str]] = {
     "ssim": ["tools/ssim", "tables", ODD, ODD, "--date", "2026-11-30"],
     "a wrong word of ssim": ["tools/ssim", "tables", ODD, ODD, f"--{ODD}"],
     "a wrong value of ssim": ["tools/ssim", "tables", ODD, ODD, "--date", ODD],
-    "a step": ["tools/scenarios/step", "summary", f"{ODD}/scenarios.csv", ODD],
+    "a step": ["tools/scenarios/step", "summary", f"{ODD}/scenarios.csv", ODD, ODD],
     "a wrong step": ["tools/scenarios/step", ODD],
     "a release": ["tools/release", ODD],
     "a preview": ["tools/preview", "solve", ODD, f"--{ODD}"],

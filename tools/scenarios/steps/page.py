@@ -10,6 +10,7 @@ from typing import Dict, List, NamedTuple, Optional, Sequence, Union
 import jinja2
 
 from drawing.templating import TEMPLATES, styles
+from fleetplan.texts import shown
 from steps.differences import Interval
 from steps.rows import Row, asked_of, columns_of, compared_fleets
 from steps.sums import Sum
@@ -41,13 +42,14 @@ class Base(NamedTuple):
     fleets: List[str]
 
 
-def page(rows: Sequence[Row], sums: Sequence[Sum], folder: str) -> str:
-    """Returns the page, which needs nothing beside itself but the pictures that it links to."""
+def page(rows: Sequence[Row], sums: Sequence[Sum], folder: str, note: str = "") -> str:
+    """Returns the page, which needs nothing beside itself but the pictures that it links to. A note stands at its head."""
     planned = [it for it in rows if it.cost is not None]
     env = environment()
     env.globals.update(number=number, signed=signed, link=lambda row: link(row, folder), difference=difference)
     return env.get_template("summary.html").render(
         rows=rows,
+        note=shown(note),
         unsound=[it for it in rows if not it.is_sound],
         bases=bases_of(rows),
         sums=sums,

@@ -8,6 +8,7 @@ from typing import Any, Dict, List, Mapping, Optional, Sequence
 
 from fleetplan.errors import Unread
 from fleetplan.files import remove, write_all
+from fleetplan.program import PROGRAM
 from fleetplan.texts import tell
 from steps.answers import ANSWER, CHECK, SIZES, Answer, Torn, answer_in
 from steps.flagged import choice_of, moved_and_left_out, planned
@@ -16,7 +17,7 @@ from steps.listing import Scenario
 from steps.page import page
 from steps.rows import REFUSED, UNPROVED, UNSOLVED, Row
 from steps.sheet import Sheet
-from steps.solving import DRAWN, sums_of, text_in
+from steps.solving import DRAWN, sum_of, sums_of, text_in
 from steps.sums import sums_of as days_added
 from steps.telling import told_of
 
@@ -112,20 +113,31 @@ def claim(solved: Mapping[str, Any]) -> str:
     return f"holds: {cost}bound {solved['bound']}"
 
 
-def summarize(scenarios: Mapping[str, Scenario], folder: str) -> bool:
-    """Writes the summary of the scenarios, and returns whether each was solved, each proof holds, and no step failed."""
+def summarize(scenarios: Mapping[str, Scenario], folder: str, program: str = PROGRAM) -> bool:
+    """Writes the summary of the scenarios by a program, and returns whether each was solved, each proof holds, and no step failed."""
     rows = rows_of(scenarios, folder)
     rows.sort(key=lambda it: it.is_sound)
     sums = days_added(rows)
-    write_all(".", {"summary.csv": Sheet(rows, sums).text(), "summary.html": page(rows, sums, folder)})
+    other = told_of_program(program)
+    write_all(".", {"summary.csv": Sheet(rows, sums).text(), "summary.html": page(rows, sums, folder, other)})
     for it in scenarios:
         forget_faults(os.path.join(folder, it))
     unsound, partial = [it for it in rows if not it.is_sound], [it for it in rows if not it.is_whole]
     told = warning(unsound) if unsound else []
     if partial:
         told += ["Call it again, since not each step ended:", *listed(partial)]
-    tell(*told, counted(rows))
+    tell(*told, *([other] if other else []), counted(rows))
     return not unsound and not partial
+
+
+def told_of_program(program: str) -> str:
+    """Returns what is told of a program that isn't the one of this clone, with the sum of its bytes; nothing of that one, or of a copy."""
+    try:
+        found = sum_of(program)
+        is_own = os.path.realpath(program) == os.path.realpath(PROGRAM) or os.path.isfile(PROGRAM) and found == sum_of(PROGRAM)
+    except OSError as error:
+        found, is_own = f"none: {error.strerror}", False
+    return "" if is_own else f"By another program than this clone's own: {os.path.realpath(program)} (sha256 {found})."
 
 
 def counted(rows: Sequence[Row]) -> str:
