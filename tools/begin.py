@@ -5,6 +5,7 @@ caller's PYTHONPATH names doesn't come in the place of the tool's own modules. T
 
 import os
 import signal
+import site
 import sys
 from types import TracebackType
 from typing import Callable, List, NoReturn, Optional, Type
@@ -50,10 +51,11 @@ def want_python():
 
 def use_own_modules():
     # type: () -> None
-    """Takes away what PYTHONPATH adds behind the tool's own folder."""
+    """Takes away what PYTHONPATH adds behind the tool's own folder. Where Python finds its packages anyway they stay."""
     own = os.path.dirname(os.path.realpath(__file__))
     added = [os.path.realpath(it) for it in os.environ.get("PYTHONPATH", "").split(os.pathsep) if it]
-    sys.path[1:] = [it for it in sys.path[1:] if os.path.realpath(it) not in added or os.path.realpath(it) == own]
+    kept = [own] + [os.path.realpath(it) for it in site.getsitepackages()]
+    sys.path[1:] = [it for it in sys.path[1:] if os.path.realpath(it) not in added or os.path.realpath(it) in kept]
 
 
 def open_streams():

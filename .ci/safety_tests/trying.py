@@ -9,6 +9,8 @@ import sys
 from pathlib import Path
 from typing import Any, List, NamedTuple, Optional, Sequence
 
+from drawing.library import SYSTEM
+
 TOP = Path(__file__).resolve().parent.parent.parent
 MEGABYTES, SECONDS = 512, 5
 # Calls a tool, of which the program is another one.
@@ -31,8 +33,10 @@ def call(words: Sequence[object], folder: Path, program: Optional[Path] = None, 
     of letters that can be printed, and none of a traceback."""
     tool, *rest = map(str, words)
     named = [str(TOP / "tools" / tool), *rest]
-    command = [sys.executable, "-B", *(["-c", _WITH, str(TOP / "tools"), str(program)] if program else []), *named]
+    # tools/draw goes on in the system's Python where another one has no Jinja2, and a stand-in would be lost on the way.
+    command = [SYSTEM if program else sys.executable, "-B", *(["-c", _WITH, str(TOP / "tools"), str(program)] if program else []), *named]
     where = {**os.environ, "LANG": "C.UTF-8", "FLEETPLAN_HINTS": "0", **names}
+    where.pop("PYTHONPATH", None)
     ran: "subprocess.CompletedProcess[bytes]" = subprocess.run(command, cwd=folder, env=where, check=False, **_pipes(megabytes))
     said, told = (_lines(it) for it in (ran.stdout, ran.stderr))
     return Ended(ran.returncode, said, told)
