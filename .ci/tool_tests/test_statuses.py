@@ -35,7 +35,7 @@ CALLS: Dict[str, Tuple[List[str], int, str]] = {
     "table of no run": (["scenarios/table", "no"], 7, "tools/scenarios/table: no/summary.csv can't be read: No such file or directory"),
     "compare no runs": (["scenarios/compare", "no", "no"], 7, "tools/scenarios/compare: no/summary.csv can't be read: No such file"),
     "compare one run": (["scenarios/compare", "no"], 2, "usage: tools/scenarios/compare"),
-    "a step of no tables": (["scenarios/step", "summary", "no.csv", "run"], 1, "step summary: no.csv can't be read: No such file or directory"),
+    "a step of no tables": (["scenarios/step", "summary", "no.csv", "run", "no"], 1, "step summary: no.csv can't be read: No such file or directory"),
     "words that are a call": (["words", "./fleetplan", "solve", "split"], 1, ""),
     "words that are none": (["words", "./fleetplan", "solve"], 2, "  see docs/formats.md"),
     "words of help": (["words", "./fleetplan", "solve", "--help"], 0, ""),
@@ -69,7 +69,7 @@ def test_status(name: str, scratch: Path) -> None:
 def test_unsolved(scratch: Path) -> None:
     """A summary in which a scenario wasn't solved fails its step."""
     (scratch / "scenarios.csv").write_text("scenario,words,folder,changes\na,,,\n", encoding="ascii")
-    command = [sys.executable, "-B", str(TOP / "tools" / "scenarios" / "step"), "summary", "scenarios.csv", "scenarios"]
+    command = [sys.executable, "-B", str(TOP / "tools" / "scenarios" / "step"), "summary", "scenarios.csv", "scenarios", "no"]
     ran = subprocess.run(command, cwd=scratch, stdin=subprocess.DEVNULL, stdout=subprocess.PIPE, stderr=subprocess.PIPE, check=False)
     assert (ran.returncode, b"DON'T RELY ON 1 OF THE SCENARIOS" in ran.stderr) == (1, True), ran.stderr
     assert "NOT SOLVED" in (scratch / "summary.csv").read_text(encoding="utf-8")
