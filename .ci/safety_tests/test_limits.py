@@ -164,14 +164,27 @@ def test_schedule_files(name: str, command: str, scratch: Path) -> None:
     assert not (scratch / "new").exists()
 
 
+# What a season takes at most beyond what Python does: it begins where nothing is read yet.
+PEAK = """
+import re, sys
+sys.path.insert(0, sys.argv[1])
+from schedule_files.files import schedule_bytes
+from schedule_files.reading import read_schedule
+
+def peak():
+    with open("/proc/self/status") as it:
+        return 1024 * int(re.search("VmHWM:\\s*([0-9]+) kB", it.read())[1])
+
+before = peak()
+found = read_schedule(sys.argv[2], schedule_bytes(sys.argv[2]))
+print((peak() - before) // len(found.lines))
+"""
+
+
 def test_season(scratch: Path) -> None:
-    """A season takes some 1,100 bytes for each of its lines, so that one of 980,000 needs little more than 1 GB."""
+    """A season takes some 1,150 bytes for each of its lines, so that one of 980,000 takes little more than 1 GB."""
     legs = [leg("ZZ", it, "ZRH 0800 +0100 LHR 0950 +0000", "320", variation=1 + more) for more in range(4) for it in range(1, 10_000)]
     (scratch / "season").write_text(text_of_lines(whole("ZZ", legs)), encoding="ascii")
-    script = "import resource, sys; sys.path.insert(0, sys.argv[1]); from schedule_files.files import schedule_bytes as read; " + (
-        "from schedule_files.reading import read_schedule; place = sys.argv[2]; peak = lambda: resource.getrusage(resource.RUSAGE_SELF).ru_maxrss; "
-        "before = peak(); found = read_schedule(place, read(place)); print(1024 * (peak() - before) // len(found.lines))"
-    )
-    words = [sys.executable, "-B", "-c", script, str(TOP / "tools"), str(scratch / "season")]
+    words = [sys.executable, "-B", "-c", PEAK, str(TOP / "tools"), str(scratch / "season")]
     said = subprocess.run(words, stdout=subprocess.PIPE, check=True, encoding="ascii").stdout
-    assert int(said) < 1300
+    assert int(said) < 1240
