@@ -5,9 +5,8 @@ from __future__ import annotations
 import os
 import shutil
 import threading
-import time
 from pathlib import Path
-from typing import Any, List, Tuple
+from typing import Any, Tuple
 from unittest import mock
 
 import pytest
@@ -127,26 +126,29 @@ def test_names_of_another_date(scratch: Path) -> None:
     assert not (scratch / "new").exists()
 
 
-def test_two_calls_at_once(scratch: Path) -> None:
-    """Two calls for one folder, of which one waits before each rename: the folder is that of one, of the other, or doesn't read."""
+@pytest.mark.parametrize("number", range(1, 10))
+def test_two_calls_at_once(number: int, scratch: Path) -> None:
+    """Two calls for one folder, of which one waits before a rename: the folder is that of one, of the other, or doesn't read."""
     tables(scratch, SUNDAY)
     whole = [standing(scratch / "day")]
     tables(scratch, MONDAY)
     whole.append(standing(scratch / "day"))
-    real, seen = os.replace, []
+    real, seen, ended = os.replace, [], []
+    second = threading.Thread(target=lambda: ended.append(tables(scratch, MONDAY)))
 
-    def slow(*words: Any) -> None:
-        time.sleep(0.02)
+    def waiting(*words: Any) -> None:
+        if threading.current_thread() is not second:
+            seen.append(words)
+            if len(seen) == number:
+                second.start()
+                # Who isn't kept out has ended by then.
+                second.join(0.4)
         real(*words)
         stand = {it: data for it, data in standing(scratch / "day").items() if not it.startswith(".")}
-        seen.append("legs.csv" not in stand or stand in whole)
+        assert "legs.csv" not in stand or stand in whole
 
-    ended: List[Tuple[int, str]] = []
-    with mock.patch.object(os, "replace", slow):
-        calls = [threading.Thread(target=lambda date=date: ended.append(tables(scratch, date))) for date in (SUNDAY, MONDAY)]
-        for it in calls:
-            it.start()
-        for it in calls:
-            it.join(30)
-    assert [status for status, _ in ended] == [0, 0]
-    assert all(seen) and standing(scratch / "day") in whole
+    with mock.patch.object(os, "replace", waiting):
+        assert tables(scratch, SUNDAY)[0] == 0
+        second.join(30)
+    assert [status for status, _ in ended] == [0]
+    assert standing(scratch / "day") == whole[1]
