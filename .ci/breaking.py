@@ -41,6 +41,7 @@ def ended_by(name: str, number: int, run: Callable[[], object], sent: int) -> Op
     process = os.fork()
     if not process:
         status = 1
+        signal.signal(signal.SIGINT, signal.default_int_handler)
         try:
             with failing(name, number, lambda: os.kill(os.getpid(), sent)):
                 run()

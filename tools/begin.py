@@ -70,6 +70,13 @@ def open_streams():
                 setattr(sys, stream, open(number, "w", encoding="utf-8", errors="backslashreplace", closefd=False))
 
 
+def is_run():
+    # type: () -> bool
+    """Returns whether a tool is what is run, and not a module of another program."""
+    main = getattr(sys.modules.get("__main__"), "__file__", None)
+    return main is None or os.path.realpath(main).startswith(os.path.dirname(os.path.realpath(__file__)) + os.sep)
+
+
 def run(main, page):
     # type: (Callable[[List[str]], int], Optional[str]) -> NoReturn
     """Calls a tool with its words, and ends with its status: fleetplan.tool says how."""
@@ -78,10 +85,12 @@ def run(main, page):
     run_tool(main, page)
 
 
-sys.excepthook = end_in_one_line
 want_python()
-use_own_modules()
-open_streams()
-# Until the tool hears of it, a Ctrl-C ends it at once.
-if signal.getsignal(signal.SIGINT) == signal.default_int_handler:
-    signal.signal(signal.SIGINT, signal.SIG_DFL)
+# Who loads a tool as a module has handlers and paths of his own.
+if is_run():
+    sys.excepthook = end_in_one_line
+    use_own_modules()
+    open_streams()
+    # Until the tool hears of it, a Ctrl-C ends it at once.
+    if signal.getsignal(signal.SIGINT) == signal.default_int_handler:
+        signal.signal(signal.SIGINT, signal.SIG_DFL)
