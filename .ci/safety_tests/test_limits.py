@@ -164,6 +164,17 @@ def test_schedule_files(name: str, command: str, scratch: Path) -> None:
     assert not (scratch / "new").exists()
 
 
+@pytest.mark.parametrize("script", ["yes", "head -c 3000000000 /dev/zero", "sh -c yes", "yes & sleep 1; kill $!"])
+def test_endless_judgements(script: str, scratch: Path) -> None:
+    """What the program prints of the plan as filed is cut, and nothing is written."""
+    legs = [leg("ZZ", 1, "ZRH 0800 +0100 LHR 0950 +0000", "320"), leg("ZZ", 2, "LHR 1100 +0000 ZRH 1250 +0100", "320")]
+    (scratch / "season").write_text(text_of_lines(whole("ZZ", legs)), encoding="ascii")
+    program = stand_in(scratch / "program", script)
+    ended = call(["ssim", "tables", "season", "day", "--date", "2026-11-30"], scratch, FLEETPLAN=str(program))
+    assert (ended.status, ended.told) == (7, [f"ssim: {program} judge prints more than 65536 bytes"])
+    assert not (scratch / "day").exists()
+
+
 # What a season takes at most beyond what Python does: it begins where nothing is read yet.
 PEAK = """
 import re, sys

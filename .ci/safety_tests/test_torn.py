@@ -5,10 +5,13 @@ from __future__ import annotations
 
 import json
 import os
+import tempfile
 from pathlib import Path
 from typing import Any, Callable, Dict, List, Tuple
 
 import pytest
+from breaking import MEMORY
+from hypothesis import given, settings, strategies as st
 from scenario_tests.laid import column, lay_run, optimal, records, summed
 from steps import sizes, solving
 from steps.answers import Torn, answer_in
@@ -58,6 +61,7 @@ WAYS: Dict[str, Callable[[Path], None]] = {
     "nothing": of(b"null"),
     "no number": of(b'{"told": "", "seconds": NaN, "memory": 1, "sums": {}, "asked": NaN}'),
     "deep": of(b"[" * 100_000),
+    "long": of(b'{"fault": "' + b"x" * (1 << 24) + b'"}'),
     "two": of(b'{"fault": "x"}{"fault": "x"}'),
     "a fault that is no text": of(b'{"fault": 7}'),
     "another": of(b'{"other": 1}'),
@@ -178,6 +182,22 @@ def test_torn_solution(name: str, scratch: Path) -> None:
     is_sound, said = summed(scratch)
     assert not is_sound and f"{name} can't be compared with what was checked: Is a directory" in said
     assert column(scratch, "outcome") == {"hurt": "NOT PROVED", "whole": "optimal"}
+
+
+TEXTS = st.text(st.one_of(st.sampled_from("\x1b\r\n\x07\x9b\u2028\u202e<>&'\" "), st.characters(blacklist_categories=["Cs"])), max_size=40)
+
+
+@settings(max_examples=25)
+@given(TEXTS, TEXTS)
+def test_texts_of_answers(fault: str, said: str) -> None:
+    """Whatever an answer says, the summary tells it in one line of letters that can be printed."""
+    with tempfile.TemporaryDirectory(dir=MEMORY) as folder:
+        lay_run(Path(folder), LISTED, {"whole": {"fault": fault}, "hurt": optimal(60)})
+        check = Path(folder, "scenarios", "hurt", "check.json")
+        check.write_text(json.dumps({**json.loads(check.read_text(encoding="ascii")), "told": said}), encoding="ascii")
+        lines = summed(Path(folder))[1].split("\n")
+        assert len(lines) == 8 and all(it.isprintable() for it in lines), lines
+        assert {it["scenario"]: it["outcome"] for it in records(Path(folder))} == {"whole": "NOT SOLVED", "hurt": "NOT PROVED"}
 
 
 def test_check_of_what_was_refused(scratch: Path) -> None:

@@ -51,9 +51,11 @@ _PLAINLY = Saying("doesn't begin with {wanted}", "record {number} hasn't {width}
 def bytes_of(path: str, most: int = MOST_BYTES) -> bytes:
     """Returns what stands in a file, or raises Unread where it is none, longer than so many bytes, or may not be read."""
     try:
-        _want_file(path, most)
+        size = _want_file(path, most)
         with open(path, "rb") as it:
-            return it.read(most + 1)
+            # Room for all that is read is taken before, so no more is asked for than stands there.
+            data = it.read(size + 1)
+            return data if len(data) <= size else data + it.read(most - size)
     except (OSError, ValueError) as error:
         raise _unread(path, error) from error
 
@@ -68,13 +70,14 @@ def parts_of(path: str, most: int) -> Iterator[bytes]:
         raise _unread(path, error) from error
 
 
-def _want_file(path: str, most: int) -> None:
-    """Raises Unread where no file stands in a place, or one longer than so many bytes."""
+def _want_file(path: str, most: int) -> int:
+    """Returns how long the file in a place is, or raises Unread where none stands there, or one longer than so many bytes."""
     found = os.stat(path)
     if not stat.S_ISREG(found.st_mode):
         raise Unread.of(path, "is no file", FAULT)
     if found.st_size > most:
         raise Unread.of(path, f"is longer than {most} bytes")
+    return found.st_size
 
 
 def _unread(path: str, error: Exception) -> Unread:
@@ -150,5 +153,8 @@ def rows_of(folder: str, name: str) -> Rows:
 def text_of(header: Header, records: Iterable[Iterable[object]]) -> str:
     """Returns the text of a table."""
     text = io.StringIO()
-    csv.writer(text, lineterminator="\n").writerows([header, *records])
+    # Python before 3.13 doesn't quote a carriage return alone.
+    writers = [csv.writer(text, lineterminator="\n", quoting=it) for it in (csv.QUOTE_MINIMAL, csv.QUOTE_ALL)]
+    for it in (header, *([*fields] for fields in records)):
+        writers[any("\r" in str(field) for field in it)].writerow(it)
     return text.getvalue()

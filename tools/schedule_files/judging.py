@@ -6,12 +6,16 @@ import os
 import re
 import subprocess
 import tempfile
-from typing import Dict, Mapping, Optional, Sequence, Tuple
+import threading
+from typing import Dict, List, Mapping, Optional, Sequence, Tuple
 
 from fleetplan.errors import FAULT, Unread
 from fleetplan.program import TOP
-from fleetplan.texts import tell
+from fleetplan.texts import plain, tell
 from schedule_files.files import write_tables
+
+# The most bytes that are read of a judgement: a line for each of 20 fleets.
+MOST_PRINTED = 1 << 16
 
 
 def program() -> str:
@@ -34,16 +38,31 @@ def used_by(texts: Mapping[str, str], fleets: Sequence[str], days: int) -> Tuple
             return used, None
     if status == 9 and len(lines) == 1 and re.match("unbalanced|too many", lines[0]):
         return None, lines[0]
-    raise Unread(f"{program()} judge ended with status {status}{': ' + lines[0] if lines else ''}, it should judge the plan as filed", FAULT)
+    raise Unread(f"{program()} judge ended with status {status}{': ' + plain(lines[0]) if lines else ''}, it should judge the plan as filed", FAULT)
 
 
 def run(words: Sequence[str]) -> Tuple[int, str]:
-    """Runs a program, and returns its status and what it printed. What it says of its building is passed on, a line at a time."""
+    """Runs a program, and returns its status and what it printed, or raises Unread where it can't be run, or prints more than it has to say.
+    What it says of its building is passed on, a line at a time."""
+    said: List[bytes] = []
     try:
         with subprocess.Popen(words, stdin=subprocess.DEVNULL, stdout=subprocess.PIPE, stderr=subprocess.PIPE) as ran:
+            reading = threading.Thread(target=_read, args=(ran, said))
+            reading.start()
             for line in ran.stderr or ():
                 tell(line.decode("utf-8", "replace").rstrip("\r\n"))
-            said = ran.stdout.read().decode("utf-8", "replace") if ran.stdout else ""
-        return ran.returncode, said
+            reading.join()
     except OSError as error:
         raise Unread.of(words[0], f"can't be run: {error.strerror}", FAULT) from error
+    if len(said[0]) > MOST_PRINTED:
+        raise Unread(f"{' '.join(words[:2])} prints more than {MOST_PRINTED} bytes", FAULT)
+    return ran.returncode, said[0].decode("utf-8", "replace")
+
+
+def _read(ran: "subprocess.Popen[bytes]", said: List[bytes]) -> None:
+    """Notes what a process prints, and ends one that prints too much."""
+    if ran.stdout:
+        said.append(ran.stdout.read(MOST_PRINTED + 1))
+        if len(said[0]) > MOST_PRINTED:
+            ran.kill()
+        ran.stdout.close()

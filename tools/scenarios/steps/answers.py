@@ -15,6 +15,8 @@ from fleetplan.files import write
 Answer = Dict[str, Any]
 # In the folder of the solution, and beside it.
 ANSWER, CHECK, SIZES = "answer.json", "check.json", "sizes.json"
+# More than there is to say of any tables.
+MOST_LETTERS = 1 << 24
 _OUTCOMES = ("optimal", "gap", "infeasible", "unsettled")
 
 
@@ -26,7 +28,7 @@ def read_json(path: str) -> Answer:
     """Returns the answer that a file holds. It raises OSError where it can't be read, and ValueError where it holds none."""
     with open(path, encoding="utf-8") as it:
         try:
-            found = json.load(it, parse_constant=_no_number)
+            found = json.loads(it.read(MOST_LETTERS), parse_constant=_no_number)
         except RecursionError as error:
             raise ValueError("it is nested too deep") from error
     if not isinstance(found, dict):

@@ -132,9 +132,11 @@ def summarize(scenarios: Mapping[str, Scenario], folder: str, program: str = PRO
 
 def told_of_program(program: str) -> str:
     """Returns what is told of a program that isn't the one of this clone, with the sum of its bytes; nothing of that one, or of a copy."""
+    if os.path.realpath(program) == os.path.realpath(PROGRAM):
+        return ""
     try:
         found = sum_of(program)
-        is_own = os.path.realpath(program) == os.path.realpath(PROGRAM) or os.path.isfile(PROGRAM) and found == sum_of(PROGRAM)
+        is_own = os.path.isfile(PROGRAM) and found == sum_of(PROGRAM)
     except OSError as error:
         found, is_own = f"none: {error.strerror}", False
     return "" if is_own else f"By another program than this clone's own: {os.path.realpath(program)} (sha256 {found})."
