@@ -101,10 +101,10 @@ def desk(program: Path, tmp_path_factory: Any) -> Path:
 
 @pytest.mark.parametrize("name", EXAMPLES)
 def test_drawing(name: str, desk: Path) -> None:
-    """A solved example is drawn, and one without a plan isn't."""
+    """An example that is solved by the free search, which takes least time, is drawn, and one without a plan isn't."""
     folder = desk / "examples" / name
     reading = reading_of(folder)
-    said, status = run(["./fleetplan", "solve", str(folder), *reading], desk)
+    said, status = run(["./fleetplan", "solve", "--search", "free", str(folder), *reading], desk)
     told, drawn = run(["tools/draw", str(folder), *reading], desk)
     if status == 4:
         assert drawn in (7, 9) and not (folder / "plan.html").exists(), told
