@@ -47,7 +47,7 @@ def _pipes(megabytes: int) -> Any:
         resource.setrlimit(resource.RLIMIT_AS, (megabytes << 20, megabytes << 20))
         resource.setrlimit(resource.RLIMIT_CPU, (SECONDS, SECONDS))
 
-    return {"stdin": subprocess.DEVNULL, "stdout": subprocess.PIPE, "stderr": subprocess.PIPE, "preexec_fn": limit, "timeout": 120}
+    return {"stdin": subprocess.DEVNULL, "stdout": subprocess.PIPE, "stderr": subprocess.PIPE, "preexec_fn": limit, "timeout": 45}
 
 
 def _lines(data: bytes) -> List[str]:
