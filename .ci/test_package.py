@@ -13,7 +13,7 @@ import subprocess
 import sys
 import tempfile
 from pathlib import Path
-from typing import Any, Callable, Dict, Sequence, Tuple
+from typing import Any, Callable, Dict, List, Sequence, Tuple
 
 import fleetplan
 import pytest
@@ -119,10 +119,15 @@ def test_unread(table: str, text: str, where: Tuple[object, ...], scratch: Path)
 def stand_in(folder: Path, text: str, status: int, patch: pytest.MonkeyPatch) -> None:
     """Lays a program that notes its words, prints a text and ends with a status."""
     (folder / "said").write_text(text, encoding="ascii")
+    patch.setenv("FLEETPLAN", str(laid(folder, f'echo "$*" > {folder}/words\ncat {folder}/said\nexit {status}')))
+
+
+def laid(folder: Path, script: str) -> Path:
+    """Lays a program that a script of sh answers for."""
     program = folder / "program"
-    program.write_text(f'#!/bin/sh\necho "$*" > {folder}/words\ncat {folder}/said\nexit {status}\n', encoding="ascii")
+    program.write_text(f"#!/bin/sh\n{script}\n", encoding="ascii")
     program.chmod(0o755)
-    patch.setenv("FLEETPLAN", str(program))
+    return program
 
 
 @pytest.mark.parametrize("call, words, text, status, wanted", ANSWERS, ids=[f"{it[1]}: {it[2].splitlines()[0]}" for it in ANSWERS])
@@ -149,7 +154,35 @@ def test_fault(text: str, status: int, raised: Tuple[Any, ...], tmp_path: Path, 
 def test_no_option(name: str) -> None:
     """An option that the command hasn't is a fault of the caller."""
     with pytest.raises(TypeError):
-        fleetplan.judge("DIR", **{name: 1})
+        fleetplan.judge("DIR", None, **{name: 1})
+
+
+# Programs that take too much, by what limit, and what is told of it.
+TOO_MUCH: Sequence[Tuple[str, Dict[str, Any], str]] = (
+    ("exec sleep 6", {"seconds": 0.5}, "doesn't end in time"),
+    ("exec sleep 6", {"seconds": 1, "is_measured": True}, "doesn't end in time"),
+    ("yes", {"printed": 1000}, "prints more than 1000 bytes"),
+    ("yes >&2", {}, "tells more than 1048576 bytes"),
+)
+
+
+@pytest.mark.parametrize("script, limits, why", TOO_MUCH, ids=[f"{it[2]} {len(it[1])}" for it in TOO_MUCH])
+def test_limits(script: str, limits: Dict[str, Any], why: str, tmp_path: Path) -> None:
+    """A call that takes too much is ended, and is a fault."""
+    program = laid(tmp_path, script)
+    with pytest.raises(fleetplan.Fault) as found:
+        fleetplan.judge("DIR", fleetplan.Runner(program, **limits))
+    assert (str(found.value), found.value.status) == (f"{program} judge {why}", 0)
+
+
+@pytest.mark.parametrize("is_measured", [False, True])
+def test_run(is_measured: bool, tmp_path: Path) -> None:
+    """What a call came to: what it printed and told, its status, and what it took."""
+    heard: List[str] = []
+    program = laid(tmp_path, 'echo "$1"; printf "one\\r\\ntwo" >&2; ulimit -v; exit 3')
+    ran = fleetplan.Runner(program, memory=900, is_measured=is_measured, hear=heard.append).run("a b")
+    assert (ran.status, ran.text, ran.told, heard) == (3, f"a b\n{900 * 1024}\n", b"one\r\ntwo", ["one", "two"])
+    assert ran.elapsed > 0 and ran.seconds >= 0 and (ran.peak > 100_000) is is_measured
 
 
 def test_no_program(scratch: Path, monkeypatch: pytest.MonkeyPatch) -> None:

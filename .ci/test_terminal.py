@@ -56,9 +56,9 @@ def test_elapsed_time(command: str, keys: str, form: str, wanted: int, tmp_path:
 
 
 def reading_of(folder: Path) -> List[str]:
-    """Returns the words by which the tables of an example are read."""
+    """Returns the words by which the tables of an example are read, and how long its nights for maintenance are."""
     text = (folder / "expected").read_text(encoding="utf-8")
-    found = (re.search(rf"--{it} \S+", text) for it in ("day-start", "period"))
+    found = (re.search(rf"--{it} \S+", text) for it in ("day-start", "period", "least-night"))
     asked = [f"--{it}" for it in ("windows", "optional") if (folder / f"{it}.csv").is_file()]
     return [*(word for it in found if it for word in it[0].split()), *asked]
 

@@ -3,10 +3,8 @@
 from __future__ import annotations
 
 import shutil
-import subprocess
 import sys
 import tempfile
-import time
 from pathlib import Path
 from typing import Any, Dict, NoReturn, Sequence, Tuple
 
@@ -14,20 +12,6 @@ import make_tables
 from shared import BENCH, DAY_START, Place, program_of, run
 
 RUNS = 9
-
-
-def seconds_of(words: Sequence[str]) -> float:
-    """The seconds of a run by the clock."""
-    start = time.perf_counter()
-    subprocess.run(words, stdin=subprocess.DEVNULL, stdout=subprocess.DEVNULL, check=True)
-    return time.perf_counter() - start
-
-
-def peak_of(words: Sequence[str]) -> float:
-    """The most memory that a run held, in MB: by GNU time, since a child's count of our own begins at our own size."""
-    with tempfile.NamedTemporaryFile() as note:
-        subprocess.run(["time", "-f", "%M", "-o", note.name, *words], stdin=subprocess.DEVNULL, stdout=subprocess.DEVNULL, check=True)
-        return int(note.read()) * 1024 / 1e6
 
 
 def compare(title: str, program: Path, folder: Place, files: Sequence[Path], flags: Sequence[str]) -> bool:
@@ -39,10 +23,11 @@ def compare(title: str, program: Path, folder: Place, files: Sequence[Path], fla
     best = {name: float("inf") for name in sides}
     for _ in range(RUNS):
         for name, words in sides.items():
-            best[name] = min(best[name], seconds_of(words))
+            best[name] = min(best[name], run(*words).elapsed)
     print(f"{title}, {sum(path.stat().st_size for path in files):,} bytes")
     for name, words in sides.items():
-        print(f"  {name:16} {best[name] * 1000:8.1f} ms {peak_of(words):8.1f} MB")
+        # A child's own count begins at our size, and that of GNU time at its own.
+        print(f"  {name:16} {best[name] * 1000:8.1f} ms {run(*words, is_measured=True).peak / 1e6:8.1f} MB")
     return best["fleetplan judge"] <= best["Python csv"]
 
 
@@ -50,7 +35,7 @@ def same_answer(program: Path, folder: Place, flags: Sequence[str]) -> bool:
     """Whether the program prints what the reference prints."""
     ours = run(program, "judge", folder, "--day-start", DAY_START, *flags)
     theirs = run(sys.executable, BENCH / "judge_reference.py", folder, DAY_START, *flags)
-    return (ours.returncode, ours.stdout) == (theirs.returncode, theirs.stdout) and ours.returncode == 0
+    return (ours.status, ours.printed) == (theirs.status, theirs.printed) and ours.status == 0
 
 
 def main(filled: bool) -> NoReturn:

@@ -2,16 +2,15 @@
 
 from __future__ import annotations
 
-import os
 import re
 import shutil
-import subprocess
 from pathlib import Path
 from typing import Dict, Optional, Tuple
 
 import plan_by_cbc
-from shared import BENCH, Place
+from shared import BENCH, Place, run
 
+from fleetplan.program import TooLate
 from fleetplan.times import minute_of
 
 # The seconds of each solver, and the cost where it was found.
@@ -31,7 +30,7 @@ SOLVERS = {
 def is_there(name: str) -> bool:
     """Whether a solver is on this machine."""
     if name == "highs":
-        return shutil.which(PYTHON) is not None and subprocess.run([PYTHON, "-c", "import scipy.optimize"], capture_output=True).returncode == 0
+        return shutil.which(PYTHON) is not None and run(PYTHON, "-c", "import scipy.optimize").status == 0
     return shutil.which(name) is not None
 
 
@@ -43,15 +42,12 @@ def solved(folder: Place, day_start: str = "03:00") -> Found:
     found: Found = {}
     for name, (words, cost) in SOLVERS.items():
         if is_there(name):
-            before = os.times()
             try:
-                text = subprocess.run(words, cwd=folder, capture_output=True, text=True, timeout=SECONDS).stdout
-            except subprocess.TimeoutExpired:
-                text = ""
-            after = os.times()
-            seconds = max(0.0, after.children_user + after.children_system - before.children_user - before.children_system)
-            costs = cost.findall(text)
-            found[name] = seconds, round(float(costs[-1])) if costs else None
+                ran = run(*words, cwd=folder, seconds=SECONDS)
+                costs = cost.findall(ran.text)
+                found[name] = ran.seconds, round(float(costs[-1])) if costs else None
+            except TooLate:
+                found[name] = SECONDS, None
     return found
 
 

@@ -150,4 +150,4 @@ def judged(folder: Path) -> str:
     value = {name: word for name, word in zip(reading, reading[1:]) if not word.startswith("--")}
     flags = [it for it in BOTH.split() if it in reading]
     words = [folder, value.get("--day-start", "03:00"), value.get("--period", "1"), *flags]
-    return ran(sys.executable, BENCH / "judge_reference.py", *words).stdout
+    return ran(sys.executable, BENCH / "judge_reference.py", *words).text

@@ -14,7 +14,7 @@ import time
 from pathlib import Path
 from typing import Callable, Dict, Iterable, List, Mapping, Optional, Sequence, Tuple, TypeVar
 
-from shared import BUILT, EXAMPLES, TOP, Engine, rows as records
+from shared import BUILT, EXAMPLES, TOP, rows as records
 
 from fleetplan.files import write
 from fleetplan.records import text_of
@@ -94,7 +94,7 @@ class Run:
         own = ["snakemake", "-s", PLACE / "Snakefile", "--profile", PLACE / profile, "--directory", self.folder]
         return [*self.before, *map(str, own), *more]
 
-    def start(self, profile: str, *more: str, environment: Environment = None) -> Engine:
+    def start(self, profile: str, *more: str, environment: Environment = None) -> "subprocess.Popen[bytes]":
         """Starts the engine, whose output stands in the file `engine` of the folder."""
         with open(self.folder / "engine", "ab") as out:
             words, nothing = self.words(profile, *more), subprocess.DEVNULL
@@ -140,13 +140,13 @@ class Run:
         """Returns the time of each solution that stands there, which the engine leaves alone when it sets the times of outputs."""
         return {it: it.stat().st_mtime_ns for it in self.folder.glob("scenarios/*/solved/answer.json")}
 
-    def wait_until_done(self, number: int, engine: Engine, output: str = "check.json") -> bool:
+    def wait_until_done(self, number: int, engine: "subprocess.Popen[bytes]", output: str = "check.json") -> bool:
         """Waits until an output of so many scenarios stands there, and returns whether the engine is still at work then."""
         while engine.poll() is None and len(list(self.folder.glob(f"scenarios/*/{output}"))) < number:
             time.sleep(0.05)
         return engine.poll() is None
 
-    def kill_solve(self, engine: Engine) -> bool:
+    def kill_solve(self, engine: "subprocess.Popen[bytes]") -> bool:
         """Waits until the program solves a scenario, kills that process by its id, and returns whether there was one."""
         while engine.poll() is None:
             found = solves_in(self.folder)
@@ -221,13 +221,13 @@ def wrapped(path: Path, line: str) -> Path:
     return path
 
 
-def kill(process: Engine) -> None:
+def kill(process: "subprocess.Popen[bytes]") -> None:
     """Ends a process by its id, by a signal that it can't hear."""
     os.kill(process.pid, signal.SIGKILL)
     process.wait()
 
 
-def stop(engine: Engine) -> None:
+def stop(engine: "subprocess.Popen[bytes]") -> None:
     """Ends the engine as Ctrl-C does, so that it cancels its jobs, and after a while with all that it has started."""
     engine.send_signal(signal.SIGINT)
     try:

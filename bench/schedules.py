@@ -8,18 +8,16 @@ from __future__ import annotations
 
 import sys
 from pathlib import Path
-from typing import List, Optional
+from typing import Any, Dict, List, Optional
 
-from shared import FLAGGED, Place, program_of, rows, run
+from shared import FLAGGED, Place, program_of, rows
 
-SOLVED = (0, 3, 5)
+import fleetplan
 
 
 def make(folder: Place, number: int, legs: int, program: Optional[Place] = None) -> None:
     """Has the program write the tables of a number into a folder, with so many legs."""
-    made = run(program_of(program), "make", folder, number, legs)
-    if made.returncode not in SOLVED:
-        sys.exit(f"make {folder} {number} {legs} ended with {made.returncode}: {made.stdout}")
+    fleetplan.make(str(folder), number, legs, fleetplan.Runner(program_of(program)))
 
 
 def period_of(folder: Place) -> int:
@@ -32,10 +30,10 @@ def flags_of(folder: Place) -> List[str]:
     return [flag for flag, name in FLAGGED.items() if Path(folder, name).exists()]
 
 
-def reading_words(folder: Place) -> List[str]:
-    """The words by which the program reads the tables of a folder, none where it repeats each day and has five."""
+def reading_of(folder: Place) -> Dict[str, Any]:
+    """The options by which the program reads the tables of a folder, none where it repeats each day and has five."""
     period = period_of(folder)
-    return [*(["--period", str(period)] if period > 1 else []), *flags_of(folder)]
+    return {**({"period": period} if period > 1 else {}), **{it[2:]: True for it in flags_of(folder)}}
 
 
 def want_one_day(folder: Place, what: str) -> None:

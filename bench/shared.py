@@ -4,28 +4,22 @@ from __future__ import annotations
 
 import csv
 import os
-import subprocess
 import sys
 from pathlib import Path
-from typing import TYPE_CHECKING, Any, Callable, Dict, Iterable, List, Mapping, Optional, Sequence, Tuple, Union
+from typing import Any, Callable, Dict, Iterable, List, Mapping, Optional, Sequence, Union
 
 TOP = Path(__file__).resolve().parent.parent
 BENCH = TOP / "bench"
 EXAMPLES = TOP / "examples"
 sys.path.append(str(TOP / "tools"))
 
+from fleetplan.errors import Answered
 from fleetplan.files import write_all
-from fleetplan.program import PROGRAM
+from fleetplan.program import PROGRAM, Ran, Runner
 from fleetplan.records import text_of
 from fleetplan.tables import ASKED, HEADERS, TABLES, Header
 
 Place = Union[str, Path]
-# What a command came to, and one at work.
-if TYPE_CHECKING:
-    Done = subprocess.CompletedProcess[str]
-    Engine = subprocess.Popen[bytes]
-else:
-    Done, Engine = subprocess.CompletedProcess, subprocess.Popen
 BUILT = Path(PROGRAM)
 # The flags by which the program reads further tables.
 FLAGGED = {f"--{option}": name for option, name in ASKED.items()}
@@ -40,22 +34,22 @@ def program_of(word: Optional[Place] = None) -> Path:
     return program
 
 
-def run(*words: object, **how: Any) -> Done:
-    """Runs a command, and returns its status and what it prints, as subprocess has them."""
-    return subprocess.run([str(it) for it in words], capture_output=True, text=True, **how)
+def run(*words: object, **how: Any) -> Ran:
+    """Runs a command, and returns what it came to. `how` are words of a Runner."""
+    return Runner(str(words[0]), **how).run(*words[1:])
 
 
-def timed(*words: object, **how: Any) -> Tuple[Done, float]:
-    """Runs a command, and returns the same and the seconds of the processor that it took."""
-    before = os.times()
-    done = run(*words, **how)
-    after = os.times()
-    return done, after.children_user + after.children_system - before.children_user - before.children_system
+def answer(call: Callable[..., object], *words: object, **more: object) -> object:
+    """Returns what a call of the package answers; another answer as its status and its text."""
+    try:
+        return call(*words, **more)
+    except Answered as other:
+        return other.status, str(other)
 
 
-def said(done: Done) -> Dict[str, str]:
-    """Returns the first lines of a summary of `solve` by their names: outcome, cost, bound, splits and open."""
-    return dict(line.split(": ", 1) for line in done.stdout.splitlines()[:5])
+def told(cost: Optional[int]) -> str:
+    """Returns a cost or a bound in words."""
+    return "none" if cost is None else str(cost)
 
 
 def rows(folder: Place, name: str) -> List[Dict[str, str]]:

@@ -22,7 +22,6 @@ import time
 from pathlib import Path
 from typing import Callable, Dict, List, Optional, Sequence
 
-from shared import Engine
 
 NEEDS = ("munged", "slurmctld", "slurmd", "sbatch", "scontrol", "scancel")
 NODES = ("here1", "here2")
@@ -85,7 +84,7 @@ class Slurm:
 
     def __init__(self, cpus: int = 2, memory: int = 4000) -> None:
         self.cpus, self.memory = cpus, memory
-        self.daemons: Dict[str, Engine] = {}
+        self.daemons: Dict[str, "subprocess.Popen[bytes]"] = {}
 
     def __enter__(self) -> Slurm:
         self.folder = Path(tempfile.mkdtemp(prefix="fleetplan-slurm-"))

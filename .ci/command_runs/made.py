@@ -14,6 +14,7 @@ VALUES: Dict[str, Words] = {
     "period": ["1", "7", "0", "8", MOST, BEYOND, "+5", "0x1"],
     "through-max": ["0", "1439", "1440", "1e3", "60 "],
     "days": ["1", "30", "0", "31", "3.0", "३"],
+    "least-night": ["540", "0", "1440", "1441", "-1", "9:00", "540.0", MOST, BEYOND, ""],
     "visits": ["0", "1000000", "1000001", "200,000"],
     "search": ["fixed", "free", "Free", "fre", "frees", " free", "fixed|free", "1", ""],
     "nodes": ["0", "1000000", "1000001", ""],

@@ -9,7 +9,6 @@ import os
 import re
 import shutil
 import signal
-import subprocess
 import sys
 import tempfile
 from pathlib import Path
@@ -18,6 +17,7 @@ from typing import Callable, Dict, List, Optional, Sequence, Tuple
 import pexpect
 from command_runs.reading import TOP, Case
 from fleetplan.origin import BUILT, Places, source_sum, write_note
+from fleetplan.program import BESIDE, Runner, TooLate
 
 SECONDS = 120
 # On a slow machine the line of the elapsed time comes and goes before an answer.
@@ -48,12 +48,11 @@ def where(folder: Path, **more: str) -> Dict[str, str]:
 
 def run(words: Sequence[str], folder: Path, **names: str) -> Tuple[str, int]:
     """Runs a command without a terminal, and returns what it printed, errors and all, and its status."""
-    pipe, nothing, names = subprocess.PIPE, subprocess.DEVNULL, names or dict(os.environ)
     try:
-        ran = subprocess.run(words, timeout=SECONDS, cwd=folder, env=names, stdin=nothing, stdout=pipe, stderr=subprocess.STDOUT, check=False)
-    except subprocess.TimeoutExpired:
+        ran = Runner(words[0], SECONDS, cwd=folder, env=names or None, stderr=BESIDE).run(*words[1:])
+    except TooLate:
         return f"it had not ended after {SECONDS} seconds\n", -1
-    return ran.stdout.decode(errors="replace"), ran.returncode
+    return ran.text, ran.status
 
 
 def in_shell(command: str, folder: Path) -> Tuple[str, int]:

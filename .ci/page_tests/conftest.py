@@ -8,13 +8,7 @@ from typing import Any, Iterator
 import pytest
 
 from page_tests.browsing import Browser, missing
-from page_tests.plans import Desk, lay_tree
-
-
-@pytest.fixture(scope="session", autouse=True)
-def tree() -> None:
-    """The tools lie beside the program."""
-    lay_tree()
+from page_tests.plans import Desk
 
 
 @pytest.fixture(scope="session")

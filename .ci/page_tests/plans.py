@@ -2,45 +2,27 @@
 
 from __future__ import annotations
 
-import atexit
-import os
 import shutil
-import subprocess
-import tempfile
 from dataclasses import dataclass
 from pathlib import Path
-from typing import Any, Dict, List, Optional
+from typing import Dict, List, Optional
+
+from fleetplan.program import BESIDE, Runner
 
 TOP = Path(__file__).resolve().parent.parent.parent
-# Where the tools and the program lie side by side, as in a clone in which it was built.
-TREE = Path(tempfile.mkdtemp(prefix="fleetplan-page-"))
 SECONDS = 120
-atexit.register(shutil.rmtree, TREE, ignore_errors=True)
-
-
-def lay_tree() -> None:
-    """Lays the tools out, with the program where that is there."""
-    shutil.copytree(TOP / "tools", TREE / "tools")
-    built = TREE / "crates" / "fleetplan" / "out"
-    built.mkdir(parents=True)
-    program = Path(os.environ["FLEETPLAN"])
-    if program.is_file():
-        shutil.copy(program, built / "fleetplan")
-        os.chmod(built / "fleetplan", 0o755)
 
 
 def run(words: List[str], status: int = 0) -> str:
     """Runs a command, and returns what it printed, errors and all. Its status has to be the one that is wanted."""
-    how: Dict[str, Any] = {"stdin": subprocess.DEVNULL, "stdout": subprocess.PIPE, "stderr": subprocess.STDOUT, "timeout": SECONDS}
-    ran = subprocess.run(words, check=False, **how)
-    said = str(ran.stdout.decode("utf-8", "replace"))
-    assert ran.returncode == status, f"{' '.join(words)}: status {ran.returncode}, and it said\n{said}"
-    return said
+    ran = Runner(words[0], SECONDS, stderr=BESIDE).run(*words[1:])
+    assert ran.status == status, f"{' '.join(words)}: status {ran.status}, and it said\n{ran.text}"
+    return ran.text
 
 
 def draw(folder: Path, *words: str, status: int = 0) -> str:
     """Draws a folder, and returns what tools/draw said."""
-    return run([str(TREE / "tools" / "draw"), str(folder), *words], status)
+    return run([str(TOP / "tools" / "draw"), str(folder), *words], status)
 
 
 @dataclass(frozen=True)
@@ -117,4 +99,4 @@ class Desk:
     def lay_season(folder: Path, example: Path, option: str) -> None:
         """Makes the tables of a date or a week of the season, with its plan as filed."""
         priced = [str(example / it) if it.endswith(".csv") else it for it in (PRICES if option == "--date" else PRICES[:4])]
-        run([str(TREE / "tools" / "ssim"), "tables", str(example / "season.ssim"), str(folder), option, "2026-11-30", *priced])
+        run([str(TOP / "tools" / "ssim"), "tables", str(example / "season.ssim"), str(folder), option, "2026-11-30", *priced])

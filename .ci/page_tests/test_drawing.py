@@ -14,7 +14,7 @@ from xml.etree import ElementTree
 
 import pytest
 from page_tests.counting import rows, wanted_legs
-from page_tests.plans import TOP, TREE, Desk, Drawn, draw, run
+from page_tests.plans import KINDS, TOP, Desk, Drawn, draw, run
 
 
 class Reader(HTMLParser):
@@ -76,6 +76,22 @@ def test_dates(desk: Desk, name: str, command: str) -> None:
     said = run([desk.program, command, str(drawn.folder), first, dates, *drawn.reading])
     drawn_lines = {f"{it.split(' ', 1)[1]}: {' '.join(flights)}" for it, flights in legs_by_aircraft(drawn.page).items()}
     assert drawn_lines == said_lines(said)
+
+
+@pytest.mark.parametrize("name, first", [("tails", "2026-11-26"), ("week", "2026-11-24"), ("week", "2026-11-20")])
+def test_first_day(desk: Desk, name: str, first: str, tmp_path: Path) -> None:
+    """Where settings.csv tells a date of day 1, the rows are those that `tails` tells by it."""
+    drawn, dates = desk.drawn(name), ["2026-11-27", "2"]
+    words = [*drawn.reading, *(KINDS[name].solving or [])]
+    folder = tmp_path / "day"
+    shutil.copytree(drawn.folder, folder)
+    (folder / "settings.csv").write_text(f"word,value\nfirst-day,{first}\n", encoding="ascii")
+    draw(folder, "--from", dates[0], "--dates", dates[1], *words)
+    said = run([desk.program, "tails", str(folder), *dates, *words, "--first-day", first])
+    lines = {f"{it.split(' ', 1)[1]}: {' '.join(flights)}" for it, flights in legs_by_aircraft(folder / "plan.html").items()}
+    assert lines == said_lines(said)
+    said = draw(folder, "--from", "2026-11-01", *words, status=9)
+    assert said == f"tools/draw: {folder}/settings.csv has first-day {first}, after --from 2026-11-01\n"
 
 
 @pytest.mark.parametrize("name", ["hub-day", "week", "season-day", "optional-flight"])
@@ -224,7 +240,7 @@ def test_no_flight(tmp_path: Path) -> None:
 def test_words(tmp_path: Path, words: List[str]) -> None:
     """Words that are no call have status 2 and the usage line."""
     call = words if not words else [*words, str(tmp_path)]
-    assert run([str(TREE / "tools" / "draw"), *call], 2).startswith("usage: tools/draw DIR")
+    assert run([str(TOP / "tools" / "draw"), *call], 2).startswith("usage: tools/draw DIR")
 
 
 def test_no_plan(tmp_path: Path) -> None:
@@ -288,9 +304,9 @@ def hindered(folder: Path, hindrance: str) -> "subprocess.CompletedProcess[str]"
     """Draws a folder by a Python in which something is done before."""
     first = f"import runpy, sys; sys.argv = sys.argv[1:]; sys.path.insert(0, 'tools'); {hindrance}"
     python = "/usr/bin/python3" if os.path.exists("/usr/bin/python3") else sys.executable
-    words = [python, "-c", f"{first}; runpy.run_path(sys.argv[0], run_name='__main__')", str(TREE / "tools" / "draw"), str(folder)]
+    words = [python, "-c", f"{first}; runpy.run_path(sys.argv[0], run_name='__main__')", str(TOP / "tools" / "draw"), str(folder)]
     pipe = subprocess.PIPE
-    return subprocess.run([*words, "--windows"], cwd=TREE, stdout=pipe, stderr=subprocess.STDOUT, check=False, universal_newlines=True)
+    return subprocess.run([*words, "--windows"], cwd=TOP, stdout=pipe, stderr=subprocess.STDOUT, check=False, universal_newlines=True)
 
 
 def test_without_jinja(tmp_path: Path) -> None:

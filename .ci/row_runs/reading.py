@@ -12,6 +12,7 @@ FILE = r"([\w-]+\.(?:csv|txt))"
 SET = re.compile(r"files ([\w-]+)")
 GIVEN = re.compile(rf"given {FILE}:(?: (.*))?")
 LACKS = re.compile(rf"lacks {FILE}")
+ANSWER, AS = re.compile(r"answer ([\w-]+)"), re.compile(r"as ([\w-]+)")
 SETS = re.compile(r"given ([\w/-]+(?:, [\w/-]+)*)")
 EACH = re.compile(rf"each {FILE}:")
 PRINTS = re.compile(r"prints:(?: (.*))?")
@@ -190,6 +191,14 @@ def with_number(paragraph: List[Line], name: str, number: int) -> List[Line]:
     return [Line(it.number, put_in(it.text, numbers), [put_in(line, numbers) for line in it.below]) for it in paragraph]
 
 
+def answered(line: Line, answers: Dict[str, List[Line]]) -> List[Line]:
+    """Returns the lines of the answer that a line names, or the line itself."""
+    named = AS.fullmatch(line.text)
+    if named and named[1] not in answers:
+        raise BadRows(f"{line.number}: there is no answer {named[1]}")
+    return answers[named[1]] if named else [line]
+
+
 class Reader:
     """The sets of files and the rows of all groups."""
 
@@ -202,7 +211,13 @@ class Reader:
         found = paragraphs(text)
         if not found:
             raise BadRows("there is nothing in it")
-        for paragraph in found:
+        answers: Dict[str, List[Line]] = {}
+        for lines in found:
+            answer = ANSWER.fullmatch(lines[0].text)
+            if answer:
+                answers[answer[1]] = lines[1:]
+                continue
+            paragraph = [it for line in lines for it in answered(line, answers)]
             name, loop = SET.fullmatch(paragraph[0].text), LOOP.fullmatch(paragraph[0].text)
             if name:
                 self.name_set(f"{group}/{name[1]}", paragraph)

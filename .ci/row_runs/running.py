@@ -1,11 +1,11 @@
 """Runs rows on a built program, and compares output, status, and all that stands then."""
 
 import os
-import subprocess
 import tempfile
 from pathlib import Path
 from typing import Dict, List, NamedTuple, Optional, Tuple
 
+from fleetplan.program import BESIDE, Runner, TooLate
 from row_runs.reading import Row, Step
 from row_runs.texts import Wanted
 
@@ -37,17 +37,9 @@ def standing(scratch: str) -> Dict[str, bytes]:
 
 def call(program: str, step: Step, scratch: str) -> Seen:
     """Makes a call in a folder."""
-    ran = subprocess.run(
-        step.words,
-        executable=program,
-        cwd=scratch,
-        env={"LANG": "C.UTF-8"},
-        stdin=subprocess.DEVNULL,
-        stdout=subprocess.PIPE,
-        stderr=subprocess.STDOUT,
-        timeout=SECONDS,
-    )
-    return Seen(ran.stdout, ran.returncode, standing(scratch))
+    name, *words = step.words
+    ran = Runner(name, SECONDS, executable=program, cwd=scratch, env={"LANG": "C.UTF-8"}, stderr=BESIDE).run(*words)
+    return Seen(ran.printed, ran.status, standing(scratch))
 
 
 def shown(text: bytes) -> str:
@@ -103,7 +95,7 @@ def try_row(program: str, row: Row) -> Optional[str]:
         first, faults = run_once(program, row)
         if row.is_twice and not faults and run_once(program, row)[0] != first:
             faults.append("a second run put or left something else")
-    except subprocess.TimeoutExpired:
+    except TooLate:
         faults = [f"it had not ended after {SECONDS} seconds"]
     except OSError as error:
         faults = [str(error)]

@@ -11,7 +11,7 @@ BYTES = {"n": b"\n", "r": b"\r", "t": b"\t", "\\": b"\\"}
 REPEAT = re.compile(r"repeat ((?:[a-z] \d+\.\.\d+(?:, )?)+): (.*)")
 RANGE = re.compile(r"([a-z]) (\d+)\.\.(\d+)")
 FILL = re.compile(r"fill to (\d+) with (.+)")
-PLACE = re.compile(r"\{([a-z])(:AA|[+-]\d+)?\}")
+PLACE = re.compile(r"\{([a-z])(:AA?|[+-]\d+)?\}")
 
 
 class BadText(ValueError):
@@ -50,7 +50,9 @@ def put_in(line: str, numbers: Dict[str, int]) -> str:
         name, how = place[1], place[2]
         if name not in numbers:
             return place[0]
-        return letters(numbers[name]) if how == ":AA" else str(numbers[name] + int(how or 0))
+        if how in (":A", ":AA"):
+            return letters(numbers[name])[2 - len(how[1:]) :]
+        return str(numbers[name] + int(how or 0))
 
     return PLACE.sub(number, line)
 

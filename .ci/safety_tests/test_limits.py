@@ -11,7 +11,7 @@ from pathlib import Path
 from typing import Dict, Iterable, List, Tuple
 
 import pytest
-from fleetplan.program import MOST_PRINTED
+from fleetplan.program import MOST_PRINTED, MOST_TOLD
 from fleetplan.proofs import counts_of
 from fleetplan.tables import MOST_BYTES
 from safety_tests.trying import TOP, call, stand_in
@@ -111,7 +111,7 @@ def test_long_proof(scratch: Path) -> None:
     assert "70" in (folder / "plan.html").read_text(encoding="utf-8")
 
 
-@pytest.mark.parametrize("size", [1 << 20, (1 << 20) - 3, (1 << 20) - 6, 5])
+@pytest.mark.parametrize("size", [1 << 20, 1 << 16, (1 << 16) - 3, (1 << 16) - 6, 5])
 def test_counts(size: int, scratch: Path) -> None:
     """Lines are counted by their beginnings, whatever part of the proof they stand in."""
     lines = [f"{'x' * size}split ", "split 1", "open nodes", "open pivots 3", "open nodes more", f"{'y' * size}open nodes"]
@@ -164,14 +164,15 @@ def test_schedule_files(name: str, command: str, scratch: Path) -> None:
     assert not (scratch / "new").exists()
 
 
-@pytest.mark.parametrize("script", ["yes", "head -c 3000000000 /dev/zero", "sh -c yes", "yes & sleep 1; kill $!"])
+@pytest.mark.parametrize("script", ["yes", "head -c 3000000000 /dev/zero", "sh -c yes", "yes & sleep 1; kill $!", "head -c 3000000000 /dev/zero >&2"])
 def test_endless_judgements(script: str, scratch: Path) -> None:
     """What the program prints of the plan as filed is cut, and nothing is written."""
     legs = [leg("ZZ", 1, "ZRH 0800 +0100 LHR 0950 +0000", "320"), leg("ZZ", 2, "LHR 1100 +0000 ZRH 1250 +0100", "320")]
     (scratch / "season").write_text(text_of_lines(whole("ZZ", legs)), encoding="ascii")
     program = stand_in(scratch / "program", script)
     ended = call(["ssim", "tables", "season", "day", "--date", "2026-11-30"], scratch, FLEETPLAN=str(program))
-    assert (ended.status, ended.told) == (7, [f"ssim: {program} judge prints more than 65536 bytes"])
+    much = f"tells more than {MOST_TOLD}" if ">&2" in script else "prints more than 65536"
+    assert (ended.status, ended.told) == (7, [f"ssim: {program} judge {much} bytes"])
     assert not (scratch / "day").exists()
 
 

@@ -3,21 +3,14 @@
 from __future__ import annotations
 
 import os
-import resource
-import subprocess
 import sys
 from pathlib import Path
-from typing import Any, List, NamedTuple, Optional, Sequence
+from typing import List, NamedTuple, Optional, Sequence
 
-from drawing.library import SYSTEM
+from fleetplan.program import Runner
 
 TOP = Path(__file__).resolve().parent.parent.parent
 MEGABYTES, SECONDS = 512, 5
-# Calls a tool, of which the program is another one.
-_WITH = (
-    "import runpy, sys; sys.path.insert(0, sys.argv.pop(1)); import fleetplan.program as it; it.PROGRAM = sys.argv.pop(1); "
-    "sys.argv.pop(0); runpy.run_path(sys.argv[0], run_name='__main__')"
-)
 
 
 class Ended(NamedTuple):
@@ -32,22 +25,10 @@ def call(words: Sequence[object], folder: Path, program: Optional[Path] = None, 
     """Calls a tool of the clone in a folder, within so much memory and five seconds of the processor. Each line that it prints has to be
     of letters that can be printed, and none of a traceback."""
     tool, *rest = map(str, words)
-    named = [str(TOP / "tools" / tool), *rest]
-    # tools/draw goes on in the system's Python where another one has no Jinja2, and a stand-in would be lost on the way.
-    command = [SYSTEM if program else sys.executable, "-B", *(["-c", _WITH, str(TOP / "tools"), str(program)] if program else []), *named]
-    where = {**os.environ, "LANG": "C.UTF-8", "FLEETPLAN_HINTS": "0", **names}
+    where = {**os.environ, "LANG": "C.UTF-8", "FLEETPLAN_HINTS": "0", "FLEETPLAN": str(program or os.devnull), **names}
     where.pop("PYTHONPATH", None)
-    ran: "subprocess.CompletedProcess[bytes]" = subprocess.run(command, cwd=folder, env=where, check=False, **_pipes(megabytes))
-    said, told = (_lines(it) for it in (ran.stdout, ran.stderr))
-    return Ended(ran.returncode, said, told)
-
-
-def _pipes(megabytes: int) -> Any:
-    def limit() -> None:
-        resource.setrlimit(resource.RLIMIT_AS, (megabytes << 20, megabytes << 20))
-        resource.setrlimit(resource.RLIMIT_CPU, (SECONDS, SECONDS))
-
-    return {"stdin": subprocess.DEVNULL, "stdout": subprocess.PIPE, "stderr": subprocess.PIPE, "preexec_fn": limit, "timeout": 45}
+    ran = Runner(sys.executable, 45, memory=megabytes, processor=SECONDS, cwd=folder, env=where).run("-B", TOP / "tools" / tool, *rest)
+    return Ended(ran.status, _lines(ran.printed), _lines(ran.told))
 
 
 def _lines(data: bytes) -> List[str]:

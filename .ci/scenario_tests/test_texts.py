@@ -3,8 +3,6 @@ bench/scenarios tries those, by hand."""
 
 from __future__ import annotations
 
-import contextlib
-import io
 import os
 import shutil
 from pathlib import Path
@@ -13,6 +11,7 @@ from typing import Dict, Iterable, List, Mapping, Tuple
 import pytest
 from fleetplan.errors import Unread
 from fleetplan.words import Call
+from scenario_tests.laid import summed as sum_up
 from scenario_tests.rows import ASKED, ASKED_TEXT, CHANGES, CHECKED, FLAGS, HEADER, OUTCOMES, PERIODS, PLAIN, REFUSED, SOLVED, TABLES
 from scenario_tests.rows import UNREAD, ended
 from steps.laying import changed
@@ -21,7 +20,6 @@ from steps.solving import read_json, solve, sums_of, write_json
 from steps.page import alike
 from steps.rows import Row
 from steps.running import Limits
-from steps.summary import summarize
 
 TOP = Path(__file__).resolve().parent.parent.parent
 LIMITS = Limits(100, 1)
@@ -180,10 +178,4 @@ def test_charts(costs: Tuple[int, ...]) -> None:
 def summed(folder: Path, names: Iterable[str]) -> Tuple[bool, str]:
     """Sums up scenarios of a folder, each compared with the first, and returns whether all is well, and what is told."""
     lay(folder, {"scenarios.csv": "".join(f"{it}\n" for it in ["scenario,words,folder,changes", *(f"{name},,," for name in names)])})
-    said, before = io.StringIO(), Path.cwd()
-    os.chdir(folder)
-    try:
-        with contextlib.redirect_stderr(said):
-            return summarize(scenarios_of("scenarios.csv"), "scenarios"), said.getvalue()
-    finally:
-        os.chdir(before)
+    return sum_up(folder)

@@ -6,13 +6,13 @@ from __future__ import annotations
 import os
 import random
 import re
-import subprocess
 from collections import Counter
 from typing import List, Sequence, Set, Tuple
 
 from pathlib import Path
 
 import pytest
+from fleetplan.program import BESIDE, Runner
 from schedule_lines import leg, segment, text, whole
 from ssim_tests.test_shifts import Drawn, times_by
 from ssim_tests.trying import Standing, call, standing
@@ -140,11 +140,9 @@ class Hostile:
         if tables in self.known:
             return
         self.known.add(tables)
-        words = [os.environ["FLEETPLAN"], "judge", str(self.folder / "day"), *period]
-        ran = subprocess.run(words, stdin=subprocess.DEVNULL, stdout=subprocess.PIPE, stderr=subprocess.STDOUT, check=False)
-        said = ran.stdout.decode("utf-8", "replace")
-        if ran.returncode not in (0, 9) or said.startswith("plan refused"):
-            self.wrong.append(f"run {number}: judge has status {ran.returncode}: {said}")
+        ran = Runner(stderr=BESIDE).run("judge", self.folder / "day", *period)
+        if ran.status not in (0, 9) or ran.text.startswith("plan refused"):
+            self.wrong.append(f"run {number}: judge has status {ran.status}: {ran.text}")
 
 
 @pytest.mark.usefixtures("program")

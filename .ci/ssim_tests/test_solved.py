@@ -3,14 +3,13 @@ that plan."""
 
 from __future__ import annotations
 
-import os
 import re
-import subprocess
 from typing import List, Optional, Sequence, Tuple
 
 from pathlib import Path
 
 import pytest
+from fleetplan.program import Runner
 from ssim_tests.test_plans import DATE
 from ssim_tests.test_shifts import times_by
 from ssim_tests.trying import EXAMPLE, call, records
@@ -22,8 +21,8 @@ OPTIONAL = "flight,skip\nZZ324,0\nZZ325,0\nZZ91,1000000\n"
 
 def run(*words: object) -> Tuple[int, List[str]]:
     """Returns the program's status, and what it printed in lines."""
-    ran = subprocess.run([os.environ["FLEETPLAN"], *map(str, words)], stdin=subprocess.DEVNULL, stdout=subprocess.PIPE, check=False)
-    return ran.returncode, ran.stdout.decode().splitlines()
+    ran = Runner().run(*words)
+    return ran.status, ran.text.splitlines()
 
 
 class Plan:

@@ -1,6 +1,6 @@
 //! `solve` and `check` of a folder, with the words that bench's scripts give them, by the crates as `rustc` compiles them.
 //!
-//! `solve` writes plan.csv and proof.txt, and prints the first five lines of a summary. By `--search free` the free search is asked,
+//! `solve` writes plan.csv and proof.txt, and prints a summary as JSON, without fleets and rotations. By `--search free` the free search is asked,
 //! and where the judge of its tree says none, or without that word, the fixed one.
 
 use bound_cert::{read_proof, write_proof};
@@ -28,12 +28,13 @@ struct Words {
 
 fn words() -> Words {
     let given: Vec<String> = std::env::args().skip(1).flat_map(|word| word.split('=').map(String::from).collect::<Vec<_>>()).collect();
+    let folder = given.iter().position(|word| word == "--").map_or(1, |place| place + 1);
     let after = |name: &str| given.iter().position(|word| word == name).and_then(|place| given.get(place + 1));
     let number = |name: &str, other: u64| after(name).map_or(other, |word| word.parse().unwrap());
     let clock = after("--day-start").map_or("03:00", |word| word);
     Words {
         command: given[0].clone(),
-        folder: given[1].clone(),
+        folder: given[folder].clone(),
         day_start: clock[..2].parse::<u16>().unwrap() * 60 + clock[3..].parse::<u16>().unwrap(),
         period: number("--period", 1) as u16,
         windows: given.iter().any(|word| word == "--windows"),
@@ -60,7 +61,7 @@ fn tables(words: &Words) -> Tables {
         windows: &files[5],
         optional: &files[6],
     };
-    let settings = Settings { day_start: words.day_start, through_max: 90, period: words.period };
+    let settings = Settings { day_start: words.day_start, through_max: 90, period: words.period, least_night: 0 };
     let options = TableOptions { settings, windows: words.windows, optional: words.optional };
     match sched_read::load_files(Global, &texts, options) {
         Ok(tables) => tables,
@@ -79,7 +80,9 @@ fn free(tables: &Tables, words: &Words) -> Option<Solved> {
 fn solve(words: &Words) -> i32 {
     let tables = tables(words);
     let found = if words.free { free(&tables, words) } else { None };
-    let told = if words.free && found.is_none() { " by the fixed search" } else { "" };
+    if words.free && found.is_none() {
+        eprintln!("by the fixed search");
+    }
     let solved = found.unwrap_or_else(|| branch_bound::solve::<DualSimplex>(Global, &tables, words.nodes, words.pivots).unwrap());
     let proof = write_proof(Global, &tables, matches!(solved, Solved::Planned { .. }), solved.tree()).unwrap();
     fs::write(format!("{}/proof.txt", words.folder), proof.as_slice()).unwrap();
@@ -88,14 +91,15 @@ fn solve(words: &Words) -> i32 {
             let plan = write_plan(Global, &tables, assignment).unwrap();
             fs::write(format!("{}/plan.csv", words.folder), plan.as_slice()).unwrap();
             let (outcome, status) = if cost == bound { ("optimal", 0) } else { ("gap", 3) };
-            (outcome, cost.to_string(), bound.to_string(), status)
+            (outcome, format!("\"{cost}\""), format!("\"{bound}\""), status)
         }
-        Solved::Infeasible { .. } => ("infeasible", "-".into(), "-".into(), 4),
-        Solved::Unsettled { bound, .. } => ("unsettled", "-".into(), bound.to_string(), 5),
+        Solved::Infeasible { .. } => ("infeasible", "null".into(), "null".into(), 4),
+        Solved::Unsettled { bound, .. } => ("unsettled", "null".into(), format!("\"{bound}\""), 5),
     };
     let counts = solved.tree().counts();
-    println!("outcome: {outcome}\ncost: {cost}\nbound: {bound}\nsplits: {}", counts.splits);
-    println!("open: {} nodes, {} pivots, {} grew{told}", counts.open_nodes, counts.open_pivots, counts.open_grew);
+    let open = format!(r#"{{"nodes":{},"pivots":{},"grew":{}}}"#, counts.open_nodes, counts.open_pivots, counts.open_grew);
+    let rest = format!(r#""splits":{},"open":{open},"fleets":[],"rotations":[]"#, counts.splits);
+    println!(r#"{{"outcome":"{outcome}","cost":{cost},"bound":{bound},{rest}}}"#);
     status
 }
 
@@ -107,9 +111,9 @@ fn check(words: &Words) -> i32 {
         let plan = read_plan(Global, &tables, &read(words, "plan.csv")).unwrap();
         match judge(&tables, &plan) {
             Verdict::Legal { cost: legal } => cost = Some(legal),
-            verdict => {
-                println!("{verdict:?}");
-                return 1;
+            _ => {
+                println!("the plan isn't legal");
+                return 9;
             }
         }
     }
@@ -117,7 +121,10 @@ fn check(words: &Words) -> i32 {
         (Checked::Holds { bound: Some(bound) }, Some(cost)) => println!("holds: cost {cost} bound {bound}"),
         (Checked::Holds { bound: Some(bound) }, None) => println!("holds: bound {bound}"),
         (Checked::Holds { bound: None }, _) => println!("holds: infeasible"),
-        (broken, _) => println!("{broken:?}"),
+        _ => {
+            println!("the proof doesn't hold");
+            return 9;
+        }
     }
     0
 }

@@ -3,15 +3,14 @@ flies what on dates."""
 
 from __future__ import annotations
 
-import io
+import datetime
 import os
-import re
-import subprocess
 from dataclasses import dataclass
-from typing import Dict, List, Optional, Sequence, Tuple
+from typing import Callable, Mapping, Optional, TypeVar
 
-from fleetplan.errors import FAULT, REFUSED, UNREADABLE, Unread
-from fleetplan.program import PROGRAM, answer, held
+from fleetplan.calls import Roster, check, due, judge, tails, whatif
+from fleetplan.errors import FAULT, REFUSED, UNREADABLE, Answered, Unread, Unrun
+from fleetplan.program import Runner
 from fleetplan.proofs import counts_of
 from fleetplan.tables import TABLE
 
@@ -20,6 +19,7 @@ SECONDS = 20
 # The status of `due` where aircraft can't all come to maintenance by their dates.
 LATE = 10
 MOST_FLEETS = TABLE["fleets.csv"].most
+Found = TypeVar("Found")
 
 
 @dataclass(frozen=True)
@@ -31,34 +31,26 @@ class Proof:
     opened: str
 
 
-@dataclass
-class Lines:
-    """Who flies what: of each aircraft its flights on each date, in the order of the answer; and of each fleet without lines why."""
-
-    flights: Dict[str, List[List[str]]]
-    causes: Dict[str, str]
-
-
 class Asker:
-    """Asks the program about a folder. `reading` are the words by which the tables are read, and `routing` those by which tours are
+    """Asks the program about a folder. `reading` are the options by which the tables are read, and `routing` those by which tours are
     made."""
 
-    def __init__(self, folder: str, reading: Sequence[str], routing: Sequence[str]) -> None:
+    def __init__(self, folder: str, reading: Mapping[str, object], routing: Mapping[str, object]) -> None:
         self.folder, self.reading, self.routing = folder, reading, routing
+        self.runner = Runner(seconds=SECONDS)
 
     @property
     def is_there(self) -> bool:
         """Whether there is a program to ask."""
-        return os.access(PROGRAM, os.X_OK)
+        return os.access(self.runner.program, os.X_OK)
 
-    def ask(self, command: str, *more: str) -> Tuple[int, str]:
-        """Returns the status of a call, and what it printed. Raises Unread where it can't be run or doesn't end."""
-        routing = self.routing if command in ("tails", "due") else []
+    def ask(self, call: Callable[..., Found], *more: object, **options: object) -> Found:
+        """Returns what a call answers, or raises what it does. Raises Unread where the program can't be run or doesn't end."""
         try:
-            status, said = answer([command, *self.reading, *routing, "--", self.folder, *more], SECONDS)
-        except (OSError, subprocess.SubprocessError) as error:
-            raise Unread(f"{PROGRAM} {command} can't be asked: {error}", FAULT) from error
-        return status, said.decode("utf-8", "replace")
+            return call(self.folder, *more, runner=self.runner, **self.reading, **options)
+        except Unrun as fault:
+            why = fault.__cause__ if isinstance(fault.__cause__, OSError) else f"it {fault.__cause__}"
+            raise Unread(f"{self.runner.program} {call.__name__} can't be asked: {why}", FAULT) from fault
 
     def has(self, name: str) -> bool:
         """Returns whether a file stands in the folder."""
@@ -69,44 +61,42 @@ class Asker:
         if not self.is_there or not self.has("proof.txt"):
             return None
         try:
-            found = held(self.folder, self.reading, SECONDS)
-            if not found or found[0] is None:
-                return None
+            found = self.ask(check)
             counts = counts_of(os.path.join(self.folder, "proof.txt"))
-        except (OSError, subprocess.SubprocessError):
+        except (Answered, Unread, OSError):
             return None
-        opened = f"{counts['nodes']} nodes, {counts['pivots']} pivots, {counts['grew']} grew"
-        return Proof(found[1], counts["splits"], opened)
+        if found.cost is None or found.bound is None:
+            return None
+        return Proof(found.bound, counts["splits"], f"{counts['nodes']} nodes, {counts['pivots']} pivots, {counts['grew']} grew")
 
     def verdict(self) -> Optional[str]:
         """Returns why the plan isn't legal, as the program tells it, or None where it is, or where there is no program."""
-        if not self.is_there:
-            return None
-        status, said = self.ask("judge")
-        return said.strip() if status == REFUSED else None
+        try:
+            if self.is_there:
+                self.ask(judge)
+        except Answered as other:
+            return str(other) if other.status == REFUSED else None
+        return None
 
     def bound_with(self, fleet: str, count: int) -> Optional[str]:
         """Returns the bound with another number of aircraft, or `infeasible`; or None where the proof says nothing of it."""
-        status, said = self.ask("whatif", fleet, str(count))
-        found = re.fullmatch(r"whatif \w+ \d+: (?:bound (-?\d+)|(infeasible))\n", said)
-        return found[1] or found[2] if found and status == 0 else None
+        try:
+            found = self.ask(whatif, fleet, count)
+        except Answered:
+            return None
+        return "infeasible" if found.is_infeasible else str(found.bound)
 
-    def lines(self, command: str, first: str, dates: int) -> Lines:
+    def lines(self, command: str, first: datetime.date, dates: int) -> Roster:
         """Returns what `tails` or `due` says of so many dates, or raises Unread where it refuses."""
         if not self.is_there:
             raise Unread("who flies what on dates is asked of the program, which isn't built: ./fleetplan builds it", FAULT)
-        status, said = self.ask(command, first, str(dates))
-        if status not in (0, LATE):
-            kept = status if status in (UNREADABLE, REFUSED) else FAULT
-            raise Unread(f"{command} ended with status {status}: {said.strip() or 'it said nothing'}", kept)
-        found = Lines({}, {})
-        for line in io.StringIO(said):
-            name, _, rest = line.rstrip("\n").partition(": ")
-            date = re.fullmatch(r"\d{4}-\d\d-\d\d (\S+)", name)
-            if date:
-                found.flights.setdefault(date[1], []).append([] if rest == "-" else rest.split())
-            else:
-                found.causes[name] = rest
-                if len(found.causes) > MOST_FLEETS:
-                    raise Unread(f"{command} tells of more fleets than there may be", FAULT)
+        try:
+            found = self.ask(tails if command == "tails" else due, first, dates, **self.routing)
+        except Answered as other:
+            if other.status != LATE:
+                kept = other.status if other.status in (UNREADABLE, REFUSED) else FAULT
+                raise Unread(f"{command} ended with status {other.status}: {str(other) or 'it said nothing'}", kept) from other
+            found = Roster(str(other))
+        if len(found.causes) > MOST_FLEETS:
+            raise Unread(f"{command} tells of more fleets than there may be", FAULT)
         return found

@@ -57,7 +57,8 @@ class Text:
 
 @dataclass(frozen=True)
 class Shape:
-    """A part of a row from a minute to another one, in hundredths of the row's width, and of a night the station."""
+    """A part of a row from a minute to another one, in hundredths of the row's width, and of a night the station, with its minutes where
+    it is too short for maintenance there."""
 
     kind: str
     x: float
@@ -65,6 +66,7 @@ class Shape:
     title: str = ""
     text: str = ""
     station: str = ""
+    stay: Optional[int] = None
 
 
 @dataclass
@@ -151,10 +153,10 @@ Told = Callable[[Departure, Row], Tuple[str, str, str]]
 
 
 class Drawer:
-    """Draws the rows of a fleet, so many pixels wide."""
+    """Draws the rows of a fleet, so many pixels wide. A stay whose nights are for maintenance lasts `least_night` minutes at least."""
 
-    def __init__(self, calendar: Calendar, maintains: Dict[str, bool], told: Told, pixels: int = WIDTH) -> None:
-        self.calendar, self.maintains, self.told, self.pixels = calendar, maintains, told, pixels
+    def __init__(self, calendar: Calendar, maintains: Dict[str, bool], least_night: int, told: Told, pixels: int = WIDTH) -> None:
+        self.calendar, self.maintains, self.least_night, self.told, self.pixels = calendar, maintains, least_night, told, pixels
 
     def chart(self, title: str, rows: Sequence[Row], minutes: int, ties: Sequence[Tuple[str, str]] = ()) -> Chart:
         """Returns the chart of rows of so many minutes."""
@@ -203,18 +205,23 @@ class Drawer:
         night = self.is_night(it, row)
         if not night:
             return [shape("ground", span, scale, f"on the ground at {it.station}")]
-        kind = "maintained" if self.maintains[it.station] else "night"
-        title = f"at {it.station} for the night{', where it can be maintained' if kind == 'maintained' else ''}"
-        text = next((text for text in self.night_texts(it.station) if fits(text, SMALL, span, scale)), "")
-        return [replace(shape(kind, span, scale, title, text), station=it.station)]
+        kind, more, why = self.night_words(it)
+        long = f"{it.station} {more}" if more else it.station
+        text = next((text for text in (long, it.station) if fits(text, SMALL, span, scale)), "")
+        drawn = shape(kind, span, scale, f"at {it.station} for the night{why}", text)
+        return [replace(drawn, station=it.station, stay=it.stay if kind == "night short" else None)]
 
     def is_night(self, it: Ground, row: Row) -> bool:
         """Returns whether a day start passes: also that with which the row begins, where the flight before is out of sight."""
         return it.nights > 0 or (it.before is None and it.first == 0 and row.window.clip(0, 1) is not None)
 
-    def night_texts(self, station: str) -> List[str]:
-        """Returns what may stand at a night, the longest first."""
-        return [f"{station} maint.", station] if self.maintains[station] else [station]
+    def night_words(self, it: Ground) -> Tuple[str, str, str]:
+        """Returns the kind of a night, what may stand behind its station, and what is said of it below the pointer."""
+        if not self.maintains[it.station]:
+            return "night", "", ""
+        if it.is_short(self.least_night):
+            return "night short", f"{it.stay} min", f", too short to be maintained: {it.stay} minutes"
+        return "maintained", "maint.", ", where it can be maintained"
 
     def outline(self, bar: Bar, row: Row, scale: Scale) -> List[Shape]:
         """Returns the outline of a moved flight at its own time."""

@@ -66,6 +66,15 @@ class Ground:
         """How many day starts pass."""
         return self.last // DAY - self.first // DAY
 
+    @property
+    def stay(self) -> Optional[int]:
+        """The minutes from the arrival before it to the departure behind it, or None where one of them isn't known."""
+        return self.after.departs - self.before.lands if self.before and self.after else None
+
+    def is_short(self, least: int) -> bool:
+        """Returns whether a night of it is too short for maintenance, which takes a stay of so many minutes at least."""
+        return self.stay is not None and self.stay < least
+
 
 @dataclass
 class Window:
@@ -116,10 +125,10 @@ def unrolled(tour: Sequence[Departure], round_minutes: int, end: int) -> Chain:
     return Chain([it.later(turn * round_minutes) for turn in range(first, last + 1) for it in tour])
 
 
-def nights(seen: Window) -> Iterator[Optional[str]]:
-    """Yields where the aircraft is at each day start that ends a day of the window: a station, or None aloft or in a turn."""
+def nights(seen: Window) -> Iterator[Optional[Ground]]:
+    """Yields where the aircraft is at each day start that ends a day of the window: on the ground, or None aloft or in a turn."""
     for minute in range(DAY, seen.minutes + 1, DAY):
-        stands = (it.station for it in seen.grounds if it.first < minute <= it.last)
+        stands = (it for it in seen.grounds if it.first < minute <= it.last)
         yield next(stands, None)
 
 

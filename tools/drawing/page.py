@@ -70,7 +70,7 @@ class Pages:
         self.plan = plan
         self.palette = colours.Palette(plan.schedule.aircraft)
         self.teller = Teller(plan, self.palette)
-        self.drawer = Drawer(plan.calendar, plan.schedule.maintains, self.teller.told, pixels)
+        self.drawer = Drawer(plan.calendar, plan.schedule.maintains, plan.least_night, self.teller.told, pixels)
         self.env = environment()
         self.env.globals.update(
             plan=plan,
@@ -105,6 +105,7 @@ class Pages:
             drawn=drawn,
             left_out=left_out,
             kinds={kind for bar in bars for kind in bar.kinds.split()},
+            has_short=any("short" in shape.kind for it in drawn for lane in it.chart.lanes for shape in lane.shapes),
             legs=legs,
             out=out,
             idle=[it for fleet in plan.fleets for it in fleet.idle()],

@@ -2,19 +2,21 @@
 
 from __future__ import annotations
 
+import copy
 import datetime
 import os
-from dataclasses import dataclass, field
+from dataclasses import dataclass, field, replace
 from typing import Dict, List, NoReturn, Optional, Sequence, Tuple
 
-from drawing.asking import Asker, Lines, Proof
+from drawing.asking import Asker, Proof
 from drawing.calendars import Calendar
 from drawing.compared import Change, Comparison
-from drawing.flights import Chain, Window, nights, unrolled, waits, window
+from drawing.flights import Chain, Ground, Window, nights, unrolled, waits, window
 from drawing.lanes import lanes_of
-from drawing.rotations import Rotation, rotations_of, tour_of
+from drawing.rotations import Rotation, laid, rotations_of, tour_of
 from drawing.zones import zones_of
 from fleetplan import schedule
+from fleetplan.calls import Roster
 from fleetplan.errors import FAULT, Unread
 from fleetplan.records import rows_of
 from fleetplan.rotations import refuse
@@ -77,13 +79,22 @@ class Fleet:
         still = [row for row in self.rows if not list(row.window.departing())]
         return [(row.name, row.window.grounds[-1].station) for row in still if row.window.grounds]
 
-    def nights(self) -> List[Optional[str]]:
-        """Returns where its aircraft pass the nights of the chart: at stations, or aloft (None)."""
+    def nights(self) -> List[Optional[Ground]]:
+        """Returns where its aircraft pass the nights of the chart: on the ground, or aloft (None)."""
         return [it for row in self.rows for it in nights(row.window)]
 
     def waits(self) -> List[int]:
         """Returns the minutes beyond the needed turns, between two flights of one day."""
         return [it for row in self.rows for it in waits(row.window)]
+
+
+def begun_later(schedule: Schedule, days: int) -> Schedule:
+    """Returns the same schedule with its minutes counted from a day so many days later, round the period."""
+    later = copy.copy(schedule)
+    later.legs = {flight: copy.copy(leg) for flight, leg in schedule.legs.items()}
+    for leg in later.legs.values():
+        leg.departure = (leg.departure - DAY * days) % schedule.minutes
+    return later
 
 
 @dataclass(frozen=True)
@@ -98,6 +109,9 @@ class Wanted:
     dates: Optional[int] = None
     against: Optional[str] = None
     has_sizes: bool = False
+    least_night: Optional[int] = None
+    # How many days the first date lies behind day 1 of the period.
+    passed: int = 0
 
 
 class Plan:
@@ -120,9 +134,10 @@ class Plan:
             raise Unread(f"{len(self.choice)} flights on {self.days} dates are too many to draw: give fewer --dates", TOO_MUCH)
         self.calendar = Calendar(wanted.day_start, wanted.period, self.days, wanted.first)
         self.zones = zones_of(wanted.folder)
-        self.rotations = rotations_of(self.schedule, self.choice)
-        self.fleets = self.fleets_drawn()
+        self.rotations, self.least_night = rotations_of(self.schedule, self.choice, wanted.least_night)
         self.comparison = Comparison(wanted.against, self.schedule, self.choice) if wanted.against else None
+        self.schedule = begun_later(self.schedule, wanted.passed)
+        self.fleets = self.fleets_drawn()
         self.proof: Optional[Proof] = asker.proof()
         self.verdict: Optional[str] = None if self.proof else asker.verdict()
 
@@ -137,6 +152,10 @@ class Plan:
     def cost(self) -> int:
         """What the plan costs in a period."""
         return sum(self.schedule.cost[it] for it in self.choice.items())
+
+    def is_maintained(self, ground: Ground) -> bool:
+        """Returns whether nights on the ground are for maintenance."""
+        return self.schedule.maintains[ground.station] and not ground.is_short(self.least_night)
 
     @property
     def left_out(self) -> List[str]:
@@ -192,7 +211,7 @@ class Plan:
             return
         chain = unrolled(rotation.tour, rotation.days * DAY, rotation.days * DAY)
         for day in range(rotation.days):
-            name = f"day {day % period + 1}" if period > 1 else f"day {day + 1}"
+            name = f"day {(day + self.wanted.passed) % period + 1}" if period > 1 else f"day {day + 1}"
             below = f"{fleet.name}/{day // period + 1}" if period > 1 else ""
             fleet.by_day.append(Row(name, below, window(chain, day * DAY, DAY), day % period * DAY))
 
@@ -210,17 +229,16 @@ class Plan:
                 if row.window.flights:
                     fleet.by_day.append(row)
 
-    def dated_lines(self) -> Optional[Tuple[Lines, Optional[Lines]]]:
+    def dated_lines(self) -> Optional[Tuple[Roster, Optional[Roster]]]:
         """Returns what `tails` says of the dates that are asked for, and `due` where there is tails.csv."""
         if self.wanted.first is None:
             return None
         tours = [it.days for it in self.rotations.values()]
         dates = min(MOST_DATES, max([self.days, self.wanted.period, *tours]))
-        first = self.wanted.first.isoformat()
-        tails = self.asker.lines("tails", first, dates)
-        return tails, self.asker.lines("due", first, dates) if self.asker.has("tails.csv") else None
+        tails = self.asker.lines("tails", self.wanted.first, dates)
+        return tails, self.asker.lines("due", self.wanted.first, dates) if self.asker.has("tails.csv") else None
 
-    def lay_dates(self, fleet: Fleet, tails: Lines, due: Optional[Lines]) -> None:
+    def lay_dates(self, fleet: Fleet, tails: Roster, due: Optional[Roster]) -> None:
         """Gives a fleet a row for each aircraft, as `tails` or `due` tells who flies what; or the cause why there is none."""
         lines = {name: it for name, it in tails.flights.items() if name.rpartition("/")[0] == fleet.name}
         if not lines:
@@ -229,8 +247,7 @@ class Plan:
             fleet.words = tails.causes.get(fleet.name)
             return
         rotation = self.tour_by(fleet, list(lines.values()))
-        if fleet.rotation is None:
-            fleet.rotation, fleet.words = rotation, rotation.words
+        fleet.rotation, fleet.words = rotation, fleet.words or rotation.words
         self.lay_days(fleet, rotation)
         named, below = {name: name for name in lines}, {}
         if due is not None:
@@ -245,26 +262,27 @@ class Plan:
     def nights_left(self, fleet: str) -> Dict[str, str]:
         """Returns the aircraft of a fleet in the order of tails.csv, and what stands below the name of each."""
         rows = rows_of(self.folder, "tails.csv")
-        return {tail: f"{counted(int(left), 'night')} left" for tail, kind, left in rows if kind == fleet}
+        return {tail: f"{counted(int(left), 'night')} left" for tail, kind, left, *_ in rows if kind == fleet}
 
     def tour_by(self, fleet: Fleet, lines: List[List[List[str]]]) -> Rotation:
         """Returns the tour whose lines `tails` tells, and refuses one that rotation.csv doesn't have."""
         period = self.wanted.period
         names = [flight for line in lines for flights in line[:period] for flight in flights]
         found = fleet.rotation
-        if found and [it.leg.flight for it in found.tour] != names:
+        if not found:
+            return tour_of(self.schedule, fleet.name, names, len(lines) * period)
+        own = [it.leg.flight for it in found.tour]
+        if own != names and not (self.wanted.passed and any(own[at:] + own[:at] == names for at in range(len(own)))):
             self.refuse_tour(fleet)
-        if found and found.tour:
-            return found
-        return tour_of(self.schedule, fleet.name, names, len(lines) * period)
+        return replace(found, tour=laid(self.schedule, fleet.name, names))
 
     def refuse_tour(self, fleet: Fleet) -> NoReturn:
         """Refuses dates whose tours aren't those of rotation.csv."""
         path = os.path.join(self.folder, "rotation.csv")
-        refuse(path, f"has another tour of {fleet.name} than tails: give --days, --visits and --through-max of solve")
+        refuse(path, f"has another tour of {fleet.name} than tails: give --days, --least-night, --visits and --through-max of solve")
 
     @staticmethod
-    def starts(tails: Sequence[str], lines: Dict[str, List[List[str]]], due: Lines) -> Dict[str, str]:
+    def starts(tails: Sequence[str], lines: Dict[str, List[List[str]]], due: Roster) -> Dict[str, str]:
         """Returns of each named aircraft the line of `tails` that it begins with. Lines that are equal on all dates take their turns."""
         free = dict(lines)
         found = {}

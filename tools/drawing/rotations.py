@@ -4,7 +4,7 @@ from __future__ import annotations
 
 import os
 from dataclasses import dataclass, field
-from typing import Dict, List, Tuple
+from typing import Dict, List, Optional, Tuple
 
 from drawing.flights import Departure
 from fleetplan import rotations
@@ -24,15 +24,20 @@ class Rotation:
     ties: List[Tuple[str, str]] = field(default_factory=list)
 
 
-def rotations_of(schedule: Schedule, plan: Plan) -> Dict[str, Rotation]:
-    """Returns what rotation.csv says of each fleet, or nothing where there is none. Raises Unread where it isn't of this plan."""
-    if not os.path.lexists(os.path.join(schedule.folder, "rotation.csv")):
-        return {}
+def rotations_of(schedule: Schedule, plan: Plan, given: Optional[int]) -> Tuple[Dict[str, Rotation], int]:
+    """Returns what rotation.csv says of each fleet, nothing where there is none, and how many minutes a stay lasts whose nights are for
+    maintenance: the given ones, or else the least by rotation.csv. Raises Unread where that isn't of this plan, or isn't by the given ones."""
+    path = os.path.join(schedule.folder, "rotation.csv")
+    if not os.path.lexists(path):
+        return {}, given or 0
+    read = rotations.rotations_of(schedule, plan)
+    if given is not None and not rotations.is_by_least_night(read, given):
+        rotations.refuse(path, f"isn't by nights of {given} minutes: give the --least-night of solve")
     found = {}
-    for it in rotations.rotations_of(schedule, plan):
+    for it in read:
         tour = laid(schedule, it.fleet, [flown.leg.flight for flown in it.tour])
         found[it.fleet] = Rotation(it.fleet, it.words, it.days, tour, it.keeps, it.pairs if tour and it.keeps else [])
-    return found
+    return found, rotations.least_night_of(read) if given is None else given
 
 
 def tour_of(schedule: Schedule, fleet: str, flights: List[str], days: int) -> Rotation:

@@ -7,7 +7,7 @@ from typing import Dict, List, Optional, Tuple
 
 from drawing.calendars import Calendar
 from drawing.colours import Palette
-from drawing.flights import Departure
+from drawing.flights import Departure, Ground
 from drawing.plans import Plan, Row
 from drawing.zones import local_times
 from fleetplan.tables import NO_FLEET
@@ -179,8 +179,9 @@ def nights_of(plan: Plan, flown: Departure, after: Optional[Departure]) -> str:
     aloft, parked = flown.ready // DAY - flown.departs // DAY, last // DAY - flown.ready // DAY
     told = [f"{nights_in_words(aloft)} aloft or in its turn"] if aloft else []
     if parked:
-        maintains = plan.schedule.maintains[flown.leg.end]
-        told.append(f"{nights_in_words(parked)} at {flown.leg.end}{', maintenance' if maintains else ''}")
+        ground = Ground(flown.leg.end, flown.ready, last, flown, after)
+        short = f", short: {ground.stay} min" if ground.is_short(plan.least_night) else ", maintenance"
+        told.append(f"{nights_in_words(parked)} at {flown.leg.end}{short if plan.schedule.maintains[flown.leg.end] else ''}")
     return "; ".join(told)
 
 

@@ -3,7 +3,7 @@
 from __future__ import annotations
 
 import re
-from typing import Optional
+from typing import Callable, Optional
 
 # The statuses with which the program tells it: a file that doesn't read, one that can't be read or written, and files that don't
 # belong together.
@@ -42,16 +42,21 @@ class Answered(Exception):
     """An answer of the program other than the one that was asked for.
 
     Its text is what the program printed. `status` is its own. `file`, `record` (or the line of a proof, or the node of its tree) and `kind`
-    (or the rule that is broken) are None where the text doesn't tell them. `hint` is what helps, in lines, empty where nothing is known."""
+    (or the rule that is broken) are None where the text doesn't tell them."""
 
-    def __init__(self, text: str, status: int, hint: str = "") -> None:
+    def __init__(self, text: str, status: int, find_hint: Callable[[], str] = str) -> None:
         super().__init__(text)
-        self.status, self.hint = status, hint
+        self.status, self._find_hint = status, find_hint
         found = _PLACE.fullmatch(text.strip())
         name = found and (found["file"] or found["lost"] or {"plan": "plan.csv", "proof": "proof.txt"}.get(found["of"] or ""))
         self.file: Optional[str] = name or None
         self.record: Optional[int] = int(found["record"]) if found and found["record"] else None
         self.kind: Optional[int] = int(found["kind"]) if found and found["kind"] else None
+
+    @property
+    def hint(self) -> str:
+        """What helps, in lines, empty where nothing is known."""
+        return self._find_hint()
 
 
 class Refused(Answered):
@@ -60,6 +65,10 @@ class Refused(Answered):
 
 class Fault(Answered):
     """A file that can't be read or written (status 7), memory that ran out (8), or a program that couldn't be run or gave no answer."""
+
+
+class Unrun(Fault):
+    """A program that couldn't be run, or was ended since it took or printed too much. What it was is the cause."""
 
 
 class Broken(Answered):

@@ -150,6 +150,12 @@ def name(text: str) -> Optional[str]:
     return oddity(text) or case(text, r"[A-Za-z0-9]{1,8}") or f"a name is 1 to 8 letters A to Z and digits{better}"
 
 
+def place(text: str) -> Optional[str]:
+    """Says what is wrong with where an aircraft is, or returns None."""
+    wrong = name(text) if text else None
+    return f"{wrong}; it is where the aircraft is: a station, a flight, or nothing" if wrong else None
+
+
 def time(text: str) -> Optional[str]:
     """Says what is wrong with a time, or returns None."""
     form = Time()

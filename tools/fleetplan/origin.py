@@ -8,6 +8,7 @@ from pathlib import Path
 from typing import Dict, Iterator, List, NamedTuple, Optional, Set
 
 from fleetplan.files import write
+from fleetplan.program import Runner
 
 NAME = "fleetplan"
 LIST, HANDLES = "crates.txt", "HANDLES"
@@ -157,7 +158,7 @@ def read_manifest(places: Places) -> Optional[Manifest]:
 def does_run(program: Path) -> bool:
     """Returns whether the processor and the system run a program: without words it ends with 2, for that is no call."""
     try:
-        ran = subprocess.run([program], stdin=subprocess.DEVNULL, stdout=subprocess.PIPE, stderr=subprocess.DEVNULL, timeout=SECONDS, check=False)
-    except (OSError, subprocess.TimeoutExpired):
+        ran = Runner(program, SECONDS).run()
+    except (OSError, subprocess.SubprocessError):
         return False
-    return ran.returncode == 2 and ran.stdout.startswith(b"usage: ")
+    return ran.status == 2 and ran.text.startswith("usage: ")

@@ -10,8 +10,8 @@ from typing import Dict
 _OPEN = {"splits": (b"split ",), "nodes": (b"open nodes\n",), "pivots": (b"open pivots ",), "grew": (b"open grew ", b"open lift ")}
 
 
-# So much of a line is read at once. The words that are counted stand before that.
-_PART = 1 << 20
+# So much of a line is read at once, from a buffer as large. The words that are counted stand before that.
+_PART = 1 << 16
 
 
 def counts_of(path: str) -> Dict[str, int]:
@@ -21,7 +21,7 @@ def counts_of(path: str) -> Dict[str, int]:
     if not stat.S_ISREG(os.stat(path).st_mode):
         return counts
     is_begin = True
-    with open(path, "rb") as it:
+    with open(path, "rb", buffering=_PART) as it:
         for part in iter(lambda: it.readline(_PART), b""):
             if is_begin and part.startswith((b"open ", b"split ")):
                 for name, starts in _OPEN.items():

@@ -4,25 +4,42 @@ from __future__ import annotations
 
 import os
 import re
-from typing import Dict, List, NoReturn, Optional, Sequence, Tuple
+from typing import Dict, Iterable, List, NamedTuple, NoReturn, Optional, Sequence, Tuple
 
 from fleetplan.errors import REFUSED, Unread
 from fleetplan.records import rows_of
 from fleetplan.schedule import Leg, Plan, Schedule
 from fleetplan.times import DAY
 
-# A night: its station (None aloft), and whether it maintains.
-Night = Tuple[Optional[str], bool]
 # The kinds of records that tell what became of a rotation.
 _ENDS = ("tour", "unused", "nights", "apart", "none", "visits")
 
 
+class Night(NamedTuple):
+    """A night: its station (None aloft), whether it is for maintenance, and whether it is too short for that at a station that maintains."""
+
+    station: Optional[str]
+    maintains: bool
+    is_short: bool = False
+
+
 class Flown:
-    """A flight of a tour: the tour's day on which it departs, from 0, and the nights after it."""
+    """A flight of a tour: the tour's day on which it departs, from 0, the nights after it, and the minutes from its arrival to the next
+    departure (stay)."""
 
     def __init__(self, leg: Leg, busy: int) -> None:
-        self.leg, self.busy, self.day = leg, busy, 0
+        self.leg, self.busy, self.day, self.stay = leg, busy, 0, 0
         self.nights: List[Night] = []
+
+    @property
+    def is_short(self) -> bool:
+        """Whether its nights are too short for maintenance at a station that maintains."""
+        return any(it.is_short for it in self.nights)
+
+    @property
+    def may_maintain(self) -> bool:
+        """Whether a night after it is at a station that maintains, however short."""
+        return any(it.maintains or it.is_short for it in self.nights)
 
 
 class Rotation:
@@ -73,7 +90,20 @@ def rotations_of(schedule: Schedule, plan: Plan) -> List[Rotation]:
         refuse(path, "doesn't tell the fleets of fleets.csv in their order")
     for it in rotations.values():
         _check(path, schedule, plan, it)
+    least = least_night_of(rotations.values())
+    if least > DAY or not is_by_least_night(rotations.values(), least):
+        refuse(path, f"has a night for maintenance that isn't longer than a short one, or a short one of {DAY} minutes or more")
     return list(rotations.values())
+
+
+def least_night_of(rotations: Iterable[Rotation]) -> int:
+    """Returns the least that a stay of a night for maintenance may have been made to last, in minutes: 0 where no night is short."""
+    return max((flown.stay + 1 for it in rotations for flown in it.tour if flown.is_short), default=0)
+
+
+def is_by_least_night(rotations: Iterable[Rotation], minutes: int) -> bool:
+    """Returns whether exactly the nights are for maintenance, of those at stations that maintain, whose stay is so many minutes or more."""
+    return all(it.is_short == (it.stay < minutes) for rotation in rotations for it in rotation.tour if it.may_maintain)
 
 
 def _read_row(path: str, schedule: Schedule, rotations: Dict[str, Rotation], row: Sequence[str]) -> None:
@@ -95,7 +125,7 @@ def _read_row(path: str, schedule: Schedule, rotations: Dict[str, Rotation], row
         leg = schedule.legs[a]
         rotation.tour.append(Flown(leg, schedule.busy(leg, fleet)))
     elif kind == "night" and rotation.tour:
-        rotation.tour[-1].nights.append((None if b == "aloft" else a, b == "yes"))
+        rotation.tour[-1].nights.append(Night(None if b == "aloft" else a, b == "yes", b == "short"))
     elif kind not in ("leg", "order"):
         refuse(path, f"has a record that is none of its forms: {','.join(row)}")
 
@@ -111,7 +141,9 @@ def _check(path: str, schedule: Schedule, plan: Plan, rotation: Rotation) -> Non
     day = 0
     for flown, following in zip(rotation.tour, rotation.tour[1:] + rotation.tour[:1]):
         flown.day = (first + day) % rotation.days
-        if flown.leg.end != following.leg.start or flown.nights != _nights_between(schedule, flown, following):
+        flown.stay = _departs(schedule, flown, following) - flown.leg.departure - flown.leg.block
+        told = [Night(it.station, it.maintains or it.is_short) for it in flown.nights]
+        if flown.leg.end != following.leg.start or told != _nights_between(schedule, flown, following):
             why = f"isn't by this day start: the nights of {rotation.fleet} are others. Give the --day-start of solve"
             refuse(path, why if schedule.period == 1 else f"{why}, and its --period")
         day += len(flown.nights)
@@ -119,9 +151,15 @@ def _check(path: str, schedule: Schedule, plan: Plan, rotation: Rotation) -> Non
         refuse(path, f"has {day} nights for the {rotation.days} days of {rotation.fleet}")
 
 
+def _departs(schedule: Schedule, flown: Flown, following: Flown) -> int:
+    """Returns the minute of the second of two departures of one aircraft, counted as that of the first."""
+    ready = flown.leg.departure + flown.busy
+    return ready + (following.leg.departure - ready) % schedule.minutes
+
+
 def _nights_between(schedule: Schedule, flown: Flown, following: Flown) -> List[Night]:
-    """Returns the nights between two departures of one aircraft: aloft until it is ready, then at the station where it landed."""
+    """Returns the nights between two departures of one aircraft: aloft until it is ready, then at the station where it landed. None is
+    short."""
     ready, station = flown.leg.departure + flown.busy, flown.leg.end
-    departs = ready + (following.leg.departure - ready) % schedule.minutes
-    nights = range(flown.leg.departure // DAY, departs // DAY)
-    return [(None, False) if it < ready // DAY else (station, schedule.maintains[station]) for it in nights]
+    nights = range(flown.leg.departure // DAY, _departs(schedule, flown, following) // DAY)
+    return [Night(None, False) if it < ready // DAY else Night(station, schedule.maintains[station]) for it in nights]

@@ -4,7 +4,7 @@ from __future__ import annotations
 
 from typing import NamedTuple, Tuple
 
-from fleetplan.forms import MOST_AIRCRAFT, MOST_LEFT, MOST_TURN, TRILLION, Wrong, code, flag, free, limit, name, shift, time, whole
+from fleetplan.forms import MOST_AIRCRAFT, MOST_LEFT, MOST_TURN, TRILLION, Wrong, code, flag, free, limit, name, place, shift, time, whole
 
 Header = Tuple[str, ...]
 
@@ -89,14 +89,24 @@ DAY = "day"
 DATED = (HEADERS["legs.csv"][0], DAY, *HEADERS["legs.csv"][1:])
 # The header of a stations.csv that tells how many aircraft may stay at a station for a night.
 LIMITED = (*HEADERS["stations.csv"], "parking")
+# The header of a tails.csv that tells where each aircraft is, and that column: a station, a flight, or nothing.
+LOCATED = (*HEADERS["tails.csv"], "at")
+AT = LOCATED[-1]
 # The header of a plan.csv where legs may depart at several times.
 SHIFTED = (*HEADERS["plan.csv"], "shift")
+# The tables that may have a column more at their end.
+WIDER = {"stations.csv": LIMITED, "tails.csv": LOCATED}
+
+
+def named_by(text: str) -> str:
+    """Returns the table that has what a place names: stations where it is of their form, else flights, and none where it is empty."""
+    return "" if not text else "legs.csv" if code(text) else "stations.csv"
 
 
 def headers_of(table: str, period: int = 1) -> Tuple[Header, ...]:
     """Returns the headers that a table may have where the schedule repeats after so many days."""
-    if table == "stations.csv":
-        return HEADERS[table], LIMITED
+    if table in WIDER:
+        return HEADERS[table], WIDER[table]
     if table != "legs.csv":
         return (HEADERS[table],)
     return (HEADERS[table], DATED) if period == 1 else (DATED,)
@@ -108,4 +118,6 @@ def forms_of(table: str, header: Header, period: int = 1) -> Tuple[Wrong, ...]:
     first, *rest = TABLE[table].forms
     if header == LIMITED:
         return (first, *rest, limit)
+    if header == LOCATED:
+        return (first, *rest, place)
     return (first, whole(1, period), *rest) if header == DATED else (first, *rest)

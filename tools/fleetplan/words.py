@@ -51,6 +51,8 @@ class Command(NamedTuple):
 # How many aircraft, days and dates a number of a call may be.
 MOST_MAINTENANCE, MOST_DATES = 30, 366
 MOST_SEARCH = 1_000_000
+# The most minutes that an aircraft may be asked to stay in a night for maintenance: a day, since no longer stay is too short.
+MOST_LEAST_NIGHT = 1440
 # How a search makes its choices.
 FIXED, FREE = "fixed", "free"
 OPTIONS = {
@@ -60,6 +62,9 @@ OPTIONS = {
     "optional": Option("", None, "", "reads optional.csv: legs may be left out, with - in the place of a fleet"),
     "through-max": Option("M", Number(0, 1439), "60", "the most minutes that a through flight may wait beyond the turn, 0 to 1439"),
     "days": Option("D", Number(1, MOST_MAINTENANCE), "3", "an aircraft comes to maintenance every D days at least, 1 to 30"),
+    "least-night": Option(
+        "MINUTES", Number(0, MOST_LEAST_NIGHT), "0", "the least minutes from arrival to departure in a night for maintenance, 0 to 1440"
+    ),
     "visits": Option("V", Number(0, MOST_SEARCH), "200000", "how long to search for one rotation, 0 to 1000000"),
     "search": Option("WAY", Choice(FIXED, FREE), FIXED, "how the search makes its choices: fixed by rules, or free"),
     "nodes": Option("N", Number(0, MOST_SEARCH), "1000", "how often the search may split, 0 to 1000000"),
@@ -70,7 +75,7 @@ OPTIONS = {
 }
 # The options by which the tables of a folder are read: those of one call belong to the next one over the same folder.
 READING = ("day-start", "period", "windows", "optional")
-_ROUTING = (*READING, "through-max", "days", "visits")
+_ROUTING = (*READING, "through-max", "days", "least-night", "visits")
 # The options of calls that tell dates.
 _DATED = (*_ROUTING, "first-day")
 _DATES = {

@@ -5,7 +5,7 @@ from __future__ import annotations
 import os
 from typing import List, Sequence
 
-from fleetplan.program import answer
+from fleetplan.program import PROGRAM, Runner
 from fleetplan.texts import quietly
 from fleetplan.words import Call
 from hints.saying import JSON, WHOLE, Hint, mode
@@ -63,7 +63,7 @@ def tell(hint: Hint, status: str, said: str, command: str, call: Call) -> None:
 def once_more(call: Call) -> str:
     """Returns what the program prints for the same words: where it refused something, or writes nothing, a further run changes
     nothing."""
-    return answer(call.all, SECONDS)[1][:MOST_LETTERS].decode("utf-8", "replace")
+    return Runner(PROGRAM, SECONDS).run(*call.all).text[:MOST_LETTERS]
 
 
 def tell_refusal(hint: Hint, command: str, call: Call, said: str) -> None:

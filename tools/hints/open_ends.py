@@ -5,7 +5,8 @@ from __future__ import annotations
 import os
 from typing import Dict
 
-from fleetplan.program import held
+from fleetplan.calls import check, options_of
+from fleetplan.program import PROGRAM, Runner
 from fleetplan.proofs import counts_of
 from fleetplan.texts import counted, quietly
 from fleetplan.words import FREE, MOST_SEARCH, OPTIONS, Call
@@ -38,10 +39,10 @@ def explain(hint: Hint, command: str, call: Call) -> None:
 
 def tell_gap(hint: Hint, call: Call) -> None:
     """Says how far cost and bound are apart, as the program's own check of the proof tells them."""
-    found = held(call.folder, call.reading, SECONDS)
-    if not found:
+    found = check(call.folder, Runner(PROGRAM, SECONDS), **options_of(call))
+    cost, bound = found.cost, found.bound
+    if bound is None:
         return
-    cost, bound = found
     if cost is None:
         hint.say(f"no plan was found yet; none costs less than {bound:,}")
     elif cost > bound:

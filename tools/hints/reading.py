@@ -3,17 +3,23 @@
 from __future__ import annotations
 
 import os
+from typing import Any, Dict
 
 from fleetplan.schedule import Schedule
 from fleetplan.tables import ASKED
 from fleetplan.texts import listed
-from fleetplan.words import Call
+from fleetplan.words import COMMANDS, Call
 from hints.saying import Hint
 
 
 def schedule_of(call: Call) -> Schedule:
     """Returns the schedule that a call reads, or raises Unread."""
     return Schedule(call.folder, call.value("day-start"), call.value("period"), [it for it in ASKED if call.has(it)])
+
+
+def options_of_tails(call: Call) -> Dict[str, Any]:
+    """Returns the options of a call that `tails` takes too, as its call in Python takes them."""
+    return {it.replace("-", "_"): call.given[it][0] or True for it in COMMANDS["tails"].options if it in call.given}
 
 
 def tell_unread(hint: Hint, command: str, call: Call) -> bool:

@@ -9,7 +9,7 @@ from typing import Callable, Dict, FrozenSet, Iterable, Iterator, List, NamedTup
 
 from fleetplan.forms import whole
 from fleetplan.records import Record, names_in, records_of
-from fleetplan.tables import DAY, HEADERS, LIMITED, MOST_DAYS, MOST_TRIPLES, MOST_WINDOWS, TABLE, forms_of, headers_of
+from fleetplan.tables import AT, DAY, HEADERS, LIMITED, MOST_DAYS, MOST_TRIPLES, MOST_WINDOWS, TABLE, forms_of, headers_of, named_by
 from fleetplan.texts import counted, listed, plain
 
 # The kinds of faults that a record of any table may have, and those of a leg.
@@ -166,10 +166,13 @@ def teller_of_names(kind: int) -> Teller:
 
     def tell(table: Looked, record: Record) -> List[Told]:
         told: Dict[str, Told] = {}
-        for column in TABLE[table.name].named(lookup):
+        is_at = AT in table.header and named_by(table.of(record, AT)) == lookup
+        for column in (*TABLE[table.name].named(lookup), *([AT] if is_at else [])):
             text = table.of(record, column)
             if not table.has(lookup, text) and text not in told:
                 said = "" if table.only_counts else unknown(text, lookup, table.names(lookup))
+                if column == AT and lookup == LOOKUPS[6] and table.has(LOOKUPS[7], text):
+                    said = f"{said}; three letters are a station, also where a flight is called so"
                 told[text] = Told(said, column, text, f"a name of {lookup}")
         return list(told.values())
 

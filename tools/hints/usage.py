@@ -10,6 +10,8 @@ from fleetplan.words import COMMANDS, OPTIONS, USAGE, Call
 from hints.saying import WHOLE, Hint, Where, put
 
 SECTION = "the-words-of-a-call"
+# The letters that the longest option has, with its placeholder.
+WIDTH = 21
 FILES = (
     ("stations.csv", "stations: code, extra minutes of a turn there, maintenance yes or no, room at night if limited"),
     ("fleets.csv", "fleets: name, aircraft, minutes of a turn"),
@@ -18,7 +20,7 @@ FILES = (
     ("throughs.csv", "pairs of flights that one aircraft should fly in turn; an empty file will do"),
     ("windows.csv", "by how many minutes legs may depart later or earlier, and at what price: read with --windows"),
     ("optional.csv", "which legs may be left out, and at what price: read with --optional"),
-    ("tails.csv", "the aircraft of fleets by name, and the nights left to each until maintenance: due reads it"),
+    ("tails.csv", "the aircraft of fleets by name, the nights left to each until maintenance, and where it is, if told: due reads it"),
     ("settings.csv", "words that a call over the folder needn't say, as period,7 below word,value"),
     ("plan.csv", "a fleet for each flight: solve writes it"),
     ("proof.txt", "why no legal plan costs less: solve writes it"),
@@ -93,11 +95,11 @@ def show_command(hint: Hint, command: str, name: str) -> None:
     own = COMMANDS[name]
     hint.add(f"{typed([command])} {' '.join([name, *own.names])} {own.does}.")
     for word, (form, means, _) in own.words.items():
-        hint.show(f"{word:<18} {means}: {form.form}")
+        hint.show(f"{word:<{WIDTH}} {means}: {form.form}")
     for option in own.options:
         placeholder, _, default, means = OPTIONS[option]
         without = f" (without it {default})" if default else ""
-        hint.show(f"{f'--{option} {placeholder}':<18} {means}{without}")
+        hint.show(f"{f'--{option} {placeholder}':<{WIDTH}} {means}{without}")
 
 
 def show_commands(hint: Hint, command: str) -> None:
@@ -115,7 +117,7 @@ def show_page(hint: Hint, command: str) -> None:
     for option, (placeholder, _, default, means) in OPTIONS.items():
         of = ", ".join(it for it in COMMANDS if option in COMMANDS[it].options)
         without = f" ({default})" if default else ""
-        hint.show(f"{f'--{option} {placeholder}':<18} {means}{without}; of {of}")
+        hint.show(f"{f'--{option} {placeholder}':<{WIDTH}} {means}{without}; of {of}")
     hint.say("The files in the folder DIR:")
     for name, holds in FILES:
         hint.show(f"{name:<14} {holds}")

@@ -9,7 +9,7 @@ use entries::{Entries, NoMemory};
 use std::alloc::Global;
 
 /// A one-to-one map of rows to columns, both ways, and the dual numbers of rows and columns.
-#[derive(Debug, Drop)]
+#[derive(Drop)]
 pub struct Draft {
     pub columns: Entries<usize>,
     pub rows: Entries<usize>,

@@ -11,7 +11,7 @@ use std::alloc::Global;
 pub const MAX_WORTH: u64 = 1 << 62;
 
 /// A one-to-one map of rows to columns, with numbers of the rows and columns that show that none is worth more.
-#[derive(Debug, Drop)]
+#[derive(Drop)]
 pub struct Matching {
     /// The column of each row.
     pub columns: Entries<usize>,

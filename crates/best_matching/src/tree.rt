@@ -11,7 +11,7 @@ use entries::Entries;
 
 /// For each column the least gap between the duals and the worth from a reached row, the row that it is from, and the
 /// turn at which the column joined the tree; before that the number of all columns stands for the turn.
-#[derive(Debug, Drop)]
+#[derive(Drop)]
 pub struct Tree {
     pub gaps: Entries<u64>,
     pub from: Entries<usize>,

@@ -7,7 +7,7 @@ use std::alloc::{AllocError, AllocFailed};
 use thiserror::Error;
 
 /// The first fault of a proof's text.
-#[derive(Clone, Copy, Debug, PartialEq, Eq)]
+#[derive(Clone, Copy, Debug)]
 pub struct CertFault {
     /// The number of the line, from 1. A line that is missing has the number that it would have.
     pub line: u64,
@@ -16,7 +16,7 @@ pub struct CertFault {
 }
 
 /// Why a proof's text could not be read.
-#[derive(Clone, Copy, Debug, PartialEq, Eq, Error)]
+#[derive(Clone, Copy, Debug, Error)]
 pub enum CertError {
     #[error("bad proof: {0:?}")]
     Fault(CertFault),

@@ -20,7 +20,7 @@ use proof_lines::{Grammar, Line, Version};
 use std::alloc::Global;
 
 /// A proof of a bound.
-#[derive(Debug, Drop)]
+#[derive(Drop)]
 pub struct Proof {
     /// Whether a plan comes with it.
     pub planned: bool,

@@ -93,8 +93,8 @@ tree_closed t pivots cost keeps above (state.Stopped s) now is right =
     ap (tree_by cost) is
     ∙ leaf_closed t cost keeps s.prices s.why s.worth
     (prices_known t cost (node keeps (tree.Open s.prices s.why)) s.prices (All-head (IsSound t cost) (node keeps (tree.Open s.prices s.why)) [] right.0.sound) refl).scale.some right.2.rounded
-tree_closed t pivots cost keeps above (state.Waiting f) now is right = ap (tree_by cost) is ∙ leaf_closed t cost keeps f.prices (cause.Nodes f.mixed) f.worth right.split.best.good.proper.scale.some right.rounded
-tree_closed t pivots cost keeps above (state.Split f) now is right = ap (tree_by cost) is ∙ leaf_closed t cost keeps f.prices (cause.Nodes f.mixed) f.worth right.split.best.good.proper.scale.some right.rounded
+tree_closed t pivots cost keeps above (state.Waiting f) now is right = ap (tree_by cost) is ∙ leaf_closed t cost keeps f.best.prices (cause.Nodes f.best.mixed) f.worth right.split.best.good.proper.scale.some right.rounded
+tree_closed t pivots cost keeps above (state.Split f) now is right = ap (tree_by cost) is ∙ leaf_closed t cost keeps f.best.prices (cause.Nodes f.best.mixed) f.worth right.split.best.good.proper.scale.some right.rounded
 
 -- a box with another tree in it, at the same place
 abbrev pub holding : Box Tree Global → Tree → Box Tree Global
@@ -200,7 +200,7 @@ module _ (t : Tables) (root : Domains) (pivots : Option ℕ) (cost : Option ℤ)
     second_left = tree_by None (are.left n).state
 
     abbrev whole_left : Tree
-    whole_left = Split f.leg f.choice f.prices f.mixed (holding joined.yes_box first_left) (holding joined.no_box second_left)
+    whole_left = Split f.pair.leg f.pair.choice f.best.prices f.best.mixed (holding joined.yes_box first_left) (holding joined.no_box second_left)
 
     abbrev put : Subproblem
     put = record { origin = (are.left p).origin; state = state.Leaf whole_left }
@@ -239,30 +239,30 @@ module _ (t : Tables) (root : Domains) (pivots : Option ℕ) (cost : Option ℤ)
     gathered_left = gathered_after t root pivots cost total c all_left rest_left (are.left n) origin left_is from_left are.gathered after_left folded
 
     -- the parts keep what they kept
-    first_keeps : (c.made l).keeps ≡ part (c.made p).keeps f.leg f.choice true
+    first_keeps : (c.made l).keeps ≡ part (c.made p).keeps f.pair.leg f.pair.choice true
     first_keeps =
         ap (λ k. (c.made k).keeps) (sym counted)
         ∙ part_keeps t root pivots cost total c all_left rest_left (are.left n) origin left_is from_left are.gathered after_left folded (length after_left) true
         (omega (arith, counted, is.shorter, long, length-list_below are.left (length all)))
         (first_origin t root pivots cost total c all_left rest_left (are.left n) origin left_is from_left are.gathered after_left folded) (omega arith)
 
-    second_keeps : (c.made n).keeps ≡ part (c.made p).keeps f.leg f.choice false
+    second_keeps : (c.made n).keeps ≡ part (c.made p).keeps f.pair.leg f.pair.choice false
     second_keeps =
         ap (λ k. (c.made k).keeps) (omega (arith, counted, is.shorter))
         ∙ part_keeps t root pivots cost total c all_left rest_left (are.left n) origin left_is from_left are.gathered after_left folded (suc (length after_left)) false
         (omega (arith, counted, is.shorter, long, length-list_below are.left (length all)))
         (second_origin t root pivots cost total c all_left rest_left (are.left n) origin left_is from_left are.gathered after_left folded) (omega arith)
 
-    first_value : joined.yes_box.value ≡ closed_in t cost (part (c.made p).keeps f.leg f.choice true) first_left
+    first_value : joined.yes_box.value ≡ closed_in t cost (part (c.made p).keeps f.pair.leg f.pair.choice true) first_left
     first_value =
         joined.yes_is ∙ ap (λ (s : Subproblem). tree_by cost s.state) (sym (at_rest l (omega (arith, is.shorter)))) ∙ tree_at l (omega (arith, is.shorter, long)) ∙ ap (λ d. closed_in t cost d first_left) first_keeps
 
-    second_value : joined.no_box.value ≡ closed_in t cost (part (c.made p).keeps f.leg f.choice false) second_left
+    second_value : joined.no_box.value ≡ closed_in t cost (part (c.made p).keeps f.pair.leg f.pair.choice false) second_left
     second_value = joined.no_is ∙ ap (λ (s : Subproblem). tree_by cost s.state) (sym at_end) ∙ tree_at n (omega (arith, long)) ∙ ap (λ d. closed_in t cost d second_left) second_keeps
 
     whole_now : is.whole ≡ state.Leaf (closed_in t cost (c.made p).keeps whole_left)
     whole_now =
-        joined.is ∙ ap state.Leaf (split_closed t cost (c.made p).keeps f.leg f.choice f.prices f.mixed joined.yes_box joined.no_box first_left second_left first_value second_value)
+        joined.is ∙ ap state.Leaf (split_closed t cost (c.made p).keeps f.pair.leg f.pair.choice f.best.prices f.best.mixed joined.yes_box joined.no_box first_left second_left first_value second_value)
 
     here : IsClosedAs t cost (c.made p).keeps put (at after p)
     here = subst (IsClosedAs t cost (c.made p).keeps put) (sym is.there) (record {

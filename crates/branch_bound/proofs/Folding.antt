@@ -6,7 +6,6 @@ use Rattle.std.proofs.lemmas.List.{get_or_append_left, get_or_push, map-append}
 use Rattle.std.proofs.lemmas.List.Sorted.{IsPermutation-append_comm, IsPermutation-append_left, IsPermutation-append_right, IsPermutation-refl, IsPermutation-trans}
 use Rattle.sums.specs.Places.{list_below}
 use Rattle.fleet_model.specs.Kept.{Domains}
-use Rattle.fleet_model.specs.Schedule.{leg_on}
 use Rattle.fleet_model.specs.declared.kept.Step.{Step}
 use Rattle.fleet_model.specs.declared.tables.Tables.{Tables}
 use Rattle.dual_bound.specs.Bound.{part}
@@ -37,11 +36,11 @@ use Rattle.node_bounding.proofs.Parts.{leaf_part, split_part}
 abbrev pub tree_of_state : State → Tree
 tree_of_state s = tree_by None s
 
-waiting_part : (t : Tables) (pivots : Option ℕ) (final : Option ℤ) (keeps : Domains) (above : Prices) (f : Fraction) → IsFractional t keeps f → IsPart t pivots final keeps above (tree.Open f.prices (cause.Nodes f.mixed))
+waiting_part : (t : Tables) (pivots : Option ℕ) (final : Option ℤ) (keeps : Domains) (above : Prices) (f : Fraction) → IsFractional t keeps f → IsPart t pivots final keeps above (tree.Open f.best.prices (cause.Nodes f.best.mixed))
 waiting_part t pivots final keeps above f is =
     let best = is.split.best in
-    leaf_part t pivots final keeps above (tree.Open f.prices (cause.Nodes f.mixed)) refl refl (best.good.known, best.known) (all_one (IsNodeInOrder t) (ordered.Open f.prices (cause.Nodes f.mixed)) (best.good.in_order, best.in_order))
-    (open_sound t final keeps f.prices (cause.Nodes f.mixed) best.good.proper is.split.searched.some_pair best.mixed_at is.split.fraction) (answers_none t final keeps (tree.Open f.prices (cause.Nodes f.mixed)) (λ e. cc)) tt
+    leaf_part t pivots final keeps above (tree.Open f.best.prices (cause.Nodes f.best.mixed)) refl refl (best.good.known, best.known) (all_one (IsNodeInOrder t) (ordered.Open f.best.prices (cause.Nodes f.best.mixed)) (best.good.in_order, best.in_order))
+    (open_sound t final keeps f.best.prices (cause.Nodes f.best.mixed) best.good.proper is.split.searched.some_pair best.mixed_at is.split.fraction) (answers_none t final keeps (tree.Open f.best.prices (cause.Nodes f.best.mixed)) (λ e. cc)) tt
 
 state_part : (t : Tables) (pivots : Option ℕ) (final : Option ℤ) (keeps : Domains) (above : Prices) (s : State) → IsRight t pivots final keeps above s → IsPart t pivots final keeps above (tree_of_state s) × AreSearched t keeps (tree_of_state s)
 state_part t pivots final keeps above (state.Leaf leaf) is = (is.0, is.1)
@@ -98,7 +97,7 @@ gathered_one made all = refl
 
 -- ---- links
 -- a subproblem that was split, with its fraction
-split_of : (step : Step) (s : State) → IsSplitBy step s → (f : Fraction) × (s ≡ state.Split f) × (step.leg ≡ f.leg) × (step.choice ≡ f.choice)
+split_of : (step : Step) (s : State) → IsSplitBy step s → (f : Fraction) × (s ≡ state.Split f) × (step.leg ≡ f.pair.leg) × (step.choice ≡ f.pair.choice)
 split_of step (state.Leaf leaf) is = absurd is
 split_of step (state.Stopped s) is = absurd is
 split_of step (state.Waiting f) is = absurd is
@@ -125,7 +124,7 @@ module _ (all rest : List Subproblem) (last : Subproblem) (origin : Origin) (par
   unfolding fraction
   parent_is = (split_of origin.step (at all origin.parent).state last_from.of_split).1
 
-  has : HasParts all parts origin.parent (leg_on fraction.leg fraction.choice)
+  has : HasParts all parts origin.parent fraction.pair
   has = subst (λ s. HasItsParts all parts origin.parent s) parent_is (each origin.parent (omega (arith, last_from.earlier, count))).own
 
   second_place : length rest ≡ suc (parts origin.parent)
@@ -135,7 +134,7 @@ module _ (all rest : List Subproblem) (last : Subproblem) (origin : Origin) (par
       by_step true place = absurd (omega (arith, place, has.within, count))
       by_step false place = place
 
-  first_from : IsPartOf all parts (parts origin.parent) (record { parent = origin.parent; step = step_into (leg_on fraction.leg fraction.choice) true })
+  first_from : IsPartOf all parts (parts origin.parent) (record { parent = origin.parent; step = step_into fraction.pair true })
   first_from = subst (λ o. IsFrom all parts (parts origin.parent) o) has.with_pair (each (parts origin.parent) (omega (arith, has.within))).from
 
   -- what is asked for
@@ -178,7 +177,7 @@ module _ (all rest : List Subproblem) (last : Subproblem) (origin : Origin) (par
         let own : IsJoinedFrom (state.Split fraction) (tree_of (at rest r).state) (tree_of last.state) is.whole = subst (λ s. IsJoinedFrom s (tree_of (at rest r).state) (tree_of last.state) is.whole) parent is.joined in
         subst (λ (s : Subproblem). IsJoined fraction (tree_of s.state) (tree_of last.state) is.whole) (sym (at_rest r (omega (arith, is.shorter)))) own
 
-    whole_is : (at after p).state ≡ state.Leaf (Split fraction.leg fraction.choice fraction.prices fraction.mixed joined.yes_box joined.no_box)
+    whole_is : (at after p).state ≡ state.Leaf (Split fraction.pair.leg fraction.pair.choice fraction.best.prices fraction.best.mixed joined.yes_box joined.no_box)
     whole_is = ap (λ (s : Subproblem). s.state) there ∙ joined.is
 
     -- no other subproblem has these parts
@@ -201,9 +200,9 @@ module _ (all rest : List Subproblem) (last : Subproblem) (origin : Origin) (par
     parent_of : (x y : Option Origin) (one two : Origin) → x ≡ Some one → x ≡ Some two → one.parent ≡ two.parent
     parent_of x y one two first second = let same : Some one ≡ Some two = sym first ∙ second in let is : one ≡ two = cc in ap (λ (o : Origin). o.parent) is
 
-    has_parts : (k : ℕ) (f : Fraction) → k < r → k ≢ p → HasParts all parts k (leg_on f.leg f.choice) → HasParts after parts k (leg_on f.leg f.choice)
+    has_parts : (k : ℕ) (f : Fraction) → k < r → k ≢ p → HasParts all parts k f.pair → HasParts after parts k f.pair
     has_parts k f less other own =
-        let first_origin : (at all r).origin ≡ Some (record { parent = p; step = step_into (leg_on fraction.leg fraction.choice) true }) = ap (λ j. (at all j).origin) (sym first_place) ∙ has.with_pair in
+        let first_origin : (at all r).origin ≡ Some (record { parent = p; step = step_into fraction.pair true }) = ap (λ j. (at all j).origin) (sym first_place) ∙ has.with_pair in
         let not_first : parts k ≢ r = λ same. other (parent_of (at all r).origin None _ _ (ap (λ j. (at all j).origin) (sym same) ∙ own.with_pair) first_origin) in
         let not_second : suc (parts k) ≢ r = λ same. other (parent_of (at all r).origin None _ _ (ap (λ j. (at all j).origin) (sym same) ∙ own.without) first_origin) in
         let within : suc (parts k) < r = omega (arith, own.within, count, is.shorter, not_first, not_second) in
@@ -262,7 +261,7 @@ module _ (t : Tables) (root : Domains) (pivots : Option ℕ) (final : Option ℤ
   box = joined all rest last origin c.parts all_is from_is own_links tree_of_state after is
 
   abbrev whole : Tree
-  whole = Split f.leg f.choice f.prices f.mixed box.yes_box box.no_box
+  whole = Split f.pair.leg f.pair.choice f.best.prices f.best.mixed box.yes_box box.no_box
 
   state_whole : (at after q).state ≡ state.Leaf whole
   state_whole = whole_is all rest last origin c.parts all_is from_is own_links tree_of_state after is
@@ -286,40 +285,40 @@ module _ (t : Tables) (root : Domains) (pivots : Option ℕ) (final : Option ℤ
   node_parent = (are.numbered q (omega (arith, inside, total_is))).node ∙ ap node_of state_parent
 
   -- ---- both parts
-  pub first_origin : (at all l).origin ≡ Some (record { parent = q; step = step_into (leg_on f.leg f.choice) true })
+  pub first_origin : (at all l).origin ≡ Some (record { parent = q; step = step_into f.pair true })
   first_origin = ap (λ j. (at all j).origin) (sym (first_place all rest last origin c.parts all_is from_is own_links tree_of_state after is)) ∙ (has all rest last origin c.parts all_is from_is own_links).with_pair
 
-  pub second_origin : (at all (suc l)).origin ≡ Some (record { parent = q; step = step_into (leg_on f.leg f.choice) false })
+  pub second_origin : (at all (suc l)).origin ≡ Some (record { parent = q; step = step_into f.pair false })
   second_origin = ap (λ j. (at all (suc j)).origin) (sym (first_place all rest last origin c.parts all_is from_is own_links tree_of_state after is)) ∙ (has all rest last origin c.parts all_is from_is own_links).without
 
   second_is : at all (suc l) ≡ last
   second_is = ap (λ j. at all j) (sym is.shorter) ∙ at_last all rest last origin c.parts all_is from_is own_links
 
   -- what is known of a part with this number
-  module _ (k : ℕ) (taken : Bool) (below : k < length all) (its : (at all k).origin ≡ Some (record { parent = q; step = step_into (leg_on f.leg f.choice) taken })) (late : l ≤ k) where
-    pub part_keeps : (c.made k).keeps ≡ part (c.made q).keeps f.leg f.choice taken
+  module _ (k : ℕ) (taken : Bool) (below : k < length all) (its : (at all k).origin ≡ Some (record { parent = q; step = step_into f.pair taken })) (late : l ≤ k) where
+    pub part_keeps : (c.made k).keeps ≡ part (c.made q).keeps f.pair.leg f.pair.choice taken
     part_keeps = (subst (λ o. KeepsBy t root c.made k o) its (are.numbered k below).keeps).1
 
-    part_right : IsRight t pivots final (part (c.made q).keeps f.leg f.choice taken) f.prices (at all k).state
+    part_right : IsRight t pivots final (part (c.made q).keeps f.pair.leg f.pair.choice taken) f.best.prices (at all k).state
     part_right =
-        subst (λ p. IsRight t pivots final (part (c.made q).keeps f.leg f.choice taken) p (at all k).state) (ap (prices_in t) node_parent)
+        subst (λ p. IsRight t pivots final (part (c.made q).keeps f.pair.leg f.pair.choice taken) p (at all k).state) (ap (prices_in t) node_parent)
         (subst (λ d. IsRight t pivots final d (prices_in t (c.made q).node) (at all k).state) part_keeps
         (subst (λ o. IsRight t pivots final (c.made k).keeps (prices_above t c.made o) (at all k).state) its (are.right k below)))
 
-    part_gathered : gathered_at (c.made k).keeps (at all k).state ≡ worked_in (part (c.made q).keeps f.leg f.choice taken) (tree_of_state (at all k).state)
+    part_gathered : gathered_at (c.made k).keeps (at all k).state ≡ worked_in (part (c.made q).keeps f.pair.leg f.pair.choice taken) (tree_of_state (at all k).state)
     part_gathered =
         gathered_tree (c.made k).keeps (at all k).state (unsplit all rest last origin c.parts all_is from_is own_links tree_of_state after is k (at all k).state below late refl)
         ∙ ap (λ d. worked_in d (tree_of_state (at all k).state)) part_keeps
 
-  first_tree : IsPart t pivots final (part (c.made q).keeps f.leg f.choice true) f.prices box.yes_box.value × AreSearched t (part (c.made q).keeps f.leg f.choice true) box.yes_box.value
+  first_tree : IsPart t pivots final (part (c.made q).keeps f.pair.leg f.pair.choice true) f.best.prices box.yes_box.value × AreSearched t (part (c.made q).keeps f.pair.leg f.pair.choice true) box.yes_box.value
   first_tree =
-      subst (λ x. IsPart t pivots final (part (c.made q).keeps f.leg f.choice true) f.prices x × AreSearched t (part (c.made q).keeps f.leg f.choice true) x) (sym box.yes_is)
-      (state_part t pivots final _ f.prices (at all l).state (part_right l true (omega (arith, total_is)) first_origin (omega arith)))
+      subst (λ x. IsPart t pivots final (part (c.made q).keeps f.pair.leg f.pair.choice true) f.best.prices x × AreSearched t (part (c.made q).keeps f.pair.leg f.pair.choice true) x) (sym box.yes_is)
+      (state_part t pivots final _ f.best.prices (at all l).state (part_right l true (omega (arith, total_is)) first_origin (omega arith)))
 
-  second_tree : IsPart t pivots final (part (c.made q).keeps f.leg f.choice false) f.prices box.no_box.value × AreSearched t (part (c.made q).keeps f.leg f.choice false) box.no_box.value
+  second_tree : IsPart t pivots final (part (c.made q).keeps f.pair.leg f.pair.choice false) f.best.prices box.no_box.value × AreSearched t (part (c.made q).keeps f.pair.leg f.pair.choice false) box.no_box.value
   second_tree =
-      subst (λ x. IsPart t pivots final (part (c.made q).keeps f.leg f.choice false) f.prices x × AreSearched t (part (c.made q).keeps f.leg f.choice false) x) (ap (λ (s : Subproblem). tree_of_state s.state) second_is ∙ sym box.no_is)
-      (state_part t pivots final _ f.prices (at all (suc l)).state (part_right (suc l) false (omega (arith, total_is)) second_origin (omega arith)))
+      subst (λ x. IsPart t pivots final (part (c.made q).keeps f.pair.leg f.pair.choice false) f.best.prices x × AreSearched t (part (c.made q).keeps f.pair.leg f.pair.choice false) x) (ap (λ (s : Subproblem). tree_of_state s.state) second_is ∙ sym box.no_is)
+      (state_part t pivots final _ f.best.prices (at all (suc l)).state (part_right (suc l) false (omega (arith, total_is)) second_origin (omega arith)))
 
   -- ---- the one that they are parts of
   its_fraction : IsFractional t (c.made q).keeps f
@@ -328,27 +327,24 @@ module _ (t : Tables) (root : Domains) (pivots : Option ℕ) (final : Option ℤ
   right_parent : IsRightAt t pivots final after c q
   right_parent =
       subst (λ s. IsRight t pivots final (c.made q).keeps (prices_above t c.made (at after q).origin) s) (sym state_whole)
-      (split_part t pivots final (c.made q).keeps _ f.leg f.choice f.prices f.mixed box.yes_box box.no_box its_fraction.split first_tree.0 second_tree.0, (its_fraction.split.searched, first_tree.1, second_tree.1))
+      (split_part t pivots final (c.made q).keeps _ f.pair f.best box.yes_box box.no_box its_fraction.split first_tree.0 second_tree.0, (its_fraction.split.searched, first_tree.1, second_tree.1))
 
   gathered_parent : gathered_at (c.made q).keeps (at after q).state ≡ gathered_at (c.made q).keeps (at all q).state ++ (gathered_at (c.made l).keeps (at all l).state ++ gathered_at (c.made (suc l)).keeps (at all (suc l)).state)
   gathered_parent =
       let keeps : Domains = (c.made q).keeps in
-      let one : gathered_at (c.made l).keeps (at all l).state ≡ worked_in (part keeps f.leg f.choice true) box.yes_box.value =
-      part_gathered l true (omega (arith, total_is)) first_origin (omega arith) ∙ ap (worked_in (part keeps f.leg f.choice true)) (sym box.yes_is) in
-      let two : gathered_at (c.made (suc l)).keeps (at all (suc l)).state ≡ worked_in (part keeps f.leg f.choice false) box.no_box.value =
-      part_gathered (suc l) false (omega (arith, total_is)) second_origin (omega arith) ∙ ap (λ (s : Subproblem). worked_in (part keeps f.leg f.choice false) (tree_of_state s.state)) second_is ∙ ap (worked_in (part keeps f.leg f.choice false)) (sym box.no_is) in
+      let one : gathered_at (c.made l).keeps (at all l).state ≡ worked_in (part keeps f.pair.leg f.pair.choice true) box.yes_box.value =
+      part_gathered l true (omega (arith, total_is)) first_origin (omega arith) ∙ ap (worked_in (part keeps f.pair.leg f.pair.choice true)) (sym box.yes_is) in
+      let two : gathered_at (c.made (suc l)).keeps (at all (suc l)).state ≡ worked_in (part keeps f.pair.leg f.pair.choice false) box.no_box.value =
+      part_gathered (suc l) false (omega (arith, total_is)) second_origin (omega arith) ∙ ap (λ (s : Subproblem). worked_in (part keeps f.pair.leg f.pair.choice false) (tree_of_state s.state)) second_is ∙ ap (worked_in (part keeps f.pair.leg f.pair.choice false)) (sym box.no_is) in
       let own : Worked = record { keeps = keeps; node = node_of (state.Split f) } in
       ap (gathered_at keeps) state_whole
-      ∙ ap (λ ws. own ∷ ws) (map-append worked_at (nodes_in (part keeps f.leg f.choice true) box.yes_box.value) (nodes_in (part keeps f.leg f.choice false) box.no_box.value))
-      ∙ sym (ap (λ g. g ++ (gathered_at (c.made l).keeps (at all l).state ++ gathered_at (c.made (suc l)).keeps (at all (suc l)).state)) (ap (gathered_at keeps) state_parent) ∙ ap (λ ws. own ∷ (ws ++ gathered_at (c.made (suc l)).keeps (at all (suc l)).state)) one ∙ ap (λ ws. own ∷ (worked_in (part keeps f.leg f.choice true) box.yes_box.value ++ ws)) two)
+      ∙ ap (λ ws. own ∷ ws) (map-append worked_at (nodes_in (part keeps f.pair.leg f.pair.choice true) box.yes_box.value) (nodes_in (part keeps f.pair.leg f.pair.choice false) box.no_box.value))
+      ∙ sym (ap (λ g. g ++ (gathered_at (c.made l).keeps (at all l).state ++ gathered_at (c.made (suc l)).keeps (at all (suc l)).state)) (ap (gathered_at keeps) state_parent) ∙ ap (λ ws. own ∷ (ws ++ gathered_at (c.made (suc l)).keeps (at all (suc l)).state)) one ∙ ap (λ ws. own ∷ (worked_in (part keeps f.pair.leg f.pair.choice true) box.yes_box.value ++ ws)) two)
 
   same_after : IsPermutation (list_below c.made total) (gathered c.made after l)
   same_after =
       let more : List Worked = gathered_at (c.made l).keeps (at all l).state ++ gathered_at (c.made (suc l)).keeps (at all (suc l)).state in
-      IsPermutation-trans _ _ _ (subst (IsPermutation (list_below c.made total)) (ap (gathered c.made all) total_is ∙ two_more) are.same) (gathered_more c.made all after q l more stays gathered_parent l inside (omega arith))
-    where
-      two_more : gathered c.made all (suc (suc l)) ≡ gathered c.made all l ++ (gathered_at (c.made l).keeps (at all l).state ++ gathered_at (c.made (suc l)).keeps (at all (suc l)).state)
-      two_more = gathered_two c.made all l
+      IsPermutation-trans _ _ _ (subst (IsPermutation (list_below c.made total)) (ap (gathered c.made all) total_is ∙ gathered_two c.made all l) are.same) (gathered_more c.made all after q l more stays gathered_parent l inside (omega arith))
 
   pub gathered_after : AreGathered t root pivots final total c after
   gathered_after = record {

@@ -78,8 +78,8 @@ module _ (t : Tables) (root : Domains) (s : Search) (rank : Rank) (search : IsSe
   pub waits_so : (P : Fraction → Type 0) → WaitsWith P (at all rank.number).state → P fraction
   waits_so P waits = subst (WaitsWith P) ready.state_is waits
 
-  pub good : WaitsWith (λ f. AreGood t f.prices) (at all rank.number).state
-  good = waits_with (λ f. AreGood t f.prices) its_fraction.split.best.good
+  pub good : WaitsWith (λ f. AreGood t f.best.prices) (at all rank.number).state
+  good = waits_with (λ f. AreGood t f.best.prices) its_fraction.split.best.good
 
   pub origins : HaveOrigins t all
   origins = record { each = λ k below. by_origin k (at all k).origin (search.numbered k below).linked.from (search.numbered k below).keeps }
@@ -88,8 +88,8 @@ module _ (t : Tables) (root : Domains) (s : Search) (rank : Rank) (search : IsSe
       by_origin k None from by = tt
       by_origin k (Some origin) from by = record { earlier = from.earlier; pair = by.0 }
 
-  pub pair_known : (pair : Pair) → WaitsWith (λ f. pair ≡ leg_on f.leg f.choice) (at all rank.number).state → IsPair t (leg_on pair.leg pair.choice)
-  pair_known pair is = let same : pair ≡ leg_on fraction.leg fraction.choice = waits_so (λ f. pair ≡ leg_on f.leg f.choice) is in subst (λ p. IsPair t (leg_on p.leg p.choice)) (sym same) its_fraction.split.pair
+  pub pair_known : (pair : Pair) → WaitsWith (λ f. pair ≡ f.pair) (at all rank.number).state → IsPair t (leg_on pair.leg pair.choice)
+  pair_known pair is = let same : pair ≡ fraction.pair = waits_so (λ f. pair ≡ f.pair) is in subst (λ p. IsPair t (leg_on p.leg p.choice)) (sym same) its_fraction.split.pair
 
   pub allowed : KeepAllowed t (search.chronicle.made rank.number).keeps
   allowed = (search.numbered rank.number ready.within).allowed
@@ -110,26 +110,26 @@ module _ (t : Tables) (root : Domains) (s : Search) (rank : Rank) (search : IsSe
   allowed_there slice kept same is = subst (KeepAllowed t) (sym (keeps_there slice kept same is)) allowed
 
   -- the step into a part
-  pub step_known : (pair : Pair) (step : Step) (taken : Bool) → step ≡ step_into pair taken → WaitsWith (λ f. pair ≡ leg_on f.leg f.choice) (at all rank.number).state → IsPair t (leg_on step.leg step.choice)
+  pub step_known : (pair : Pair) (step : Step) (taken : Bool) → step ≡ step_into pair taken → WaitsWith (λ f. pair ≡ f.pair) (at all rank.number).state → IsPair t (leg_on step.leg step.choice)
   step_known pair step taken same is = subst (λ (x : Step). IsPair t (leg_on x.leg x.choice)) (sym same) (pair_known pair is)
 
   -- ---- after the split
-  module _ (middle between after : Search) (pair : Pair) (yes no : State) (first_step second_step : Step) (first_keeps second_keeps : Domains) (pair_is : WaitsWith (λ f. pair ≡ leg_on f.leg f.choice) (at all rank.number).state)
+  module _ (middle between after : Search) (pair : Pair) (yes no : State) (first_step second_step : Step) (first_keeps second_keeps : Domains) (pair_is : WaitsWith (λ f. pair ≡ f.pair) (at all rank.number).state)
       (first_step_is : first_step ≡ step_into pair true) (second_step_is : second_step ≡ step_into pair false) (first_keeps_is : first_keeps ≡ (search.chronicle.made rank.number).keeps) (second_keeps_is : second_keeps ≡ first_keeps)
       (middle_is : middle ≡ record s { best = middle.best }) (between_is : between ≡ record middle { best = between.best })
-      (one : WaitsWith (λ f. IsExamined t s.pivots s.best middle.best (narrowed first_keeps first_step) f.prices yes) (at all rank.number).state)
-      (two : WaitsWith (λ f. IsExamined t middle.pivots middle.best between.best (narrowed second_keeps second_step) f.prices no) (at middle.made.items rank.number).state)
+      (one : WaitsWith (λ f. IsExamined t s.pivots s.best middle.best (narrowed first_keeps first_step) f.best.prices yes) (at all rank.number).state)
+      (two : WaitsWith (λ f. IsExamined t middle.pivots middle.best between.best (narrowed second_keeps second_step) f.best.prices no) (at middle.made.items rank.number).state)
       (is : IsSplitSearch between after rank.number pair yes no) where
-    first_part : IsExamined t s.pivots s.best middle.best (narrowed (search.chronicle.made rank.number).keeps (step_into pair true)) fraction.prices yes
+    first_part : IsExamined t s.pivots s.best middle.best (narrowed (search.chronicle.made rank.number).keeps (step_into pair true)) fraction.best.prices yes
     first_part =
-        subst (λ d. IsExamined t s.pivots s.best middle.best (narrowed d (step_into pair true)) fraction.prices yes) first_keeps_is
-        (subst (λ x. IsExamined t s.pivots s.best middle.best (narrowed first_keeps x) fraction.prices yes) first_step_is (waits_so (λ f. IsExamined t s.pivots s.best middle.best (narrowed first_keeps first_step) f.prices yes) one))
+        subst (λ d. IsExamined t s.pivots s.best middle.best (narrowed d (step_into pair true)) fraction.best.prices yes) first_keeps_is
+        (subst (λ x. IsExamined t s.pivots s.best middle.best (narrowed first_keeps x) fraction.best.prices yes) first_step_is (waits_so (λ f. IsExamined t s.pivots s.best middle.best (narrowed first_keeps first_step) f.best.prices yes) one))
 
-    second_part : IsExamined t s.pivots middle.best between.best (narrowed (search.chronicle.made rank.number).keeps (step_into pair false)) fraction.prices no
+    second_part : IsExamined t s.pivots middle.best between.best (narrowed (search.chronicle.made rank.number).keeps (step_into pair false)) fraction.best.prices no
     second_part =
-        let here = subst (λ (m : Search). WaitsWith (λ f. IsExamined t m.pivots middle.best between.best (narrowed second_keeps second_step) f.prices no) (at m.made.items rank.number).state) middle_is two in
-        subst (λ d. IsExamined t s.pivots middle.best between.best (narrowed d (step_into pair false)) fraction.prices no) (second_keeps_is ∙ first_keeps_is)
-        (subst (λ x. IsExamined t s.pivots middle.best between.best (narrowed second_keeps x) fraction.prices no) second_step_is (waits_so (λ f. IsExamined t s.pivots middle.best between.best (narrowed second_keeps second_step) f.prices no) here))
+        let here = subst (λ (m : Search). WaitsWith (λ f. IsExamined t m.pivots middle.best between.best (narrowed second_keeps second_step) f.best.prices no) (at m.made.items rank.number).state) middle_is two in
+        subst (λ d. IsExamined t s.pivots middle.best between.best (narrowed d (step_into pair false)) fraction.best.prices no) (second_keeps_is ∙ first_keeps_is)
+        (subst (λ x. IsExamined t s.pivots middle.best between.best (narrowed second_keeps x) fraction.best.prices no) second_step_is (waits_so (λ f. IsExamined t s.pivots middle.best between.best (narrowed second_keeps second_step) f.best.prices no) here))
 
     nodes : between.nodes ≡ s.nodes
     nodes = ap (λ (m : Search). m.nodes) between_is ∙ ap (λ (m : Search). m.nodes) middle_is
@@ -161,7 +161,7 @@ module _ (t : Tables) (root : Domains) (s : Search) (rank : Rank) (search : IsSe
     grown : HasGrown t root s.pivots between.best (suc (suc (length all))) after.made.items
     grown =
         has_grown t root s.pivots s.best middle.best between.best all after.made.items search.chronicle rank s.waiting.keys fraction pair yes no search.told search.numbered search.right search.singles search.ranks next.least next.below
-        ready.within ready.state_is ready.worth_is (waits_so (λ f. pair ≡ leg_on f.leg f.choice) pair_is) list_grown first_part second_part
+        ready.within ready.state_is ready.worth_is (waits_so (λ f. pair ≡ f.pair) pair_is) list_grown first_part second_part
 
     pub split_search : IsSearch t root after
     split_search = record {

@@ -30,8 +30,8 @@ no_parent all parts b f state_is k origin from same =
 -- `d` is how the chronicle `c` goes on
 module _ (t : Tables) (root : Domains) (all grown : List Subproblem) (c d : Chronicle) (b : ℕ) (f : Fraction) (pair : Pair) (yes no : State)
     (numbered : (k : ℕ) → k < length all → IsNumbered t root all c k) (within : b < length all)
-    (state_is : (at all b).state ≡ state.Waiting f) (pair_is : pair ≡ leg_on f.leg f.choice) (pair_known : IsPair t (leg_on pair.leg pair.choice)) (is : IsGrown all grown b pair yes no)
-    (made_old : (k : ℕ) → k < length all → k ≢ b → d.made k ≡ c.made k) (made_here : d.made b ≡ record { keeps = (c.made b).keeps; node = node.Split f.leg f.choice f.prices f.mixed })
+    (state_is : (at all b).state ≡ state.Waiting f) (pair_is : pair ≡ f.pair) (pair_known : IsPair t (leg_on pair.leg pair.choice)) (is : IsGrown all grown b pair yes no)
+    (made_old : (k : ℕ) → k < length all → k ≢ b → d.made k ≡ c.made k) (made_here : d.made b ≡ record { keeps = (c.made b).keeps; node = node.Split f.pair.leg f.pair.choice f.best.prices f.best.mixed })
     (made_first : d.made (length all) ≡ record { keeps = narrowed (c.made b).keeps (step_into pair true); node = node_of yes })
     (made_second : d.made (suc (length all)) ≡ record { keeps = narrowed (c.made b).keeps (step_into pair false); node = node_of no })
     (keeps_old : (k : ℕ) → k < length all → (d.made k).keeps ≡ (c.made k).keeps) (parts_here : d.parts b ≡ length all) (parts_old : (k : ℕ) → k ≢ b → d.parts k ≡ c.parts k)
@@ -80,9 +80,9 @@ module _ (t : Tables) (root : Domains) (all grown : List Subproblem) (c d : Chro
   own_old k (state.Leaf leaf) less other has = tt
   own_old k (state.Stopped s) less other has = tt
   own_old k (state.Waiting g) less other has = tt
-  own_old k (state.Split g) less other has = parts_stand k (leg_on g.leg g.choice) less other has
+  own_old k (state.Split g) less other has = parts_stand k g.pair less other has
 
-  own_here : HasParts grown parts b (leg_on f.leg f.choice)
+  own_here : HasParts grown parts b f.pair
   own_here = record {
     within = omega (arith, parts_here, is.longer);
     with_pair = ap (λ i. (at grown i).origin) parts_here ∙ ap (λ s. s.origin) is.with_pair ∙ ap (λ p. Some (record { parent = b; step = step_into p true })) pair_is;

@@ -15,11 +15,11 @@ use Rattle.fleet_model.specs.declared.tables.Tables.{Tables}
 use Rattle.dual_bound.specs.Fractions.{parts_in, parts_of_leg}
 use Rattle.dual_bound.specs.Prices.{ArePrices}
 use Rattle.dual_bound.specs.Worth.{worth_of}
-use Rattle.dual_bound.specs.declared.mixed.Mixed.{Mixed}
 use Rattle.dual_bound.specs.declared.prices.Prices.{Prices}
 use Rattle.dual_bound.proofs.Duality.{ceiling_is_lower_bound, weak_duality}
 use Rattle.node_bounding.specs.Examined.{IsExamined, IsFoundHere}
-use Rattle.node_bounding.specs.Relaxed.{AreBest}
+use Rattle.node_bounding.specs.Relaxed.{IsBestPoint}
+use Rattle.price_lift.specs.declared.best_point.BestPoint.{BestPoint}
 use Rattle.node_bounding.specs.Subproblems.{IsPlan, cost_of, node_of}
 use Rattle.node_bounding.specs.declared.plans.Plan.{Plan}
 use Rattle.node_bounding.specs.declared.states.State.{State}
@@ -61,15 +61,16 @@ over_mixed w v m ps os ms some more less same =
     omega (arith, ints, fine, *ℤ_comm w os, *ℤ_comm v ps)
 
 -- the rounded worth of a part's best prices is no less than that of the whole's
-pub part_no_less : (t : Tables) (keeps : Domains) (step : Step) (prices own : Prices) (mixed : Mixed) (worth other : ℤ) → ArePrices t prices → AreBest t (narrowed keeps step) own mixed
-    → IsCeiling (worth_of t keeps prices 1) prices.scale worth → IsCeiling (worth_of t (narrowed keeps step) own 1) own.scale other → worth ≤ℤ other
-part_no_less t keeps step prices own mixed worth other proper best rounded own_rounded =
+pub part_no_less : (t : Tables) (keeps : Domains) (step : Step) (prices : Prices) (own : BestPoint) (worth other : ℤ) → ArePrices t prices → IsBestPoint t (narrowed keeps step) own
+    → IsCeiling (worth_of t keeps prices 1) prices.scale worth → IsCeiling (worth_of t (narrowed keeps step) own.prices 1) own.prices.scale other → worth ≤ℤ other
+part_no_less t keeps step prices own worth other proper best rounded own_rounded =
+    let mixed = own.mixed in
     let scale : pos 1 ≤ℤ mixed.scale = best.mixed_at.parts.scale.some in
     let parts : pos (parts_of_leg mixed) ≡ mixed.scale = omega (arith, ints, scale) in
     let dual = weak_duality t keeps prices (parts_of_leg mixed) 1 (parts_in mixed) proper (whole_plan t keeps step (parts_of_leg mixed) (parts_in mixed) best.mixed_at.plan) in
     let less : (mixed.scale *ℤ worth_of t keeps prices 1) ≤ℤ (prices.scale *ℤ mixed_cost t (parts_in mixed)) = rw (parts, one-*ℤ) at dual in
-    rounded_le (worth_of t keeps prices 1) prices.scale (worth_of t (narrowed keeps step) own 1) own.scale worth other proper.scale.some best.good.proper.scale.some
-    (over_mixed (worth_of t keeps prices 1) (worth_of t (narrowed keeps step) own 1) (mixed_cost t (parts_in mixed)) prices.scale own.scale mixed.scale best.good.proper.scale.some scale less best.value) rounded own_rounded
+    rounded_le (worth_of t keeps prices 1) prices.scale (worth_of t (narrowed keeps step) own.prices 1) own.prices.scale worth other proper.scale.some best.good.proper.scale.some
+    (over_mixed (worth_of t keeps prices 1) (worth_of t (narrowed keeps step) own.prices 1) (mixed_cost t (parts_in mixed)) prices.scale own.prices.scale mixed.scale best.good.proper.scale.some scale less best.value) rounded own_rounded
 
 -- ---- plans that are found in a part
 -- they cost no less than the rounded worth of the whole

@@ -48,9 +48,9 @@ module _ (t : Tables) (root : Domains) (pivots : Option ℕ) (best mid after : O
     (told : IsTold t best (length all) c) (numbered : (k : ℕ) → k < length all → IsNumbered t root all c k)
     (right : (final : Option ℤ) → IsNoMore (cost_of best) final → (k : ℕ) → k < length all → IsRightAt t pivots final all c k) (singles : (k : ℕ) → k < length all → IsSingle (at all k).state)
     (ranked : AreRanks all ranks) (least : All (IsNoLater rank) ranks) (below : IfSome (cost_of best) (λ cost. rank.worth <ℤ cost)) (within : rank.number < length all)
-    (state_is : (at all rank.number).state ≡ state.Waiting f) (worth_is : f.worth ≡ rank.worth) (pair_is : pair ≡ leg_on f.leg f.choice) (is : IsGrown all grown rank.number pair yes no)
-    (one : IsExamined t pivots best mid (narrowed (c.made rank.number).keeps (step_into pair true)) f.prices yes)
-    (two : IsExamined t pivots mid after (narrowed (c.made rank.number).keeps (step_into pair false)) f.prices no) where
+    (state_is : (at all rank.number).state ≡ state.Waiting f) (worth_is : f.worth ≡ rank.worth) (pair_is : pair ≡ f.pair) (is : IsGrown all grown rank.number pair yes no)
+    (one : IsExamined t pivots best mid (narrowed (c.made rank.number).keeps (step_into pair true)) f.best.prices yes)
+    (two : IsExamined t pivots mid after (narrowed (c.made rank.number).keeps (step_into pair false)) f.best.prices no) where
   abbrev n : ℕ
   n = length all
 
@@ -62,7 +62,7 @@ module _ (t : Tables) (root : Domains) (pivots : Option ℕ) (best mid after : O
 
   -- ---- the chronicle goes on
   abbrev here : Worked
-  here = record { keeps = keeps; node = node.Split f.leg f.choice f.prices f.mixed }
+  here = record { keeps = keeps; node = node.Split f.pair.leg f.pair.choice f.best.prices f.best.mixed }
 
   abbrev first : Worked
   first = record { keeps = narrowed keeps (step_into pair true); node = node_of yes }
@@ -131,14 +131,14 @@ module _ (t : Tables) (root : Domains) (pivots : Option ℕ) (best mid after : O
   fraction : IsFractional t keeps f
   fraction = subst (λ s. IsRight t pivots (cost_of best) keeps (prices_above t c.made (at all b).origin) s) state_is (right (cost_of best) (no_more_same (cost_of best)) b within)
 
-  old_node : (c.made b).node ≡ node.Open f.prices (cause.Nodes f.mixed)
+  old_node : (c.made b).node ≡ node.Open f.best.prices (cause.Nodes f.best.mixed)
   old_node = (numbered b within).node ∙ ap node_of state_is
 
   new_state : (at grown b).state ≡ state.Split f
   new_state = ap (λ s. s.state) is.split ∙ ap split_state state_is
 
   -- a rounded worth of its prices
-  its_worth : (worth : ℤ) → IsCeiling (worth_of t keeps f.prices 1) f.prices.scale worth → worth ≡ f.worth
+  its_worth : (worth : ℤ) → IsCeiling (worth_of t keeps f.best.prices 1) f.best.prices.scale worth → worth ≡ f.worth
   its_worth worth rounded = one_ceiling _ _ worth f.worth fraction.split.best.good.proper.scale.some rounded fraction.rounded
 
   pair_known : IsPair t (leg_on pair.leg pair.choice)
@@ -146,7 +146,7 @@ module _ (t : Tables) (root : Domains) (pivots : Option ℕ) (best mid after : O
 
   -- ---- those that wait
   -- another subproblem that waits is behind the one that is next
-  behind : (k : ℕ) (g : Fraction) (worth : ℤ) → k < n → k ≢ b → (at all k).state ≡ state.Waiting g → IsCeiling (worth_of t (c.made k).keeps g.prices 1) g.prices.scale worth → IsNextBefore f.worth b worth k
+  behind : (k : ℕ) (g : Fraction) (worth : ℤ) → k < n → k ≢ b → (at all k).state ≡ state.Waiting g → IsCeiling (worth_of t (c.made k).keeps g.best.prices 1) g.best.prices.scale worth → IsNextBefore f.worth b worth k
   behind k g worth less other waits rounded = by_rank (All-contains (IsNoLater rank) ranks (record { worth = worth; number = k }) least there)
     where
       own : IsFractional t (c.made k).keeps g
@@ -168,7 +168,7 @@ module _ (t : Tables) (root : Domains) (pivots : Option ℕ) (best mid after : O
     where
       at_here : As t (best_before found b) (made b) (found b)
       at_here =
-          let old : IsMadeAs t (best_before c.found b) keeps (node.Open f.prices (cause.Nodes f.mixed)) (c.found b) = subst (λ m. IsMadeAs t (best_before c.found b) keeps m (c.found b)) old_node (told.each b within) in
+          let old : IsMadeAs t (best_before c.found b) keeps (node.Open f.best.prices (cause.Nodes f.best.mixed)) (c.found b) = subst (λ m. IsMadeAs t (best_before c.found b) keeps m (c.found b)) old_node (told.each b within) in
           moved t (best_before found b) (best_before found b) (made b) here (found b) (c.found b) refl made_here (found_old b within) old.1
 
       at_old : (k : ℕ) → k < n → k ≢ b → As t (best_before found k) (made k) (found k)
@@ -185,7 +185,7 @@ module _ (t : Tables) (root : Domains) (pivots : Option ℕ) (best mid after : O
   waited : (j k : ℕ) (worth : ℤ) → j < n → k < n → WaitsAs t (made j).keeps (made j).node (parts j) k worth → WaitsAs t (c.made j).keeps (c.made j).node (c.parts j) k worth
   waited j k worth less early waits = elim (cases_eq j b) [
     | inl same ↦
-        let now : WaitsAs t keeps (node.Split f.leg f.choice f.prices f.mixed) (parts b) k worth = subst (λ w. WaitsAs t w.keeps w.node (parts b) k worth) made_here (subst (λ i. WaitsAs t (made i).keeps (made i).node (parts i) k worth) same waits) in
+        let now : WaitsAs t keeps (node.Split f.pair.leg f.pair.choice f.best.prices f.best.mixed) (parts b) k worth = subst (λ w. WaitsAs t w.keeps w.node (parts b) k worth) made_here (subst (λ i. WaitsAs t (made i).keeps (made i).node (parts i) k worth) same waits) in
         subst (λ i. WaitsAs t (c.made i).keeps (c.made i).node (c.parts i) k worth) (sym same) (subst (λ m. WaitsAs t keeps m (c.parts b) k worth) (sym old_node) now.1)
     | inr other ↦ subst (λ w. WaitsAs t w.keeps w.node (c.parts j) k worth) (made_old j less other) (subst (λ p. WaitsAs t (made j).keeps (made j).node p k worth) (parts_old j other) waits)
   ]
@@ -223,34 +223,34 @@ module _ (t : Tables) (root : Domains) (pivots : Option ℕ) (best mid after : O
   waits_behind j (state.Stopped s) worth less other own single waits = absurd (stopped_waits_not t (c.made j).keeps s.prices s.why worth single waits)
   waits_behind j (state.Waiting g) worth less other own single waits = behind j g worth less other own waits
   waits_behind j (state.Split g) worth less other own single waits =
-      let turn : IsSplitInTurn t n c.made c.found c.parts j g.leg g.choice g.prices = subst (λ m. IsInTurn t n c.made c.found c.parts j m) ((numbered j less).node ∙ ap node_of own) (told.turns j less) in
+      let turn : IsSplitInTurn t n c.made c.found c.parts j g.pair.leg g.pair.choice g.best.prices = subst (λ m. IsInTurn t n c.made c.found c.parts j m) ((numbered j less).node ∙ ap node_of own) (told.turns j less) in
       absurd (omega (arith, turn.within, waits.0))
 
-  below_now : (x : Option ℤ) → IfSome x (λ cost. rank.worth <ℤ cost) → IsBelowBest t keeps f.prices x
+  below_now : (x : Option ℤ) → IfSome x (λ cost. rank.worth <ℤ cost) → IsBelowBest t keeps f.best.prices x
   below_now None less = tt
   below_now (Some x) less = record { least = f.worth; rounded = fraction.rounded; short = omega (arith, ints, less, worth_is) }
 
-  turn_here : IsSplitInTurn t (suc (suc n)) made found parts b f.leg f.choice f.prices
+  turn_here : IsSplitInTurn t (suc (suc n)) made found parts b f.pair.leg f.pair.choice f.best.prices
   turn_here =
       let own : (made b).keeps ≡ keeps = ap (λ w. w.keeps) made_here in
-      let step : (taken : Bool) → narrowed keeps (step_into pair taken) ≡ part keeps f.leg f.choice taken = λ taken. ap (λ p. narrowed keeps (step_into p taken)) pair_is in
+      let step : (taken : Bool) → narrowed keeps (step_into pair taken) ≡ part keeps f.pair.leg f.pair.choice taken = λ taken. ap (λ p. narrowed keeps (step_into p taken)) pair_is in
       record {
         later = omega (arith, parts_here, within);
         within = omega (arith, parts_here);
-        with_pair = ap (λ i. (made i).keeps) parts_here ∙ ap (λ w. w.keeps) made_first ∙ step true ∙ ap (λ d. part d f.leg f.choice true) (sym own);
-        without = ap (λ i. (made (suc i)).keeps) parts_here ∙ ap (λ w. w.keeps) made_second ∙ step false ∙ ap (λ d. part d f.leg f.choice false) (sym own);
-        below = subst (λ i. IsBelowBest t (made b).keeps f.prices (best_before found i)) (sym parts_here)
-            (subst (λ x. IsBelowBest t (made b).keeps f.prices x) (sym best_now) (subst (λ d. IsBelowBest t d f.prices (cost_of best)) (sym own) (below_now (cost_of best) below)));
+        with_pair = ap (λ i. (made i).keeps) parts_here ∙ ap (λ w. w.keeps) made_first ∙ step true ∙ ap (λ d. part d f.pair.leg f.pair.choice true) (sym own);
+        without = ap (λ i. (made (suc i)).keeps) parts_here ∙ ap (λ w. w.keeps) made_second ∙ step false ∙ ap (λ d. part d f.pair.leg f.pair.choice false) (sym own);
+        below = subst (λ i. IsBelowBest t (made b).keeps f.best.prices (best_before found i)) (sym parts_here)
+            (subst (λ x. IsBelowBest t (made b).keeps f.best.prices x) (sym best_now) (subst (λ d. IsBelowBest t d f.best.prices (cost_of best)) (sym own) (below_now (cost_of best) below)));
         first = λ j worth another before rounded waits.
             let soon : j < n = omega (arith, before, parts_here) in
-            let is_worth : worth ≡ f.worth = its_worth worth (subst (λ d. IsCeiling (worth_of t d f.prices 1) f.prices.scale worth) own rounded) in
+            let is_worth : worth ≡ f.worth = its_worth worth (subst (λ d. IsCeiling (worth_of t d f.best.prices 1) f.best.prices.scale worth) own rounded) in
             subst (λ w. IsNextBefore w b another j) (sym is_worth) (by_place j another soon (subst (λ i. WaitsAs t (made j).keeps (made j).node (parts j) i another) parts_here waits));
       }
     where
       by_place : (j : ℕ) (worth : ℤ) → j < n → WaitsAs t (made j).keeps (made j).node (parts j) n worth → IsNextBefore f.worth b worth j
       by_place j worth less waits = elim (cases_eq j b) [
         | inl same ↦
-            let now : WaitsAs t keeps (node.Split f.leg f.choice f.prices f.mixed) (parts b) n worth = subst (λ w. WaitsAs t w.keeps w.node (parts b) n worth) made_here (subst (λ i. WaitsAs t (made i).keeps (made i).node (parts i) n worth) same waits) in
+            let now : WaitsAs t keeps (node.Split f.pair.leg f.pair.choice f.best.prices f.best.mixed) (parts b) n worth = subst (λ w. WaitsAs t w.keeps w.node (parts b) n worth) made_here (subst (λ i. WaitsAs t (made i).keeps (made i).node (parts i) n worth) same waits) in
             absurd (omega (arith, now.0, parts_here))
         | inr other ↦
             let old : WaitsAs t (c.made j).keeps (c.made j).node (c.parts j) n worth = subst (λ w. WaitsAs t w.keeps w.node (c.parts j) n worth) (made_old j less other) (subst (λ p. WaitsAs t (made j).keeps (made j).node p n worth) (parts_old j other) waits) in
@@ -285,12 +285,12 @@ module _ (t : Tables) (root : Domains) (pivots : Option ℕ) (best mid after : O
       raised c.level worth level_below ((subst (λ m. IsAtLevel t c.level (c.made k).keeps m) ((numbered k less).node ∙ ap node_of own) (told.levels k less)) worth rounded)
 
   -- a part that waits has a rounded worth that is no less
-  level_part : (taken : Bool) (s : State) (before end : Option Plan) → IsExamined t pivots before end (narrowed keeps (step_into pair taken)) f.prices s → IsAtLevel t (Some f.worth) (narrowed keeps (step_into pair taken)) (node_of s)
+  level_part : (taken : Bool) (s : State) (before end : Option Plan) → IsExamined t pivots before end (narrowed keeps (step_into pair taken)) f.best.prices s → IsAtLevel t (Some f.worth) (narrowed keeps (step_into pair taken)) (node_of s)
   level_part taken (state.Leaf leaf) before end made_as = leaf_level t _ (Some f.worth) leaf made_as.fresh
   level_part taken (state.Stopped s) before end made_as = stopped_level t _ (Some f.worth) s.prices s.why made_as.fresh
   level_part taken (state.Waiting g) before end made_as = λ worth rounded.
       let own : IsFractional t (narrowed keeps (step_into pair taken)) g = made_as.right (cost_of end) (no_more_same (cost_of end)) in
-      part_no_less t keeps (step_into pair taken) f.prices g.prices g.mixed f.worth worth fraction.split.best.good.proper own.split.best fraction.rounded rounded
+      part_no_less t keeps (step_into pair taken) f.best.prices g.best f.worth worth fraction.split.best.good.proper own.split.best fraction.rounded rounded
   level_part taken (state.Split g) before end made_as = absurd made_as.fresh
 
   levels_grown : (k : ℕ) → k < suc (suc n) → IsAtLevel t (Some f.worth) (made k).keeps (made k).node
@@ -302,8 +302,8 @@ module _ (t : Tables) (root : Domains) (pivots : Option ℕ) (best mid after : O
   cost_grown : IfSome (cost_of after) (λ cost. f.worth ≤ℤ cost)
   cost_grown =
       let proper = fraction.split.best.good.proper in
-      cost_no_less t pivots keeps (step_into pair false) f.prices f.prices f.worth mid after no proper fraction.rounded
-      (cost_no_less t pivots keeps (step_into pair true) f.prices f.prices f.worth best mid yes proper fraction.rounded (not_above (cost_of best) below) one) two
+      cost_no_less t pivots keeps (step_into pair false) f.best.prices f.best.prices f.worth mid after no proper fraction.rounded
+      (cost_no_less t pivots keeps (step_into pair true) f.best.prices f.best.prices f.worth best mid yes proper fraction.rounded (not_above (cost_of best) below) one) two
     where
       not_above : (x : Option ℤ) → IfSome x (λ cost. rank.worth <ℤ cost) → IfSome x (λ cost. f.worth ≤ℤ cost)
       not_above None less = tt
@@ -325,7 +325,7 @@ module _ (t : Tables) (root : Domains) (pivots : Option ℕ) (best mid after : O
       at_old (Some plan) old = elim (cases_eq old.number b) [
         | inl same ↦
             let end : IsEndOf t plan.assignment plan.cost (c.made b) = subst (λ k. IsEndOf t plan.assignment plan.cost (c.made k)) same old.end in
-            let none : IsEndOf t plan.assignment plan.cost (record { keeps = keeps; node = node.Open f.prices (cause.Nodes f.mixed) }) = record { kept = end.kept; ends = subst (EndsAt t keeps plan.cost) old_node end.ends } in
+            let none : IsEndOf t plan.assignment plan.cost (record { keeps = keeps; node = node.Open f.best.prices (cause.Nodes f.best.mixed) }) = record { kept = end.kept; ends = subst (EndsAt t keeps plan.cost) old_node end.ends } in
             absurd none.ends
         | inr other ↦ placed plan old.number (c.made old.number) (omega (arith, old.within)) (made_old old.number old.within other) old.end
       ]
@@ -350,7 +350,7 @@ module _ (t : Tables) (root : Domains) (pivots : Option ℕ) (best mid after : O
   above_old k None less from = refl
   above_old k (Some origin) less from = ap (λ w. prices_in t w.node) (made_old origin.parent (omega (arith, from.earlier, less)) (no_parent all c.parts b f state_is k origin from))
 
-  above_part : (taken : Bool) → prices_above t made (Some (record { parent = b; step = step_into pair taken })) ≡ f.prices
+  above_part : (taken : Bool) → prices_above t made (Some (record { parent = b; step = step_into pair taken })) ≡ f.best.prices
   above_part taken = ap (λ w. prices_in t w.node) made_here
 
   module _ (final : Option ℤ) (less_than : IsNoMore (cost_of after) final) where
@@ -372,7 +372,7 @@ module _ (t : Tables) (root : Domains) (pivots : Option ℕ) (best mid after : O
         subst (λ s. IsRight t pivots final (made b).keeps (prices_above t made (at grown b).origin) s) (sym new_state) (subst (λ d. IsFractional t d f) (sym (keeps_old b within)) fraction)
 
     right_part : (k : ℕ) (taken : Bool) (s : State) → at grown k ≡ record { origin = Some (record { parent = b; step = step_into pair taken }); state = s } → made k ≡ record { keeps = narrowed keeps (step_into pair taken); node = node_of s }
-        → IsRight t pivots final (narrowed keeps (step_into pair taken)) f.prices s → IsRightAt t pivots final grown goes_on k
+        → IsRight t pivots final (narrowed keeps (step_into pair taken)) f.best.prices s → IsRightAt t pivots final grown goes_on k
     right_part k taken s there same is_right =
         subst (λ x. IsRight t pivots final (made k).keeps (prices_above t made x.origin) x.state) (sym there)
         (subst (λ w. IsRight t pivots final w.keeps (prices_above t made (Some (record { parent = b; step = step_into pair taken }))) s) (sym same)

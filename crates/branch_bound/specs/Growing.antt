@@ -33,14 +33,14 @@ leaf_by cost worth prices why = if is_closing cost worth then tree.Priced prices
 abbrev pub tree_by : Option ℤ → State → Tree
 tree_by cost (state.Leaf leaf) = leaf
 tree_by cost (state.Stopped s) = leaf_by cost s.worth s.prices s.why
-tree_by cost (state.Waiting f) = leaf_by cost f.worth f.prices (cause.Nodes f.mixed)
-tree_by cost (state.Split f) = leaf_by cost f.worth f.prices (cause.Nodes f.mixed)
+tree_by cost (state.Waiting f) = leaf_by cost f.worth f.best.prices (cause.Nodes f.best.mixed)
+tree_by cost (state.Split f) = leaf_by cost f.worth f.best.prices (cause.Nodes f.best.mixed)
 
 -- a subproblem was split, and this is its tree with those of its parts
 pub record IsJoined (f : Fraction) (with_pair without : Tree) (joined : State) : Type 0 where
   pub yes_box : Box Tree Global
   pub no_box : Box Tree Global
-  pub is : joined ≡ state.Leaf (Split f.leg f.choice f.prices f.mixed yes_box no_box)
+  pub is : joined ≡ state.Leaf (Split f.pair.leg f.pair.choice f.best.prices f.best.mixed yes_box no_box)
   pub yes_is : yes_box.value ≡ with_pair
   pub no_is : no_box.value ≡ without
 

@@ -85,7 +85,7 @@ abbrev pub HasItsParts : List Subproblem → (ℕ → ℕ) → ℕ → State →
 HasItsParts all parts k (state.Leaf leaf) = ⊤
 HasItsParts all parts k (state.Stopped s) = ⊤
 HasItsParts all parts k (state.Waiting f) = ⊤
-HasItsParts all parts k (state.Split f) = HasParts all parts k (leg_on f.leg f.choice)
+HasItsParts all parts k (state.Split f) = HasParts all parts k f.pair
 
 -- a subproblem is linked to what it is a part of, and to its own parts
 pub record IsLinked (all : List Subproblem) (parts : ℕ → ℕ) (k : ℕ) : Type 0 where

@@ -26,7 +26,7 @@ abbrev pub IsSplitBy : Step → State → Type 0
 IsSplitBy step (state.Leaf leaf) = ⊥
 IsSplitBy step (state.Stopped s) = ⊥
 IsSplitBy step (state.Waiting f) = ⊥
-IsSplitBy step (state.Split f) = (step.leg ≡ f.leg) × (step.choice ≡ f.choice)
+IsSplitBy step (state.Split f) = (step.leg ≡ f.pair.leg) × (step.choice ≡ f.pair.choice)
 
 -- a part was made after the subproblem that it is a part of, by a step of a pair of the tables
 pub record IsLater (t : Tables) (k : ℕ) (origin : Origin) : Type 0 where

@@ -2,7 +2,7 @@
 use Rattle.std.specs.Prelude.{◌≡◌, ℕ, ◌<◌, ◌≤◌, List, true, false, All, Any, Option, Some, None, IfSome, ℤ, ◌≤ℤ◌, ◌<ℤ◌, ⊤}
 use Rattle.std.specs.List.{Contains}
 use Rattle.fleet_model.specs.Kept.{all_pairs}
-use Rattle.fleet_model.specs.Legal.{IsAssignment, IsLegal, total_cost}
+use Rattle.fleet_model.specs.Legal.{IsLegal, total_cost}
 use Rattle.fleet_model.specs.declared.tables.Tables.{Tables}
 use Rattle.dual_bound.specs.Bound.{IsBound, IsInfeasible, IsLowerBound}
 use Rattle.dual_bound.specs.Leaves.{has_open, open_nodes, open_pivots, splits_in}

@@ -128,13 +128,10 @@ fn split_next<S: EndFinder<Program>>(
 // The pair by which a subproblem that waits is split.
 fn split_pair(subproblem: &Subproblem) -> Pair
     requires { WaitsWith (λ f. ⊤) subproblem.now.state }
-    ensures { WaitsWith (λ f. result ≡ leg_on f.leg f.choice) subproblem.now.state }
+    ensures { WaitsWith (λ f. result ≡ f.pair) subproblem.now.state }
 {
     match &subproblem.state {
-        State::Waiting(fraction) => Pair {
-            leg: fraction.leg,
-            choice: fraction.choice,
-        },
+        State::Waiting(fraction) => fraction.pair,
         State::Leaf(_) | State::Stopped(_) | State::Split(_) => unreachable!(),
     }
 }
@@ -150,12 +147,12 @@ fn part<S: EndFinder<Program>>(
 ) -> Result<State, NoMemory>
     requires best { IfSome search.old.best (IsPlan tables.now) }
     requires number { number < length search.old.made.items }
-    requires waits { WaitsWith (λ f. AreGood tables.now f.prices) (at search.old.made.items number).state }
+    requires waits { WaitsWith (λ f. AreGood tables.now f.best.prices) (at search.old.made.items number).state }
     requires allowed { KeepAllowed tables.now (kept_by kept.old) }
     requires pair { IsPair tables.now (leg_on step.leg step.choice) }
     ensures same { OnOk result (kept.new ≡ kept.old) }
     ensures search { OnOk result (search.new ≡ record search.old { best = search.new.best }) }
-    ensures examined { IfOk result (λ made. WaitsWith (λ f. IsExamined tables.now search.old.pivots search.old.best search.new.best (narrowed (kept_by kept.old) step) f.prices made) (at search.old.made.items number).state) }
+    ensures examined { IfOk result (λ made. WaitsWith (λ f. IsExamined tables.now search.old.pivots search.old.best search.new.best (narrowed (kept_by kept.old) step) f.best.prices made) (at search.old.made.items number).state) }
 {
     let undo = kept.narrow(step);
     let made = match &search.made[number].state {
@@ -165,7 +162,7 @@ fn part<S: EndFinder<Program>>(
             search.pivots,
             &mut search.best,
             kept,
-            &fraction.prices,
+            &fraction.best.prices,
         )?,
         State::Leaf(_) | State::Stopped(_) | State::Split(_) => unreachable!(),
     };

@@ -67,10 +67,10 @@ fn joined(alloc: Global, state: State, with_pair: Tree, without: Tree) -> Result
 {
     match state {
         State::Split(fraction) => Ok(State::Leaf(Tree::Split {
-            leg: fraction.leg,
-            choice: fraction.choice,
-            prices: fraction.prices,
-            mixed: fraction.mixed,
+            leg: fraction.pair.leg,
+            choice: fraction.pair.choice,
+            prices: fraction.best.prices,
+            mixed: fraction.best.mixed,
             yes: Box::new(alloc, with_pair)?,
             no: Box::new(alloc, without)?,
         })),
@@ -87,8 +87,8 @@ fn tree_of(state: State, best: &Option<Plan>) -> Tree
         State::Leaf(tree) => tree,
         State::Stopped(stopped) => leaf(stopped.prices, stopped.why, &stopped.worth, best),
         State::Waiting(fraction) | State::Split(fraction) => {
-            let why = Cause::Nodes(fraction.mixed);
-            leaf(fraction.prices, why, &fraction.worth, best)
+            let why = Cause::Nodes(fraction.best.mixed);
+            leaf(fraction.best.prices, why, &fraction.worth, best)
         }
     }
 }

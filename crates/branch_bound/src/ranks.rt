@@ -1,7 +1,7 @@
 //! In which order subproblems that wait are split.
 
 /// The place of a subproblem among those that wait: by its rounded worth, and at a tie by its number.
-#[derive(Clone, Copy, Debug, PartialEq, Eq, PartialOrd, Ord)]
+#[derive(Clone, Copy, PartialEq, Eq, PartialOrd, Ord)]
 pub(crate) struct Rank {
     /// The worth of its prices, rounded up, in cost units.
     pub(crate) worth: i128,

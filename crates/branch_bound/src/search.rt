@@ -4,7 +4,7 @@ use node_bounding::Plan;
 use std::collections::BTreeSet;
 
 /// Where a search stands.
-#[derive(Debug, Drop)]
+#[derive(Drop)]
 pub(crate) struct Search {
     /// How many splits are allowed.
     pub(crate) nodes: u64,

@@ -37,7 +37,7 @@ pub fn solve<S: EndFinder<Program>>(
 }
 
 /// The cheapest plan that a search found, and its tree.
-#[derive(Debug, Drop)]
+#[derive(Drop)]
 pub(crate) struct Found {
     pub(crate) best: Option<Plan>,
     pub(crate) tree: Tree,

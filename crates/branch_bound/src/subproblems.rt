@@ -11,7 +11,7 @@ use node_bounding::State;
 use std::mem;
 
 /// What a subproblem is a part of.
-#[derive(Clone, Copy, Debug)]
+#[derive(Clone, Copy)]
 pub(crate) struct Origin {
     /// The number of the subproblem that was split.
     pub(crate) parent: usize,
@@ -20,7 +20,7 @@ pub(crate) struct Origin {
 }
 
 /// A subproblem. Which pairs it keeps is found by walking up to the first, so the list stays small.
-#[derive(Debug, Drop)]
+#[derive(Drop)]
 pub(crate) struct Subproblem {
     /// What it is a part of; the first of all is a part of nothing.
     pub(crate) origin: Option<Origin>,

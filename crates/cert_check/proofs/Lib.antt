@@ -1,5 +1,5 @@
-pub mod Asks
 pub mod ChargeEntries
+pub mod Found
 pub mod MixedCosts
 pub mod NodeRules
 pub mod OneAsked
@@ -9,8 +9,10 @@ pub mod OtherSizes
 pub mod OwnNumbers
 pub mod PriceSteps
 pub mod SameTrees
+pub mod Sized
 pub mod SoleAssignments
 pub mod SplitsAbove
 pub mod TreeBounds
 pub mod TreeSizes
+pub mod Visits
 pub mod Walks

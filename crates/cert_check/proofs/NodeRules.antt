@@ -14,7 +14,8 @@ use Rattle.dual_bound.specs.declared.mixed.Mixed.{Mixed}
 use Rattle.dual_bound.specs.declared.prices.Prices.{Prices}
 use Rattle.dual_bound.specs.Fractions.{AreParts, IsMixedAt}
 use Rattle.cert_check.specs.Nodes.{Node, prices_at}
-use Rattle.cert_check.specs.Rules.{HasScale, IsLegalAt, IsSoleLegal, IsSound, KeepsBefore, Reaches}
+use Rattle.plan_judge.specs.Sizes.{IsLegalAt}
+use Rattle.cert_check.specs.Rules.{HasScale, IsSoleLegal, IsSound, KeepsBefore, Reaches}
 use Rattle.cert_check.specs.declared.rules.Rule.TheVariants as rule
 
 -- prices are proper where they keep the first four rules

@@ -19,7 +19,7 @@ use Rattle.cert_check.specs.declared.what_if.WhatIf.TheVariants as what
 use Rattle.cert_check.proofs.OneVerdict.{IsSingle, bound_once}
 use Rattle.cert_check.proofs.OtherSizes.{sole_of}
 use Rattle.cert_check.proofs.SameTrees.{Same, SameNode, all_same, bound_too, same_by_nodes, same_keeps, same_node_back, same_nodes}
-use Rattle.cert_check.proofs.TreeBounds.{second_all}
+use Rattle.cert_check.proofs.Walks.{second_all}
 
 module _ (u : Tables) where
   stands_too : (n m : Node) → SameNode u None n m → Stands u n → Stands u m

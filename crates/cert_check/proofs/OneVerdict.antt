@@ -25,8 +25,7 @@ use Rattle.cert_check.specs.declared.rules.Rule.{Rule}
 use Rattle.cert_check.specs.declared.rules.Rule.TheVariants as rule
 use Rattle.cert_check.proofs.SameTrees.{Same, SameNode, bound_too, same_by_nodes, same_keeps, same_node_back, same_nodes, same_sound, sound_too}
 use Rattle.cert_check.proofs.SoleAssignments.{sole_has_one}
-use Rattle.cert_check.proofs.TreeBounds.{first_all, second_all}
-use Rattle.cert_check.proofs.Walks.{node}
+use Rattle.cert_check.proofs.Walks.{first_all, node, second_all}
 
 -- ---- one bound
 

@@ -43,7 +43,7 @@ some_and (Some x) P Q each holds = each x holds
 
 -- settings with so many days
 abbrev with_days : ℕ → Settings → Settings
-with_days days settings = record { day_start = settings.day_start; through_max = settings.through_max; period = days }
+with_days days settings = record settings { period = days }
 
 -- ---- between settings of as many days
 module _ (s : List Station) (f : List Fleet) (l : List Leg) (c : List PairCost) (h : List Through) (g : List Departure) (windows optional : Bool) (days : ℕ) where

@@ -13,7 +13,8 @@ use Rattle.dual_bound.specs.declared.trees.Tree.TheVariants as tree
 use Rattle.dual_bound.proofs.OtherSizes.{prices_same}
 use Rattle.cert_check.specs.Nodes.{Node, nodes_in, nodes_of, prices_at}
 use Rattle.cert_check.specs.OtherSizes.{Stands}
-use Rattle.cert_check.specs.Rules.{IsLegalAt, IsSoundBut}
+use Rattle.plan_judge.specs.Sizes.{IsLegalAt}
+use Rattle.cert_check.specs.Rules.{IsSoundBut}
 use Rattle.cert_check.specs.Splits.{AreSoundButPriced}
 use Rattle.cert_check.specs.Verdicts.{BoundsAll}
 use Rattle.cert_check.specs.declared.rules.Rule.TheVariants as rule

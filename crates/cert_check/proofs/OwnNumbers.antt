@@ -15,7 +15,7 @@ use Rattle.cert_check.specs.declared.rules.Rule.TheVariants as rule
 use Rattle.cert_check.specs.declared.what_if.WhatIf.{WhatIf}
 use Rattle.cert_check.specs.declared.what_if.WhatIf.TheVariants as what
 use Rattle.cert_check.proofs.OneVerdict.{one_bound}
-use Rattle.cert_check.proofs.TreeBounds.{second_all}
+use Rattle.cert_check.proofs.Walks.{second_all}
 
 own_size : (t : Tables) (fleet : ℕ) → IsOtherSize t fleet (fleet_of t fleet).aircraft t
 own_size t fleet = record { stations = refl; fleets = sym (set-get_or t.fleets fleet no_fleet); legs = refl; costs = refl; throughs = refl; settings = refl; departures = refl; windows = refl; optional = refl }

@@ -1,10 +1,9 @@
 -- Weak duality over a tree, of whose nodes three rules alone are asked: its bound is no more than the cost of any legal
 -- assignment.
-use Rattle.std.proofs.Common.{◌≡◌, ℕ, Bool, true, false, not, ◌==◌, if◌then◌else◌, List, [], ◌∷◌, ◌++◌, All, length-append, Option, Some, None, IfSome, MatchOption, ℤ, ◌≤ℤ◌, refl, sym, ◌∙◌, ap, subst, arith}
+use Rattle.std.proofs.Common.{◌≡◌, ℕ, Bool, true, false, not, ◌==◌, if◌then◌else◌, List, [], All, Option, Some, None, IfSome, MatchOption, ℤ, ◌≤ℤ◌, refl, sym, ◌∙◌, ap, subst, arith}
 use Rattle.std.proofs.lemmas.Int.{ints}
 use Rattle.std.proofs.lemmas.Bool.Decides.{nat_tests}
 use Rattle.std.proofs.lemmas.List.Elements.{All-head, All-tail, All-weaker}
-use Rattle.std.proofs.lemmas.List.{get_or_append_left}
 use Rattle.std.specs.Prelude.{int_le, ⊤}
 use Rattle.sums.proofs.Tests.{both_true}
 use Rattle.fleet_model.specs.Counts.{choice_at, pair_at}
@@ -23,7 +22,7 @@ use Rattle.cert_check.specs.Rules.{HasItsPairs, IsRefutedAt, IsSound}
 use Rattle.cert_check.specs.Verdicts.{AreSound, BoundsAll}
 use Rattle.cert_check.specs.declared.rules.Rule.TheVariants as rule
 use Rattle.cert_check.proofs.NodeRules.{sound_proper}
-use Rattle.cert_check.proofs.Walks.{node}
+use Rattle.cert_check.proofs.Walks.{first_all, node, second_all}
 
 -- a bare leaf keeps no pair on its leg
 abbrev pub IsBareAt : Tables → Domains → Tree → Type 0
@@ -90,14 +89,6 @@ module _ (t : Tables) (a : List ℕ) where
 
       stays : (l : ℕ) → leaves (record { leg = leg; choice = choice; yes = taken }) (pair_at a l) ≡ true
       stays l = by_leg l (l == leg) (λ same. grind (arith, nat_tests))
-
--- each of two lists
-pub first_all : (P : Node → Type 0) (xs ys : List Node) → All P (xs ++ ys) → All P xs
-first_all P xs ys all k d below = subst P (get_or_append_left xs ys d k below) (all k d (omega (arith, length-append xs ys)))
-
-pub second_all : (P : Node → Type 0) (xs ys : List Node) → All P (xs ++ ys) → All P ys
-second_all P [] ys all = all
-second_all P (x ∷ xs) ys all = second_all P xs ys (All-tail P x (xs ++ ys) all)
 
 module _ (t : Tables) (a : List ℕ) (legal : IsLegal t a) where
   -- a leaf with prices

@@ -1,4 +1,3 @@
-pub mod Asking
 pub mod MixedRules
 pub mod Nodes
 pub mod OtherSizes
@@ -6,4 +5,5 @@ pub mod PriceRules
 pub mod Rules
 pub mod Splits
 pub mod Verdicts
+pub mod Visitors
 pub mod Walking

@@ -2,7 +2,7 @@
 use Rattle.std.specs.Prelude.{◌≡◌, ◌≢◌, ℕ, ◌<◌, List, ◌∷◌, ◌++◌, All, length, ⊤, ◌⊎◌, IsTrue, true, false, Option, IfSome, IsSomeAnd, ℤ, pos, ◌≤ℤ◌, ◌<ℤ◌}
 use Rattle.frac_row.specs.Ratio.{IsCeiling}
 use Rattle.fleet_model.specs.Kept.{Domains, IsBare, IsKeptAssignment, IsSole, kept_on}
-use Rattle.fleet_model.specs.Legal.{IsLegal, total_cost}
+use Rattle.fleet_model.specs.Legal.{IsLegal}
 use Rattle.fleet_model.specs.Schedule.{leg_on}
 use Rattle.fleet_model.specs.declared.tables.Tables.{Tables}
 use Rattle.dual_bound.specs.Bound.{part}
@@ -49,11 +49,6 @@ pub record Reaches (t : Tables) (keeps : Domains) (prices : Prices) (cost : ℤ)
 abbrev pub IsPricedAt : Tables → Option ℤ → Domains → Tree → Type 0
 IsPricedAt t cost keeps (tree.Priced prices) = IsSomeAnd cost (Reaches t keeps prices)
 IsPricedAt t cost keeps other = ⊤
-
--- an assignment is legal, and costs this
-pub record IsLegalAt (t : Tables) (plan : List ℕ) (cost : ℤ) : Type 0 where
-  pub legal : IsLegal t plan
-  pub costs : cost ≡ total_cost t plan
 
 -- each leg keeps one choice, and that assignment is legal
 pub record IsSoleLegal (t : Tables) (keeps : Domains) : Type 0 where

@@ -1,5 +1,5 @@
 -- The splits of a tree whose rounded worth is above a cost.
-use Rattle.std.specs.Prelude.{◌≡◌, ℕ, ◌+◌, Bool, true, false, List, ◌∷◌, ◌++◌, All, length, None, ℤ, ◌<ℤ◌}
+use Rattle.std.specs.Prelude.{◌≡◌, ℕ, ◌+◌, List, ◌∷◌, ◌++◌, All, length, None, ℤ, ◌<ℤ◌}
 use Rattle.frac_row.specs.Ratio.{IsCeiling}
 use Rattle.fleet_model.specs.Kept.{Domains}
 use Rattle.fleet_model.specs.declared.tables.Tables.{Tables}
@@ -53,13 +53,3 @@ pub record IsAboveAt (t : Tables) (cost : ℤ) (nodes : List Node) (number found
 -- the number of the first split of a tree that is above a cost
 abbrev pub IsFirstSplitAbove : Tables → ℤ → Tree → ℕ → Type 0
 IsFirstSplitAbove t cost tree found = IsAboveAt t cost (nodes_of t tree) 1 found
-
--- none of some nodes is a split above a cost, and this is the number of the node that comes next
-pub record AreNotAbove (t : Tables) (cost : ℤ) (nodes : List Node) (number next : ℕ) : Type 0 where
-  pub none : All (IsNoneAbove t cost) nodes
-  pub follows : next ≡ held_count (number + length nodes)
-
--- what is found of some nodes, of which the first has this number: the number of a split, or that of the next node
-abbrev pub AreSought : Tables → ℤ → List Node → ℕ → ℕ → Bool → Type 0
-AreSought t cost nodes number reached true = IsAboveAt t cost nodes number reached
-AreSought t cost nodes number reached false = AreNotAbove t cost nodes number reached

@@ -1,25 +1,27 @@
 //! What a tree proves of the tables with another number of aircraft of one fleet.
-ghost use Rattle.std.specs.Prelude.{◌≡◌, ◌<◌, ◌≤◌, None, [], ◌∷◌, false, true};
+ghost use Rattle.std.specs.Prelude.{◌≡◌, ◌<◌, ◌<ℤ◌, ◌≤◌, None, pos, MatchBool};
 ghost use Rattle.fleet_model.specs.declared.limits.TheConstants.{MAX_AIRCRAFT};
 ghost use Rattle.fleet_model.specs.declared.tables.Tables.{Tables};
-ghost use Rattle.fleet_model.specs.Kept.{all_pairs, kept_by, narrowed};
+ghost use Rattle.fleet_model.specs.Kept.{all_pairs, kept_by};
 ghost use Rattle.fleet_model.specs.OtherSizes.{IsOtherSize};
-ghost use Rattle.fleet_model.specs.Schedule.{IsPair, fleets_in, leg_on};
-ghost use Rattle.dual_bound.specs.Bound.{IsBoundIn, part};
+ghost use Rattle.fleet_model.specs.Schedule.{fleets_in};
+ghost use Rattle.fleet_model.specs.Sizes.{AreSizes, HoldsBy};
 ghost use Rattle.dual_bound.specs.OfTables.{IsOfTables};
-ghost use Rattle.cert_check.specs.Asking.{AreFound, IsSize, OnEach};
-ghost use Rattle.cert_check.specs.Nodes.{node_at, nodes_below, nodes_in};
-ghost use Rattle.cert_check.specs.OtherSizes.{IsAsked, IsProofOf, answer_of};
+ghost use Rattle.dual_bound.specs.Prices.{ArePrices};
+ghost use Rattle.dual_bound.specs.Worth.{worth_of};
+ghost use Rattle.cert_check.specs.Nodes.{node_at};
+ghost use Rattle.cert_check.specs.OtherSizes.{IsAsked, IsProofOf, Stands, answer_of};
 ghost use Rattle.cert_check.specs.Rules.{IsSoundBut};
 ghost use Rattle.cert_check.specs.Splits.{AreSoundButPriced};
-ghost use Rattle.cert_check.specs.Walking.{IsBoundBelow, IsOwnBound};
+ghost use Rattle.cert_check.specs.Visitors.{IsSized, MayBeSized};
 ghost use Rattle.cert_check.specs.declared.rules.Rule.TheVariants as rule;
 
-use crate::other_leaves::{Size, has_fallen, own_bound};
-use crate::reached::{Reached, lesser_bound};
+use crate::leaves::own_bound;
+use crate::reached::Reached;
+use crate::walking::{Visit, Walker, walk};
 use crate::what_if::WhatIf;
-use dual_bound::Tree;
-use fleet_model::{Kept, Step, Tables};
+use dual_bound::{Prices, Tree, worth_by};
+use fleet_model::{Kept, Sizes, Tables};
 
 /// What a tree, judged on the tables, proves where one fleet has this number of aircraft. It looks at each leaf once, and
 /// solves nothing: a leaf is bounded by the worth of its prices there, or by its one assignment. Takes no memory.
@@ -37,20 +39,14 @@ pub fn whatif(tables: &Tables, fleet: u32, count: u32, tree: &Tree) -> WhatIf
     // With a bound each assignment that is legal there costs at least so much, with no plan none is legal.
     ensures proof { (u : Tables) → IsOtherSize tables.now fleet count u → IsProofOf u result }
 {
-    let mut asker = Asker {
-        kept: Kept::all(tables),
-        size: Size { fleet, count },
-        reached: Reached {
-            number: 1,
-            bound: None,
-        },
-    };
-    if ask(tables, &mut asker, tree) {
+    let sizes = Sizes::Other { fleet, count };
+    let mut walker = Walker::new(tables);
+    if walk(tables, &OtherSize { sizes }, &mut walker, tree) {
         return WhatIf::Fallen {
-            node: asker.reached.number,
+            node: walker.reached.number,
         };
     }
-    answer(&asker.reached.bound)
+    answer(&walker.reached.bound)
 }
 
 /// What is answered where no node has fallen and a tree has this bound.
@@ -63,129 +59,44 @@ fn answer(bound: &Option<i128>) -> WhatIf
     }
 }
 
-/// A walk that asks what a tree proves.
+/// Asks of each node whether it stands where fleets have so many aircraft.
 #[derive(Drop)]
-struct Asker {
-    /// The pairs that the subproblem keeps in which the walk stands.
-    kept: Kept,
-    /// The fleet with another number of aircraft, and that number.
-    size: Size,
-    /// What the walk has come to: the node that comes next, or the one that has fallen, and the bound so far.
-    reached: Reached,
+struct OtherSize {
+    sizes: Sizes,
 }
 
-/// Asks a part of a tree, and answers whether a node of it has fallen. The subproblem is again as it was. Takes no memory.
-#[cycle(ask)]
-fn ask(tables: &Tables, asker: &mut Asker, tree: &Tree) -> bool
-    requires size { IsSize tables.now asker.old.size }
-    requires known { IsOfTables tables.now tree.now }
-    requires sound { AreSoundButPriced tables.now (kept_by asker.old.kept) tree.now }
-    ensures kept { asker.new.kept ≡ asker.old.kept }
-    ensures size { asker.new.size ≡ asker.old.size }
-    ensures found { OnEach tables.now asker.old.size (λ u. AreFound u (nodes_in (kept_by asker.old.kept) tree.now) (IsBoundIn u (kept_by asker.old.kept) tree.now) asker.old.reached asker.new.reached result) }
-{
-    match tree {
-        Tree::Trim {
-            leg,
-            choice,
-            yes,
-            no,
-        } => {
-            if enter(tables, asker, tree) {
-                return true;
-            }
-            ask_both(tables, asker, *leg, *choice, yes, no)
+impl Visit for OtherSize {
+    ghost may = { λ it t. MayBeSized t it.sizes };
+
+    ghost finds = { λ it t. IsSized t it.sizes };
+
+    #[inline(never)]
+    fn enter(&self, tables: &Tables, kept: &Kept, node: &Tree, reached: &mut Reached) -> bool {
+        if has_fallen(tables, self.sizes, kept, node) {
+            return true;
         }
-        Tree::Split {
-            leg,
-            choice,
-            yes,
-            no,
-            ..
-        } => {
-            if enter(tables, asker, tree) {
-                return true;
-            }
-            ask_both(tables, asker, *leg, *choice, yes, no)
-        }
-        Tree::Bare { .. } | Tree::Sole | Tree::Refuted(_) | Tree::Priced(_) | Tree::Open(..) => {
-            enter(tables, asker, tree)
-        }
+        reached.pass(&own_bound(tables, self.sizes, kept, node));
+        false
     }
 }
 
-/// Asks both children of a trim or a split by this pair.
-#[cycle(ask)]
-fn ask_both(
-    tables: &Tables,
-    asker: &mut Asker,
-    leg: u32,
-    choice: u32,
-    with_pair: &Tree,
-    without: &Tree,
-) -> bool
-    requires size { IsSize tables.now asker.old.size }
-    requires pair { IsPair tables.now (leg_on leg choice) }
-    requires first { IsOfTables tables.now with_pair.now }
-    requires second { IsOfTables tables.now without.now }
-    requires first_sound { AreSoundButPriced tables.now (part (kept_by asker.old.kept) leg choice true) with_pair.now }
-    requires second_sound { AreSoundButPriced tables.now (part (kept_by asker.old.kept) leg choice false) without.now }
-    ensures kept { asker.new.kept ≡ asker.old.kept }
-    ensures size { asker.new.size ≡ asker.old.size }
-    ensures found { OnEach tables.now asker.old.size (λ u. AreFound u (nodes_below (kept_by asker.old.kept) (leg_on leg choice) with_pair.now without.now) (IsBoundBelow u (kept_by asker.old.kept) (leg_on leg choice) with_pair.now without.now) asker.old.reached asker.new.reached result) }
+// Whether a node that keeps all rules but the one on priced leaves has fallen: it is a refuted leaf, and not refuted.
+fn has_fallen(tables: &Tables, sizes: Sizes, kept: &Kept, node: &Tree) -> bool
+    requires sizes { AreSizes tables.now sizes }
+    requires sound { IsSoundBut tables.now None rule.Priced (node_at kept.now node.now) }
+    ensures { HoldsBy tables.now sizes (λ u. MatchBool result (¬ (Stands u (node_at kept.now node.now))) (Stands u (node_at kept.now node.now))) }
 {
-    let yes = Step {
-        leg,
-        choice,
-        yes: true,
-    };
-    if ask_in_part(tables, asker, yes, with_pair) {
-        return true;
+    match node {
+        Tree::Refuted(prices) => !refutes(tables, sizes, kept, prices),
+        _ => false,
     }
-    let no = Step {
-        leg,
-        choice,
-        yes: false,
-    };
-    ask_in_part(tables, asker, no, without)
 }
 
-/// Asks a child, in its part of the subproblem.
-#[cycle(ask)]
-fn ask_in_part(tables: &Tables, asker: &mut Asker, step: Step, child: &Tree) -> bool
-    requires size { IsSize tables.now asker.old.size }
-    requires pair { IsPair tables.now (leg_on step.leg step.choice) }
-    requires known { IsOfTables tables.now child.now }
-    requires sound { AreSoundButPriced tables.now (narrowed (kept_by asker.old.kept) step) child.now }
-    ensures kept { asker.new.kept ≡ asker.old.kept }
-    ensures size { asker.new.size ≡ asker.old.size }
-    ensures found { OnEach tables.now asker.old.size (λ u. AreFound u (nodes_in (narrowed (kept_by asker.old.kept) step) child.now) (IsBoundIn u (narrowed (kept_by asker.old.kept) step) child.now) asker.old.reached asker.new.reached result) }
+// Whether proper prices refute a subproblem.
+fn refutes(tables: &Tables, sizes: Sizes, kept: &Kept, prices: &Prices) -> bool
+    requires sizes { AreSizes tables.now sizes }
+    requires proper { ArePrices tables.now prices.now }
+    ensures { HoldsBy tables.now sizes (λ u. MatchBool result (pos 0 <ℤ worth_of u (kept_by kept.now) prices.now 0) (¬ (pos 0 <ℤ worth_of u (kept_by kept.now) prices.now 0))) }
 {
-    let undo = asker.kept.narrow(step);
-    let fallen = ask(tables, asker, child);
-    asker.kept.undo(undo);
-    fallen
-}
-
-/// Asks a node alone, and passes it where it has not fallen.
-///
-/// It stands apart from the walk, so that a level of the tree takes little of the stack.
-#[inline(never)]
-fn enter(tables: &Tables, asker: &mut Asker, node: &Tree) -> bool
-    requires size { IsSize tables.now asker.old.size }
-    requires sound { IsSoundBut tables.now None rule.Priced (node_at asker.old.kept node.now) }
-    ensures kept { asker.new.kept ≡ asker.old.kept }
-    ensures size { asker.new.size ≡ asker.old.size }
-    ensures found { OnEach tables.now asker.old.size (λ u. AreFound u (node_at asker.old.kept node.now ∷ []) (IsOwnBound u (kept_by asker.old.kept) node.now) asker.old.reached asker.new.reached result) }
-{
-    let number = asker.reached.number;
-    if has_fallen(tables, asker.size, &asker.kept, node) {
-        return true;
-    }
-    let bound = own_bound(tables, asker.size, &asker.kept, node);
-    asker.reached = Reached {
-        number: number.saturating_add(1),
-        bound: lesser_bound(&asker.reached.bound, &bound),
-    };
-    false
+    worth_by(tables, sizes, kept, prices, 0) > 0
 }

@@ -1,5 +1,5 @@
 /// What the checker says of a tree.
-#[derive(Clone, Copy, Debug, PartialEq, Eq)]
+#[derive(Clone, Copy)]
 pub enum Checked {
     /// Each node keeps each rule.
     Holds {

@@ -1,15 +1,20 @@
 //! The checker.
-ghost use Rattle.std.specs.Prelude.{◌≡◌, IfSome, Option, ℤ, option_map};
+ghost use Rattle.std.specs.Prelude.{◌≡◌, IfSome, IsSomeAnd, Option, ℤ, ⊤, option_map};
 ghost use Rattle.fleet_model.specs.Legal.{IsLegal, total_cost};
 ghost use Rattle.dual_bound.specs.OfTables.{IsOfTables};
 ghost use Rattle.cert_check.specs.Verdicts.{IsChecked, IsProof};
+ghost use Rattle.cert_check.specs.Rules.{number_of};
+ghost use Rattle.cert_check.specs.Visitors.{IsJudged};
+ghost use Rattle.cert_check.specs.declared.checked.Checked.TheVariants as checked;
 
 use crate::checked::Checked;
+use crate::leaves::own_bound;
+use crate::node_rules::first_fault;
 use crate::reached::Reached;
-use crate::walking::{Walker, walk};
+use crate::walking::{Visit, Walker, walk};
 use dual_bound::Tree;
-use fleet_model::{Assignment, Kept, Tables};
-use plan_judge::{Verdict, judge};
+use fleet_model::{Assignment, Kept, Sizes, Tables};
+use plan_judge::legal_cost;
 
 /// Checks a tree: whether each of its nodes keeps each rule, and what bound it then proves. The plan is the one that
 /// the tree comes with, if any; priced leaves are judged by its cost. No order or form is asked of the tree's lists,
@@ -35,22 +40,50 @@ pub fn check_with_cost(tables: &Tables, cost: Option<i128>, tree: &Tree) -> Chec
     // It asks nothing of the cost.
     ensures proof { IsProof tables.now result }
 {
-    let mut walker = Walker {
-        kept: Kept::all(tables),
-        cost,
-        reached: Reached {
-            number: 1,
-            bound: None,
-        },
-    };
-    match walk(tables, &mut walker, tree) {
-        None => Checked::Holds {
+    let mut walker = Walker::new(tables);
+    if walk(tables, &Sound { cost }, &mut walker, tree) {
+        broken(&walker.reached)
+    } else {
+        Checked::Holds {
             bound: walker.reached.bound,
-        },
+        }
+    }
+}
+
+// The verdict on a tree where the walk has ended.
+fn broken(reached: &Reached) -> Checked
+    requires { IsSomeAnd reached.now.rule (λ rule. ⊤) }
+    ensures { IsSomeAnd reached.now.rule (λ rule. result ≡ checked.Broken reached.now.number (number_of rule)) }
+{
+    match reached.rule {
         Some(rule) => Checked::Broken {
-            node: walker.reached.number,
+            node: reached.number,
             rule: rule.number(),
         },
+        None => unreachable!(),
+    }
+}
+
+/// Asks of each node whether it keeps all rules.
+#[derive(Drop)]
+struct Sound {
+    /// What the plan costs, if there is one.
+    cost: Option<i128>,
+}
+
+impl Visit for Sound {
+    ghost may = { λ it t node. ⊤ };
+
+    ghost finds = { λ it t. IsJudged t it.cost };
+
+    #[inline(never)]
+    fn enter(&self, tables: &Tables, kept: &Kept, node: &Tree, reached: &mut Reached) -> bool {
+        if let Some(rule) = first_fault(tables, kept, &self.cost, node) {
+            reached.rule = Some(rule);
+            return true;
+        }
+        reached.pass(&own_bound(tables, Sizes::Own, kept, node));
+        false
     }
 }
 
@@ -59,8 +92,5 @@ fn plan_cost(tables: &Tables, plan: Option<&Assignment>) -> Option<i128>
     requires { IfSome plan (λ legal. IsLegal tables.now legal.now) }
     ensures { result ≡ option_map (λ legal. total_cost tables.now legal.now) plan.entry }
 {
-    match judge(tables, plan?) {
-        Verdict::Legal { cost } => Some(cost),
-        _ => None,
-    }
+    legal_cost(tables, Sizes::Own, plan?)
 }

@@ -1,21 +1,17 @@
 //! Leaves of a tree: what they keep and the bounds that they give.
-ghost use Rattle.std.specs.Prelude.{◌≡◌, ◌<◌, MatchBool, MatchOption, Option, ℤ};
-ghost use Rattle.frac_row.specs.Ratio.{IsCeiling};
+ghost use Rattle.std.specs.Prelude.{◌≡◌, ◌<◌, None, MatchBool};
 ghost use Rattle.fleet_model.specs.Kept.{IsBare, IsSole, kept_by};
 ghost use Rattle.fleet_model.specs.Schedule.{legs_in};
+ghost use Rattle.fleet_model.specs.Sizes.{AreSizes, HoldsBy};
 ghost use Rattle.dual_bound.specs.Bound.{IsSoleBound};
-ghost use Rattle.dual_bound.specs.Prices.{ArePrices};
-ghost use Rattle.dual_bound.specs.Worth.{worth_of};
-ghost use Rattle.fleet_model.specs.Legal.{IsAssignment, IsLegal};
 ghost use Rattle.cert_check.specs.Nodes.{node_at};
-ghost use Rattle.cert_check.specs.Rules.{HaveAllPairs, IsLegalAt, IsSoleLegal, IsSound};
+ghost use Rattle.cert_check.specs.Rules.{HaveAllPairs, IsSoleLegal, IsSoundBut};
 ghost use Rattle.cert_check.specs.Walking.{IsOwnBound};
+ghost use Rattle.cert_check.specs.declared.rules.Rule.TheVariants as rule;
 
-use dual_bound::worth::worth;
-use dual_bound::{Prices, Tree};
-use fleet_model::{Assignment, Kept, Tables};
-use frac_row::ceil_div;
-use plan_judge::{Verdict, judge};
+use dual_bound::{Tree, rounded_worth};
+use fleet_model::{Kept, Sizes, Tables};
+use plan_judge::legal_cost;
 
 /// Whether a leg keeps no choice. Takes no memory.
 pub(crate) fn is_bare(tables: &Tables, kept: &Kept, leg: u32) -> bool
@@ -44,50 +40,45 @@ pub(crate) fn is_sole(tables: &Tables, kept: &Kept) -> bool
     true
 }
 
-/// What the one assignment that is left costs, where each leg keeps one choice and it is legal. Takes no memory.
+/// What the one assignment that is left costs where fleets have so many aircraft, if it is legal then. Takes no memory.
 ///
 /// It has an assignment on the stack, and so is kept out of the walk's own frames.
 #[inline(never)]
-pub(crate) fn sole_cost(tables: &Tables, kept: &Kept) -> Option<i128>
-    ensures legal { MatchOption result (¬ (IsSoleLegal tables.now (kept_by kept.now))) (λ cost. IsSoleLegal tables.now (kept_by kept.now)) }
-    ensures bound { IsSole tables.now (kept_by kept.now) → IsSoleBound tables.now (kept_by kept.now) result }
+fn sole_cost(tables: &Tables, sizes: Sizes, kept: &Kept) -> Option<i128>
+    requires sizes { AreSizes tables.now sizes }
+    requires sole { IsSole tables.now (kept_by kept.now) }
+    ensures { HoldsBy tables.now sizes (λ u. IsSoleBound u (kept_by kept.now) result) }
 {
     match kept.sole(tables) {
-        Some(plan) => legal_cost(tables, &plan),
+        Some(plan) => legal_cost(tables, sizes, &plan),
         None => None,
     }
 }
 
-// What an assignment costs, where it is legal.
-fn legal_cost(tables: &Tables, plan: &Assignment) -> Option<i128>
-    requires { IsAssignment tables.now plan.now }
-    ensures { MatchOption result (¬ (IsLegal tables.now plan.now)) (IsLegalAt tables.now plan.now) }
+/// Whether each leg keeps one choice, and that assignment is legal. Takes no memory.
+///
+/// It has an assignment on the stack, and so is kept out of the walk's own frames.
+#[inline(never)]
+pub(crate) fn is_sole_legal(tables: &Tables, kept: &Kept) -> bool
+    ensures { MatchBool result (IsSoleLegal tables.now (kept_by kept.now)) (¬ (IsSoleLegal tables.now (kept_by kept.now))) }
 {
-    match judge(tables, plan) {
-        Verdict::Legal { cost } => Some(cost),
-        _ => None,
+    match kept.sole(tables) {
+        Some(plan) => legal_cost(tables, Sizes::Own, &plan).is_some(),
+        None => false,
     }
 }
 
-/// The worth of proper prices over their scale, rounded up. Takes no memory.
-#[inline(never)]
-pub(crate) fn price_bound(tables: &Tables, kept: &Kept, prices: &Prices) -> i128
-    requires { ArePrices tables.now prices.now }
-    ensures { IsCeiling (worth_of tables.now (kept_by kept.now) prices.now 1) prices.now.scale result }
-{
-    ceil_div(worth(tables, kept, prices, 1), prices.scale)
-}
-
-/// The bound that a node which keeps all rules has without its children, in cost units: that of a leaf, and none of a trim
-/// or a split. Takes no memory.
-pub fn own_bound(tables: &Tables, kept: &Kept, node: &Tree) -> Option<i128>
-    requires { (cost : Option ℤ) × IsSound tables.now cost (node_at kept.now node.now) }
-    ensures { IsOwnBound tables.now (kept_by kept.now) node.now result }
+/// The bound that a node which keeps all rules but the one on priced leaves has without its children, where fleets have so
+/// many aircraft, in cost units: that of a leaf, and none of a trim or a split. Takes no memory.
+pub fn own_bound(tables: &Tables, sizes: Sizes, kept: &Kept, node: &Tree) -> Option<i128>
+    requires sizes { AreSizes tables.now sizes }
+    requires sound { IsSoundBut tables.now None rule.Priced (node_at kept.now node.now) }
+    ensures { HoldsBy tables.now sizes (λ u. IsOwnBound u (kept_by kept.now) node.now result) }
 {
     match node {
         Tree::Bare { .. } | Tree::Refuted(_) | Tree::Trim { .. } | Tree::Split { .. } => None,
-        Tree::Sole => sole_cost(tables, kept),
-        Tree::Priced(prices) => Some(price_bound(tables, kept, prices)),
-        Tree::Open(prices, _) => Some(price_bound(tables, kept, prices)),
+        Tree::Sole => sole_cost(tables, sizes, kept),
+        Tree::Priced(prices) => Some(rounded_worth(tables, sizes, kept, prices)),
+        Tree::Open(prices, _) => Some(rounded_worth(tables, sizes, kept, prices)),
     }
 }

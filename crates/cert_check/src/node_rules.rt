@@ -9,13 +9,13 @@ ghost use Rattle.cert_check.specs.Nodes.{mixed_at, mixed_of, node_at, prices_at}
 ghost use Rattle.cert_check.specs.Rules.{EndsAtOnce, HasFraction, HasItsPairs, HasParts, HasScale, IsFirstFault, IsPricedAt, IsRefutedAt, IsSound, Keeps, IsSoleLegal, KeepsBefore, OneEnds, Reaches, number_of};
 
 use crate::fraction_rules::{is_fraction, is_whole_pair};
-use crate::leaves::{have_all_pairs, is_bare, is_sole, price_bound, sole_cost};
+use crate::leaves::{have_all_pairs, is_bare, is_sole, is_sole_legal};
 use crate::mixed_rules::is_mixed;
 use crate::price_rules::{are_within, is_no_more, is_scale, never_rise, rise_by_rent};
 use crate::rules::{RULES, Rule};
 use dual_bound::worth::worth;
-use dual_bound::{Cause, Mixed, Prices, Tree, WeightFinder};
-use fleet_model::{Kept, Step, Tables};
+use dual_bound::{Cause, Mixed, Prices, Tree, WeightFinder, rounded_worth};
+use fleet_model::{Kept, Sizes, Step, Tables};
 
 /// The first rule that a node breaks. Takes no memory.
 ///
@@ -183,7 +183,7 @@ fn reaches_cost(tables: &Tables, kept: &Kept, prices: &Prices, cost: &i128) -> b
     requires { ArePrices tables.now prices.now }
     ensures { MatchBool result (Reaches tables.now (kept_by kept.now) prices.now cost.now) (¬ (Reaches tables.now (kept_by kept.now) prices.now cost.now)) }
 {
-    is_no_more(cost, &price_bound(tables, kept, prices))
+    is_no_more(cost, &rounded_worth(tables, Sizes::Own, kept, prices))
 }
 
 // Whether a trim and a split name a kept pair, and have the children that they ask for.
@@ -245,7 +245,7 @@ fn ends_at_once(tables: &Tables, kept: &Kept, step: Step, child: &Tree) -> bool
 {
     match child {
         Tree::Bare { .. } | Tree::Refuted(_) | Tree::Priced(_) => true,
-        Tree::Sole => !is_sole_legal(tables, kept, step),
+        Tree::Sole => !is_sole_legal_in(tables, kept, step),
         Tree::Open(..) | Tree::Trim { .. } | Tree::Split { .. } => false,
     }
 }
@@ -254,13 +254,13 @@ fn ends_at_once(tables: &Tables, kept: &Kept, step: Step, child: &Tree) -> bool
 //
 // It has the part on the stack, and so is kept out of the walk's own frames.
 #[inline(never)]
-fn is_sole_legal(tables: &Tables, kept: &Kept, step: Step) -> bool
+fn is_sole_legal_in(tables: &Tables, kept: &Kept, step: Step) -> bool
     requires { IsPair tables.now (leg_on step.leg step.choice) }
     ensures { MatchBool result (IsSoleLegal tables.now (narrowed (kept_by kept.now) step)) (¬ (IsSoleLegal tables.now (narrowed (kept_by kept.now) step))) }
 {
     let mut part = *kept;
     part.narrow(step);
-    sole_cost(tables, &part).is_some()
+    is_sole_legal(tables, &part)
 }
 
 // Whether a node's fractional assignment is one of its subproblem.

@@ -1,5 +1,5 @@
 /// What a tree says of the tables with another number of aircraft of one fleet.
-#[derive(Clone, Copy, Debug, PartialEq, Eq)]
+#[derive(Clone, Copy)]
 pub enum WhatIf {
     /// By a refuted leaf's prices something may be legal there, so the tree proves nothing.
     Fallen {

@@ -29,10 +29,10 @@ solves_by_default program dir false false = refl
 
 pub solves_within : SolvesWithin
 unfolding asked found our_app clap_on_literals
-solves_within program time period wait days visits choices nodes pivots dir true true = refl
-solves_within program time period wait days visits choices nodes pivots dir true false = refl
-solves_within program time period wait days visits choices nodes pivots dir false true = refl
-solves_within program time period wait days visits choices nodes pivots dir false false = refl
+solves_within program time period wait least days visits choices nodes pivots dir true true = refl
+solves_within program time period wait least days visits choices nodes pivots dir true false = refl
+solves_within program time period wait least days visits choices nodes pivots dir false true = refl
+solves_within program time period wait least days visits choices nodes pivots dir false false = refl
 
 pub solves_without_budget : SolvesWithoutBudget
 unfolding asked found our_app clap_on_literals
@@ -72,10 +72,10 @@ tails_by_default program dir date count false false = refl
 
 pub tails_within : TailsWithin
 unfolding asked found our_app clap_on_literals
-tails_within program time period wait days visits first dir date count true true = refl
-tails_within program time period wait days visits first dir date count true false = refl
-tails_within program time period wait days visits first dir date count false true = refl
-tails_within program time period wait days visits first dir date count false false = refl
+tails_within program time period wait least days visits first dir date count true true = refl
+tails_within program time period wait least days visits first dir date count true false = refl
+tails_within program time period wait least days visits first dir date count false true = refl
+tails_within program time period wait least days visits first dir date count false false = refl
 
 pub due_by_default : DueByDefault
 unfolding asked found our_app clap_on_literals
@@ -86,10 +86,10 @@ due_by_default program dir date count false false = refl
 
 pub due_within : DueWithin
 unfolding asked found our_app clap_on_literals
-due_within program time period wait days visits first dir date count true true = refl
-due_within program time period wait days visits first dir date count true false = refl
-due_within program time period wait days visits first dir date count false true = refl
-due_within program time period wait days visits first dir date count false false = refl
+due_within program time period wait least days visits first dir date count true true = refl
+due_within program time period wait least days visits first dir date count true false = refl
+due_within program time period wait least days visits first dir date count false true = refl
+due_within program time period wait least days visits first dir date count false false = refl
 
 pub makes_by_default : MakesByDefault
 unfolding asked found our_app clap_on_literals
@@ -101,6 +101,7 @@ makes_without_options = record {
   day_start = λ program text dir number legs. refl;
   period = λ program text dir number legs. refl;
   through_max = λ program text dir number legs. refl;
+  least_night = λ program text dir number legs. refl;
   days = λ program text dir number legs. refl;
   visits = λ program text dir number legs. refl;
   first_day = λ program text dir number legs. refl;

@@ -118,7 +118,7 @@ judge_has = record { untrailed = refl; once = refl; named = refl; found = (refl,
 
 solve_has : HasAll option_named (built_command solve_app) solve_options
 unfolding our_app clap_on_literals
-solve_has = record { untrailed = refl; once = refl; named = refl; found = (refl, (refl, (refl, (refl, (refl, (refl, (refl, (refl, tt)))))))) }
+solve_has = record { untrailed = refl; once = refl; named = refl; found = (refl, (refl, (refl, (refl, (refl, (refl, (refl, (refl, (refl, tt))))))))) }
 
 check_has : HasAll option_named (built_command check_app) table_options
 unfolding our_app clap_on_literals
@@ -126,11 +126,11 @@ check_has = record { untrailed = refl; once = refl; named = refl; found = (refl,
 
 tails_has : HasAll option_named (built_command tails_app) tails_options
 unfolding our_app clap_on_literals
-tails_has = record { untrailed = refl; once = refl; named = refl; found = (refl, (refl, (refl, (refl, (refl, (refl, tt)))))) }
+tails_has = record { untrailed = refl; once = refl; named = refl; found = (refl, (refl, (refl, (refl, (refl, (refl, (refl, tt))))))) }
 
 due_has : HasAll option_named (built_command due_app) tails_options
 unfolding our_app clap_on_literals
-due_has = record { untrailed = refl; once = refl; named = refl; found = (refl, (refl, (refl, (refl, (refl, (refl, tt)))))) }
+due_has = record { untrailed = refl; once = refl; named = refl; found = (refl, (refl, (refl, (refl, (refl, (refl, (refl, tt))))))) }
 
 whatif_has : HasAll option_named (built_command whatif_app) table_options
 unfolding our_app clap_on_literals

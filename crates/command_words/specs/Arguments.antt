@@ -15,7 +15,7 @@ use Rattle.command_words.specs.declared.command.SearchLimits.{SearchLimits}
 use Rattle.command_words.specs.declared.command.SearchWay.{SearchWay}
 use Rattle.command_words.specs.declared.command.SearchWay.TheVariants as way
 use Rattle.command_words.specs.declared.command.SolveOptions.{SolveOptions}
-use Rattle.command_words.specs.declared.command.TheConstants.{DEFAULT_DAYS, DEFAULT_DAY_START, DEFAULT_NODES, DEFAULT_PERIOD, DEFAULT_PIVOTS, DEFAULT_THROUGH_MAX, DEFAULT_VISITS, DEFAULT_WAY, MAX_DATES, MAX_DAYS, MAX_MADE_LEGS, MAX_NODES, MAX_NUMBER, MAX_PERIOD, MAX_PIVOTS, MAX_THROUGH_MAX, MAX_VISITS, MIN_DATES, MIN_DAYS, MIN_PERIOD}
+use Rattle.command_words.specs.declared.command.TheConstants.{DEFAULT_DAYS, DEFAULT_DAY_START, DEFAULT_LEAST_NIGHT, DEFAULT_NODES, DEFAULT_PERIOD, DEFAULT_PIVOTS, DEFAULT_THROUGH_MAX, DEFAULT_VISITS, DEFAULT_WAY, MAX_DATES, MAX_DAYS, MAX_LEAST_NIGHT, MAX_MADE_LEGS, MAX_NODES, MAX_NUMBER, MAX_PERIOD, MAX_PIVOTS, MAX_THROUGH_MAX, MAX_VISITS, MIN_DATES, MIN_DAYS, MIN_PERIOD}
 
 -- what was found for the arguments
 abbrev pub rows_in : ArgMatches → List Row
@@ -39,20 +39,25 @@ day_start_in found = value_or DEFAULT_DAY_START minute_read (first_of (codes "da
 abbrev pub through_max_in : List Row → Option ℕ
 through_max_in found = value_or DEFAULT_THROUGH_MAX (number_read 0 MAX_THROUGH_MAX) (first_of (codes "through-max") found)
 
+-- the least minutes of a night for maintenance, where they read; a command without the option has their default
+abbrev pub least_night_in : List Row → Option ℕ
+least_night_in found = value_or DEFAULT_LEAST_NIGHT (number_read 0 MAX_LEAST_NIGHT) (first_of (codes "least-night") found)
+
 -- the days of the period, where they read
 abbrev pub period_in : List Row → Option ℕ
 period_in found = value_or DEFAULT_PERIOD (number_read MIN_PERIOD MAX_PERIOD) (first_of (codes "period") found)
 
--- the settings of a day start, a longest wait and a period of so many days, where all are there
-abbrev pub settings_at : Option ℕ → Option ℕ → Option ℕ → Option Settings
-settings_at (Some minute) (Some wait) (Some days) = Some (record { day_start = minute; through_max = wait; period = days })
-settings_at (Some minute) (Some wait) None = None
-settings_at (Some minute) None days = None
-settings_at None wait days = None
+-- the settings of a day start, a longest wait, a least night and a period of so many days, where all are there
+abbrev pub settings_at : Option ℕ → Option ℕ → Option ℕ → Option ℕ → Option Settings
+settings_at (Some minute) (Some wait) (Some least) (Some days) = Some (record { day_start = minute; through_max = wait; least_night = least; period = days })
+settings_at (Some minute) (Some wait) (Some least) None = None
+settings_at (Some minute) (Some wait) None days = None
+settings_at (Some minute) None least days = None
+settings_at None wait least days = None
 
 -- the settings, where all values read
 abbrev pub settings_in : List Row → Option Settings
-settings_in found = settings_at (day_start_in found) (through_max_in found) (period_in found)
+settings_in found = settings_at (day_start_in found) (through_max_in found) (least_night_in found) (period_in found)
 
 -- how the tables are read by settings, where these are there, and whether those of windows and of optional legs are
 abbrev pub reading_at : Option Settings → Bool → Bool → Option TableOptions

@@ -13,7 +13,7 @@ use Rattle.command_words.specs.declared.command.SearchLimits.{SearchLimits}
 use Rattle.command_words.specs.declared.command.SearchWay.{SearchWay}
 use Rattle.command_words.specs.declared.command.SearchWay.TheVariants as way
 use Rattle.command_words.specs.declared.command.SolveOptions.{SolveOptions}
-use Rattle.command_words.specs.declared.command.TheConstants.{DEFAULT_NODES, DEFAULT_OPTIONS, DEFAULT_READING, DEFAULT_THROUGH_MAX, MAX_DAYS, MAX_NODES, MAX_PERIOD, MAX_PIVOTS, MAX_THROUGH_MAX, MAX_VISITS, MIN_DAYS, MIN_PERIOD}
+use Rattle.command_words.specs.declared.command.TheConstants.{DEFAULT_LEAST_NIGHT, DEFAULT_NODES, DEFAULT_OPTIONS, DEFAULT_READING, DEFAULT_THROUGH_MAX, MAX_DAYS, MAX_LEAST_NIGHT, MAX_NODES, MAX_PERIOD, MAX_PIVOTS, MAX_THROUGH_MAX, MAX_VISITS, MIN_DAYS, MIN_PERIOD}
 
 -- nothing follows
 abbrev pub is_alone : Text → Bool
@@ -49,11 +49,11 @@ default_options = Some DEFAULT_OPTIONS
 
 -- the settings with a day start and a period
 abbrev pub settings_from : Text → Text → Option Settings
-settings_from time period = settings_at (minute_read time) (Some DEFAULT_THROUGH_MAX) (number_read MIN_PERIOD MAX_PERIOD period)
+settings_from time period = settings_at (minute_read time) (Some DEFAULT_THROUGH_MAX) (Some DEFAULT_LEAST_NIGHT) (number_read MIN_PERIOD MAX_PERIOD period)
 
--- with a longest wait too
-abbrev pub settings_with : Text → Text → Text → Option Settings
-settings_with time period wait = settings_at (minute_read time) (number_read 0 MAX_THROUGH_MAX wait) (number_read MIN_PERIOD MAX_PERIOD period)
+-- with a longest wait and a least night too
+abbrev pub settings_with : Text → Text → Text → Text → Option Settings
+settings_with time period wait least = settings_at (minute_read time) (number_read 0 MAX_THROUGH_MAX wait) (number_read 0 MAX_LEAST_NIGHT least) (number_read MIN_PERIOD MAX_PERIOD period)
 
 abbrev pub rotations_with : Text → Text → Option RotationLimits
 rotations_with days visits = rotations_at (number_read MIN_DAYS MAX_DAYS days) (number_read 0 MAX_VISITS visits)
@@ -124,12 +124,12 @@ abbrev pub SolvesByDefault : Type 0
 SolvesByDefault = (program dir : Text) (windows optional : Bool) → asked (program ∷ codes "solve" ∷ (flag_words windows optional ++ codes "--" ∷ dir ∷ []))
     ≡ solve_at (reading_at default_settings windows optional) default_options dir
 
--- solve --day-start=HH:MM --period=P --through-max=M --days=D --visits=V --search=CHOICES --nodes=N --pivots=P --json [--windows] [--optional] -- DIR
+-- solve --day-start=HH:MM --period=P --through-max=M --least-night=MINUTES --days=D --visits=V --search=CHOICES --nodes=N --pivots=P --json [--windows] [--optional] -- DIR
 abbrev pub SolvesWithin : Type 0
-SolvesWithin = (program time period wait days visits choices nodes pivots dir : Text) (windows optional : Bool)
-    → asked (program ∷ codes "solve" ∷ (codes "--day-start=" ++ time) ∷ (codes "--period=" ++ period) ∷ (codes "--through-max=" ++ wait) ∷ (codes "--days=" ++ days)
+SolvesWithin = (program time period wait least days visits choices nodes pivots dir : Text) (windows optional : Bool)
+    → asked (program ∷ codes "solve" ∷ (codes "--day-start=" ++ time) ∷ (codes "--period=" ++ period) ∷ (codes "--through-max=" ++ wait) ∷ (codes "--least-night=" ++ least) ∷ (codes "--days=" ++ days)
     ∷ (codes "--visits=" ++ visits) ∷ (codes "--search=" ++ choices) ∷ (codes "--nodes=" ++ nodes) ∷ (codes "--pivots=" ++ pivots) ∷ codes "--json" ∷ (flag_words windows optional ++ codes "--" ∷ dir ∷ []))
-    ≡ solve_at (reading_at (settings_with time period wait) windows optional)
+    ≡ solve_at (reading_at (settings_with time period wait least) windows optional)
     (options_at (way_read choices) (search_at (number_read 0 MAX_NODES nodes) (number_read 0 MAX_PIVOTS pivots) false) (rotations_with days visits) true) dir
 
 -- solve --pivots=P --all-pivots -- DIR
@@ -166,12 +166,12 @@ TailsByDefault = (program dir date count : Text) (windows optional : Bool)
     → asked (program ∷ codes "tails" ∷ (flag_words windows optional ++ codes "--" ∷ dir ∷ date ∷ count ∷ []))
     ≡ tails_at (reading_at default_settings windows optional) default_rotations (dates_at (date_read date) (count_read count) (Some 0)) dir
 
--- tails --day-start=HH:MM --period=P --through-max=M --days=D --visits=V --first-day=FIRST [--windows] [--optional] -- DIR DATE COUNT
+-- tails --day-start=HH:MM --period=P --through-max=M --least-night=MINUTES --days=D --visits=V --first-day=FIRST [--windows] [--optional] -- DIR DATE COUNT
 abbrev pub TailsWithin : Type 0
-TailsWithin = (program time period wait days visits first dir date count : Text) (windows optional : Bool)
-    → asked (program ∷ codes "tails" ∷ (codes "--day-start=" ++ time) ∷ (codes "--period=" ++ period) ∷ (codes "--through-max=" ++ wait) ∷ (codes "--days=" ++ days)
+TailsWithin = (program time period wait least days visits first dir date count : Text) (windows optional : Bool)
+    → asked (program ∷ codes "tails" ∷ (codes "--day-start=" ++ time) ∷ (codes "--period=" ++ period) ∷ (codes "--through-max=" ++ wait) ∷ (codes "--least-night=" ++ least) ∷ (codes "--days=" ++ days)
     ∷ (codes "--visits=" ++ visits) ∷ (codes "--first-day=" ++ first) ∷ (flag_words windows optional ++ codes "--" ∷ dir ∷ date ∷ count ∷ []))
-    ≡ tails_at (reading_at (settings_with time period wait) windows optional) (rotations_with days visits) (dates_at (date_read date) (count_read count) (past_from first (date_read date))) dir
+    ≡ tails_at (reading_at (settings_with time period wait least) windows optional) (rotations_with days visits) (dates_at (date_read date) (count_read count) (past_from first (date_read date))) dir
 
 -- due [--windows] [--optional] -- DIR DATE COUNT
 abbrev pub DueByDefault : Type 0
@@ -179,12 +179,12 @@ DueByDefault = (program dir date count : Text) (windows optional : Bool)
     → asked (program ∷ codes "due" ∷ (flag_words windows optional ++ codes "--" ∷ dir ∷ date ∷ count ∷ []))
     ≡ due_at (reading_at default_settings windows optional) default_rotations (dates_at (date_read date) (count_read count) (Some 0)) dir
 
--- due --day-start=HH:MM --period=P --through-max=M --days=D --visits=V --first-day=FIRST [--windows] [--optional] -- DIR DATE COUNT
+-- due --day-start=HH:MM --period=P --through-max=M --least-night=MINUTES --days=D --visits=V --first-day=FIRST [--windows] [--optional] -- DIR DATE COUNT
 abbrev pub DueWithin : Type 0
-DueWithin = (program time period wait days visits first dir date count : Text) (windows optional : Bool)
-    → asked (program ∷ codes "due" ∷ (codes "--day-start=" ++ time) ∷ (codes "--period=" ++ period) ∷ (codes "--through-max=" ++ wait) ∷ (codes "--days=" ++ days)
+DueWithin = (program time period wait least days visits first dir date count : Text) (windows optional : Bool)
+    → asked (program ∷ codes "due" ∷ (codes "--day-start=" ++ time) ∷ (codes "--period=" ++ period) ∷ (codes "--through-max=" ++ wait) ∷ (codes "--least-night=" ++ least) ∷ (codes "--days=" ++ days)
     ∷ (codes "--visits=" ++ visits) ∷ (codes "--first-day=" ++ first) ∷ (flag_words windows optional ++ codes "--" ∷ dir ∷ date ∷ count ∷ []))
-    ≡ due_at (reading_at (settings_with time period wait) windows optional) (rotations_with days visits) (dates_at (date_read date) (count_read count) (past_from first (date_read date))) dir
+    ≡ due_at (reading_at (settings_with time period wait least) windows optional) (rotations_with days visits) (dates_at (date_read date) (count_read count) (past_from first (date_read date))) dir
 
 -- make -- DIR NUMBER LEGS
 abbrev pub MakesByDefault : Type 0
@@ -203,7 +203,7 @@ AsksFrom = (program time period dir fleet count : Text) (windows optional : Bool
     → asked (program ∷ codes "whatif" ∷ (codes "--day-start=" ++ time) ∷ (codes "--period=" ++ period) ∷ (flag_words windows optional ++ codes "--" ∷ dir ∷ fleet ∷ count ∷ []))
     ≡ whatif_at (reading_at (settings_from time period) windows optional) (Some fleet) (aircraft_read count) dir
 
--- make takes none of the other commands' options: --day-start=HH:MM, --period=P, --through-max=M, --days=D, --visits=V, --first-day=FIRST, --search=CHOICES, --nodes=N, --pivots=P, and
+-- make takes none of the other commands' options: --day-start=HH:MM, --period=P, --through-max=M, --least-night=MINUTES, --days=D, --visits=V, --first-day=FIRST, --search=CHOICES, --nodes=N, --pivots=P, and
 -- none of their flags: --windows, --optional, --all-pivots, --json
 abbrev pub MakesWithoutOption : Text → Type 0
 MakesWithoutOption option = (program text dir number legs : Text)
@@ -216,6 +216,7 @@ pub record MakesWithoutOptions : Type 0 where
   pub day_start : MakesWithoutOption (codes "--day-start=")
   pub period : MakesWithoutOption (codes "--period=")
   pub through_max : MakesWithoutOption (codes "--through-max=")
+  pub least_night : MakesWithoutOption (codes "--least-night=")
   pub days : MakesWithoutOption (codes "--days=")
   pub visits : MakesWithoutOption (codes "--visits=")
   pub first_day : MakesWithoutOption (codes "--first-day=")

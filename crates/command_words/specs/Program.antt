@@ -32,9 +32,9 @@ folder = word_named (codes "dir") ∷ []
 abbrev pub table_options : List Rule
 table_options = option_named (codes "day-start") ∷ option_named (codes "period") ∷ flag_named (codes "windows") ∷ flag_named (codes "optional") ∷ []
 
--- [--through-max M] [--days D] [--visits V]
+-- [--through-max M] [--least-night MINUTES] [--days D] [--visits V]
 abbrev pub rotation_options : List Rule
-rotation_options = option_named (codes "through-max") ∷ option_named (codes "days") ∷ option_named (codes "visits") ∷ []
+rotation_options = option_named (codes "through-max") ∷ option_named (codes "least-night") ∷ option_named (codes "days") ∷ option_named (codes "visits") ∷ []
 
 -- [--search fixed|free] [--nodes N] [--pivots P] [--all-pivots] [--json]
 abbrev pub search_options : List Rule

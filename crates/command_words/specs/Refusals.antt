@@ -88,7 +88,7 @@ table_flags = codes "windows" ∷ codes "optional" ∷ []
 
 -- by which rotations are looked for
 abbrev pub rotation_options : List Text
-rotation_options = codes "through-max" ∷ codes "days" ∷ codes "visits" ∷ []
+rotation_options = codes "through-max" ∷ codes "least-night" ∷ codes "days" ∷ codes "visits" ∷ []
 
 -- by which a plan is looked for
 abbrev pub search_options : List Text

@@ -2,17 +2,19 @@
 ghost use Rattle.std.specs.Prelude.{◌≡◌, ◌≤◌, ◌<◌, IfSome, Some, codes, option_map};
 ghost use Rattle.calendar_dates.specs.Days.{day_on};
 ghost use Rattle.clap.specs.Words.{first_of};
-ghost use Rattle.command_words.specs.Arguments.{AreDates, AreLimits, AreOptions, AreRotationLimits, IsLegCount, aircraft_in, budget_of, dates_in, day_start_in, is_given, legs_in, legs_read, number_in, options_in, past_at, period_in, reading_in, rotations_in, rows_in, search_in, settings_in, through_max_in, way_in, way_read};
+ghost use Rattle.command_words.specs.Arguments.{AreDates, AreLimits, AreOptions, AreRotationLimits, IsLegCount, aircraft_in, budget_of, dates_in, day_start_in, is_given, least_night_in, legs_in, legs_read, number_in, options_in, past_at, period_in, reading_in, rotations_in, rows_in, search_in, settings_in, through_max_in, way_in, way_read};
 ghost use Rattle.command_words.specs.Values.{number_read, value_or};
 ghost use Rattle.command_words.specs.Words.{dates_by};
 ghost use Rattle.fleet_model.specs.Limits.{AreSettings};
 ghost use Rattle.fleet_model.specs.declared.limits.TheConstants.{MAX_AIRCRAFT, MINUTES_PER_DAY};
+ghost use Rattle.command_words.specs.declared.command.TheConstants.{MAX_LEAST_NIGHT};
 
 use crate::command::{
-    DEFAULT_DAY_START, DEFAULT_DAYS, DEFAULT_NODES, DEFAULT_PERIOD, DEFAULT_PIVOTS,
-    DEFAULT_THROUGH_MAX, DEFAULT_VISITS, DEFAULT_WAY, Dates, MAX_DATES, MAX_DAYS, MAX_MADE_LEGS,
-    MAX_NODES, MAX_NUMBER, MAX_PERIOD, MAX_PIVOTS, MAX_THROUGH_MAX, MAX_VISITS, MIN_DATES,
-    MIN_DAYS, MIN_PERIOD, RotationLimits, SearchLimits, SearchWay, SolveOptions,
+    DEFAULT_DAY_START, DEFAULT_DAYS, DEFAULT_LEAST_NIGHT, DEFAULT_NODES, DEFAULT_PERIOD,
+    DEFAULT_PIVOTS, DEFAULT_THROUGH_MAX, DEFAULT_VISITS, DEFAULT_WAY, Dates, MAX_DATES, MAX_DAYS,
+    MAX_LEAST_NIGHT, MAX_MADE_LEGS, MAX_NODES, MAX_NUMBER, MAX_PERIOD, MAX_PIVOTS, MAX_THROUGH_MAX,
+    MAX_VISITS, MIN_DATES, MIN_DAYS, MIN_PERIOD, RotationLimits, SearchLimits, SearchWay,
+    SolveOptions,
 };
 use crate::values::{minute_of_day, number_between};
 use calendar_dates::{Date, civil_date, days_between, ends_in_calendar};
@@ -40,10 +42,12 @@ fn settings_of(found: &ArgMatches<'_>) -> Option<Settings>
 {
     let day_start = day_start_of(found)?;
     let through_max = through_max_of(found)?;
+    let least_night = least_night_of(found)?;
     let period = period_of(found)?;
     Some(Settings {
         day_start,
         through_max,
+        least_night,
         period,
     })
 }
@@ -67,6 +71,17 @@ fn through_max_of(found: &ArgMatches<'_>) -> Option<u16>
     let default = u64::from(DEFAULT_THROUGH_MAX);
     let wait = number_of(found, "through-max", default, 0, u64::from(MAX_THROUGH_MAX))?;
     Some(wait as u16)
+}
+
+/// The least minutes of a night for maintenance that an option gives, or their default, as where the command has no such
+/// option.
+fn least_night_of(found: &ArgMatches<'_>) -> Option<u16>
+    ensures read { result ≡ least_night_in (rows_in found.now) }
+    ensures fits { IfSome result (λ least. least ≤ MAX_LEAST_NIGHT) }
+{
+    let default = u64::from(DEFAULT_LEAST_NIGHT);
+    let least = number_of(found, "least-night", default, 0, u64::from(MAX_LEAST_NIGHT))?;
+    Some(least as u16)
 }
 
 /// The days of the period that an option gives, or their default.

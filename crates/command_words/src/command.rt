@@ -11,6 +11,12 @@ pub const DEFAULT_THROUGH_MAX: u16 = 60;
 /// The greatest longest wait of a through pair that an option may set, in minutes: it ends within a day.
 pub const MAX_THROUGH_MAX: u16 = MINUTES_PER_DAY - 1;
 
+/// The least minutes on the ground of a night for maintenance where no option sets them.
+pub const DEFAULT_LEAST_NIGHT: u16 = 0;
+
+/// The most of them that an option may set, those of a day: two nights in one wait are always longer.
+pub const MAX_LEAST_NIGHT: u16 = fleet_model::limits::MAX_LEAST_NIGHT;
+
 /// The days of the period where no option sets them.
 pub const DEFAULT_PERIOD: u16 = 1;
 
@@ -107,6 +113,7 @@ pub const DEFAULT_READING: TableOptions = TableOptions {
     settings: Settings {
         day_start: DEFAULT_DAY_START,
         through_max: DEFAULT_THROUGH_MAX,
+        least_night: DEFAULT_LEAST_NIGHT,
         period: DEFAULT_PERIOD,
     },
     windows: false,

@@ -4,7 +4,7 @@ ghost use Rattle.clap.specs.Words.{is_simple_and_free};
 ghost use Rattle.command_words.specs.Plain.{AsksByDefault, AsksFrom, AsksPlainly, ChecksByDefault, ChecksFrom, ChecksPlainly, DueByDefault, DuePlainly, DueWithin, JudgesByDefault, JudgesFrom, JudgesPlainly, MakesByDefault, MakesPlainly, MakesWithoutOptions, SolvesByDefault, SolvesByWay, SolvesFreely, SolvesPlainly, SolvesWithin, SolvesWithoutBudget, TailsByDefault, TailsPlainly, TailsWithin};
 ghost use Rattle.command_words.specs.Program.{our_app};
 ghost use Rattle.command_words.specs.Refusals.{NameAloneAsksNothing, NoWordsAskNothing, OtherWordsAskNothing, TakeFlagsPlainly, TakeOptionsOnce, TakeOwnOptions};
-ghost use Rattle.command_words.specs.declared.command.TheConstants.{DEFAULT_DAY_START, DEFAULT_DAYS, DEFAULT_NODES, DEFAULT_PERIOD, DEFAULT_PIVOTS, DEFAULT_THROUGH_MAX, DEFAULT_VISITS, DEFAULT_WAY, MAX_DATES, MAX_DAYS, MAX_MADE_LEGS, MAX_NODES, MAX_NUMBER, MAX_PERIOD, MAX_PIVOTS, MAX_THROUGH_MAX, MAX_VISITS, MIN_DATES, MIN_DAYS, MIN_PERIOD};
+ghost use Rattle.command_words.specs.declared.command.TheConstants.{DEFAULT_DAY_START, DEFAULT_DAYS, DEFAULT_LEAST_NIGHT, DEFAULT_NODES, DEFAULT_PERIOD, DEFAULT_PIVOTS, DEFAULT_THROUGH_MAX, DEFAULT_VISITS, DEFAULT_WAY, MAX_DATES, MAX_DAYS, MAX_LEAST_NIGHT, MAX_MADE_LEGS, MAX_NODES, MAX_NUMBER, MAX_PERIOD, MAX_PIVOTS, MAX_THROUGH_MAX, MAX_VISITS, MIN_DATES, MIN_DAYS, MIN_PERIOD};
 ghost use Rattle.command_words.specs.declared.command.SearchWay.TheVariants as way;
 
 /// The command line is of the kind for which clap's definition of a match is exact: by it alone clap tells a match
@@ -59,6 +59,8 @@ pub fn values_in_numbers()
     ensures day_start { DEFAULT_DAY_START ≡ 180 }
     ensures through_max { DEFAULT_THROUGH_MAX ≡ 60 }
     ensures most_through_max { MAX_THROUGH_MAX ≡ 1439 }
+    ensures least_night { DEFAULT_LEAST_NIGHT ≡ 0 }
+    ensures most_least_night { MAX_LEAST_NIGHT ≡ 1440 }
     ensures period { DEFAULT_PERIOD ≡ 1 }
     ensures least_period { MIN_PERIOD ≡ 1 }
     ensures most_period { MAX_PERIOD ≡ 7 }

@@ -5,6 +5,7 @@ use Rattle.std.proofs.Common.{◌≡◌, ◌≢◌, ℕ, zero, suc, ◌+◌, ◌
 use Rattle.std.specs.Prelude.{unwrap_or}
 use Rattle.std.proofs.lemmas.Bool.{cases_lt}
 use Rattle.std.proofs.lemmas.Int.{ints}
+use Rattle.frac_row.specs.Ratio.{IsCeiling}
 use Rattle.sums.specs.Below.{sum_below_ℤ}
 use Rattle.sums.proofs.WholeSums.{sum_below_ℤ-same}
 use Rattle.fleet_model.specs.declared.limits.TheConstants.{MAX_AIRCRAFT}
@@ -14,7 +15,10 @@ use Rattle.fleet_model.specs.declared.parts.Pair.{Pair}
 use Rattle.fleet_model.specs.declared.tables.Tables.{Tables}
 use Rattle.fleet_model.specs.Kept.{Domains}
 use Rattle.fleet_model.specs.OtherSizes.{IsOtherSize}
+use Rattle.fleet_model.specs.Sizes.{HoldsBy}
+use Rattle.fleet_model.specs.declared.sizes.Sizes.{Sizes}
 use Rattle.fleet_model.specs.Schedule.{choices_in, days_in, fleets_in, leg_on, legs_in, no_leg, period_of, stations_in}
+use Rattle.fleet_model.proofs.BySizes.{holds_too}
 use Rattle.fleet_model.proofs.OtherSizes.{aircraft_elsewhere, aircraft_there, choices_same, cost_same, days_same, departure_same, fleet_by_same, fleets_same, laps_same, legs_same, parking_same, period_same, ready_same, stations_same}
 use Rattle.dual_bound.specs.Prices.{ArePrices, charge_of, price_of, rent_of, with_charge}
 use Rattle.dual_bound.specs.Sizes.{IsUpTo}
@@ -123,3 +127,10 @@ module _ (t : Tables) (fleet count : ℕ) (u : Tables) (is : IsOtherSize t fleet
         ap₂ (λ x y. held (held (x +ℤ y) -ℤ held rents)) (is_held _ worth small_worth (omega (arith, few))) (is_held MAX_AIRCRAFT own small_own (omega arith))
         ∙ taken _ MAX_AIRCRAFT (worth +ℤ own) rents _ _ both small_rents few (ap₂ (λ x y. x +ℤ y) worth_is own_is) rents_is
         ∙ sym (worth_other known)
+
+-- ---- by any sizes
+-- a worth that is rounded up
+pub ceiling_by : (t : Tables) (by : Sizes) (keeps : Domains) (prices : Prices) (worth least : ℤ) → HoldsBy t by (λ u. worth ≡ worth_of u keeps prices 1) → IsCeiling worth prices.scale least
+    → HoldsBy t by (λ u. IsCeiling (worth_of u keeps prices 1) prices.scale least)
+ceiling_by t by keeps prices worth least holds is =
+    holds_too t by (λ u. worth ≡ worth_of u keeps prices 1) (λ u. IsCeiling (worth_of u keeps prices 1) prices.scale least) (λ u e. subst (λ w. IsCeiling w prices.scale least) e is) holds

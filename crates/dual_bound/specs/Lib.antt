@@ -7,6 +7,7 @@ pub mod Mixed
 pub mod Nodes
 pub mod OfTables
 pub mod Order
+pub mod Parts
 pub mod Prices
 pub mod Rising
 pub mod Sizes

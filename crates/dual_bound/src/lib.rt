@@ -8,6 +8,7 @@ pub mod laws;
 pub mod mixed;
 pub mod nodes;
 pub mod other_worth;
+pub mod parts;
 pub mod price_at;
 pub mod price_finder;
 pub mod prices;
@@ -20,6 +21,8 @@ pub mod worth;
 mod worth_less;
 
 pub use mixed::{Mixed, Weight};
+pub use other_worth::{rounded_worth, worth_by};
+pub use parts::Parts;
 pub use price_finder::PriceFinder;
 pub use prices::{Charge, PriceStep, Prices};
 pub use solved::Solved;

@@ -5,7 +5,7 @@ use entries::Entries;
 use fleet_model::Pair;
 
 /// How much of a leg takes a choice, in parts of a scale.
-#[derive(Clone, Copy, Debug, PartialEq, Eq)]
+#[derive(Clone, Copy)]
 pub struct Weight {
     /// The leg, by its number.
     pub leg: u32,
@@ -16,7 +16,7 @@ pub struct Weight {
 }
 
 /// A fractional assignment, a point of the linear relaxation: of each leg `scale` parts in all, each of one choice.
-#[derive(Debug, Drop)]
+#[derive(Drop)]
 pub struct Mixed {
     /// How many parts a leg has, 1 or more.
     pub scale: i128,

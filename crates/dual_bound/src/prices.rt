@@ -14,7 +14,7 @@ pub const MAX_PRICE: i128 = 1_000_000_000_000_000_000_000_000_000_000;
 pub const MAX_SIZE: u128 = 170_141_183_460_469_231_731_687_303_715_884_105_727;
 
 /// A change of a fleet's price at a station: from this minute on it is `value`, until the next step.
-#[derive(Clone, Copy, Debug, PartialEq, Eq)]
+#[derive(Clone, Copy)]
 pub struct PriceStep {
     /// The fleet, by its number.
     pub fleet: u32,
@@ -27,7 +27,7 @@ pub struct PriceStep {
 }
 
 /// What it costs that an aircraft of any fleet stands at a station at the end of a day.
-#[derive(Clone, Copy, Debug, PartialEq, Eq)]
+#[derive(Clone, Copy)]
 pub struct Charge {
     /// The station, by its number.
     pub station: u32,
@@ -40,7 +40,7 @@ pub struct Charge {
 /// Dual prices of a subproblem's constraints: for each fleet what an aircraft at a station is worth, minute by
 /// minute, and what the use of an aircraft costs (Hane and others 1995: balance and count); and what it costs that an
 /// aircraft stands overnight at a station where only so many may.
-#[derive(Debug, Drop)]
+#[derive(Drop)]
 pub struct Prices {
     /// What all numbers here are over, 1 or more.
     pub scale: i128,

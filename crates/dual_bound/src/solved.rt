@@ -6,7 +6,7 @@ use crate::trees::Tree;
 use fleet_model::Assignment;
 
 /// What the solver answers on tables, with the tree of subproblems that proves it.
-#[derive(Debug, Drop)]
+#[derive(Drop)]
 pub enum Solved {
     /// A legal plan with its exact cost, and a bound that no legal assignment undercuts, in cost units.
     Planned {

@@ -9,7 +9,7 @@ use std::mem;
 pub const MAX_DEPTH: usize = 20_000;
 
 /// Why a subproblem stayed open.
-#[derive(Debug, Drop)]
+#[derive(Drop)]
 pub enum Cause {
     /// No more subproblems were allowed; this fractional assignment is the best in it.
     Nodes(Mixed),
@@ -37,7 +37,6 @@ pub enum Cause {
 }
 
 /// A proof of a bound: subproblems, each with the reason why no legal assignment in it is cheaper.
-#[derive(Debug)]
 pub enum Tree {
     /// This leg keeps no choice, so nothing in the subproblem is legal.
     Bare {
@@ -176,7 +175,7 @@ impl Tree {
 
 /// How many subproblems of a tree were split, and how many of its leaves are open, by cause. A count stays at its
 /// last value, 2^64 - 1, once there.
-#[derive(Clone, Copy, Debug, PartialEq, Eq)]
+#[derive(Clone, Copy)]
 pub struct TreeCounts {
     /// Subproblems that were split.
     pub splits: u64,

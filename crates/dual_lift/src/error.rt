@@ -7,7 +7,7 @@ use thiserror::Error;
 
 /// A number that outgrew its limit, or passed that of scales or prices: first in this step, and there at this place.
 /// The steps, by their numbers, are below.
-#[derive(Clone, Copy, Debug, PartialEq, Eq, Error)]
+#[derive(Clone, Copy, Debug, Error)]
 #[error("too large in step {step} at {at}")]
 pub struct Excess {
     pub step: u64,
@@ -15,7 +15,7 @@ pub struct Excess {
 }
 
 /// Why a last table gives no prices.
-#[derive(Clone, Copy, Debug, PartialEq, Eq, Error)]
+#[derive(Clone, Copy, Debug, Error)]
 pub enum LiftError {
     /// A number is too large: first in this step, and there at this place.
     #[error("too large in step {step} at {at}")]

@@ -8,7 +8,7 @@ use crate::numbers::quotient;
 use frac_row::{FracRow, gcd, reduce};
 
 /// How large dual values in lowest terms may be.
-#[derive(Clone, Copy, Debug, PartialEq, Eq)]
+#[derive(Clone, Copy)]
 pub struct Limits {
     /// The greatest scale.
     pub scale: u64,

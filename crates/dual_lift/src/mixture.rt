@@ -14,7 +14,7 @@ use frac_row::growth::product;
 use row_store::RowStore;
 
 /// The cost row with so many of the phase row, both over one scale.
-#[derive(Clone, Copy, Debug)]
+#[derive(Clone, Copy)]
 pub struct Mixture {
     /// How often the phase row is added.
     pub phases: i128,

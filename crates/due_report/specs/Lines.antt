@@ -4,7 +4,7 @@ use Rattle.std.specs.Fmt.{decimal}
 use Rattle.calendar_dates.specs.Days.{Day, day_text, days_from, no_day}
 use Rattle.euler_rotation.specs.declared.rotation.Rotation.{Rotation}
 use Rattle.euler_rotation.specs.declared.rotation.Rotation.TheVariants as rotation
-use Rattle.fleet_model.specs.Schedule.{days_in, fleet_of}
+use Rattle.fleet_model.specs.Schedule.{days_in, fleet_of, leg_of, station_of}
 use Rattle.fleet_model.specs.declared.tables.Tables.{Tables}
 use Rattle.euler_rotation.specs.FleetRotations.{last_made, rotation_of}
 use Rattle.euler_rotation.specs.declared.fleet_rotation.FleetRotation.{FleetRotation}
@@ -13,6 +13,8 @@ use Rattle.rotation_report.specs.TextLines.{line_of}
 use Rattle.rotation_report.specs.declared.flying.FleetLines.{FleetLines}
 use Rattle.tail_dates.specs.declared.placing.Placed.{Placed}
 use Rattle.tail_dates.specs.declared.placing.Placed.TheVariants as placed
+use Rattle.tail_dates.specs.declared.tails.Place.{Place}
+use Rattle.tail_dates.specs.declared.tails.Place.TheVariants as place
 use Rattle.tail_dates.specs.declared.tails.TailState.{TailState}
 use Rattle.due_report.specs.Placings.{placing_of}
 
@@ -50,6 +52,35 @@ abbrev pub late_line : Tables → ℕ → ℕ → ℕ → ℕ → List ℕ
 late_line t f within tails starts =
     line_of ((fleet_of t f).name ∷ codes ": late within " ∷ decimal within ∷ codes ", tails " ∷ decimal tails ∷ codes ", starts " ∷ decimal starts ∷ [])
 
+-- what a place is called: a station by its code, and a flight by its name
+abbrev pub place_name : Tables → Place → List ℕ
+place_name t (place.Stands s) = (station_of t s).code
+place_name t (place.Flies l) = (leg_of t l).flight
+
+-- that only some of a fleet's tails are told where they are
+abbrev pub some_at_line : Tables → ℕ → ℕ → ℕ → List ℕ
+some_at_line t f at tails = line_of ((fleet_of t f).name ∷ codes ": at " ∷ decimal at ∷ codes " of " ∷ decimal tails ∷ [])
+
+-- that more starts are at a place than tails
+abbrev pub lacking_line : Tables → ℕ → Place → ℕ → ℕ → List ℕ
+lacking_line t f at tails starts =
+    line_of ((fleet_of t f).name ∷ codes ": at " ∷ place_name t at ∷ codes " tails " ∷ decimal tails ∷ codes ", starts " ∷ decimal starts ∷ [])
+
+-- that more of the tails at a place have to come to maintenance within so many nights than starts there do
+abbrev pub late_at_line : Tables → ℕ → Place → ℕ → ℕ → ℕ → List ℕ
+late_at_line t f at within tails starts =
+    line_of
+    ((fleet_of t f).name
+    ∷ codes ": late at "
+    ∷ place_name t at
+    ∷ codes " within "
+    ∷ decimal within
+    ∷ codes ", tails "
+    ∷ decimal tails
+    ∷ codes ", starts "
+    ∷ decimal starts
+    ∷ [])
+
 -- those of a fleet, whose tails begin with these lines of its tour
 abbrev pub begun_lines : Tables → List ℕ → ℕ → List ℕ → List TailState → List Day → List ℕ → List ℕ
 begun_lines t a f tour tails days starts = days_tails t (lines_by t a f tour) (names_of f tails) starts days (length days)
@@ -58,6 +89,9 @@ begun_lines t a f tour tails days starts = days_tails t (lines_by t a f tour) (n
 abbrev pub placed_lines : Tables → List ℕ → ℕ → List ℕ → List TailState → List Day → Placed → List ℕ
 placed_lines t a f tour tails days (placed.WrongNumber all used) = number_line t f all used
 placed_lines t a f tour tails days (placed.Late within all starts) = late_line t f within all starts
+placed_lines t a f tour tails days (placed.SomeAt at all) = some_at_line t f at all
+placed_lines t a f tour tails days (placed.Lacks at all starts) = lacking_line t f at all starts
+placed_lines t a f tour tails days (placed.LateAt at within all starts) = late_at_line t f at within all starts
 placed_lines t a f tour tails days (placed.Lines starts) = begun_lines t a f tour tails days starts
 
 -- those of a fleet on some days

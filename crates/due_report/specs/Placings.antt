@@ -14,7 +14,7 @@ use Rattle.tail_dates.specs.declared.placing.Placed.TheVariants as placed
 use Rattle.tail_dates.specs.declared.tails.TailState.{TailState}
 
 -- The tails of a fleet with this tour take starts of a day of the period by their rank. Each comes to maintenance in time by its
--- own, and where they are late, no starts do that.
+-- own, from where it is, and where they are late, or a place lacks tails, no starts do that.
 pub record ArePlacedOn (t : Tables) (a : List ℕ) (f : ℕ) (tour : List ℕ) (day : ℕ) (tails : List TailState) (answer : Placed) : Type 0 where
   pub placed : IsPlaced t a f tour day tails answer
   pub in_time : GivesStarts t a f tour day tails answer
@@ -46,11 +46,14 @@ ArePlacings t a rotations day tails placings = ArePlacedBelow t a rotations day 
 abbrev pub OnSomeDay : Tables → (ℕ → Type 0) → Type 0
 OnSomeDay t holds = (day : ℕ) × (day < days_in t) × holds day
 
--- a fleet's tails aren't as many as its aircraft, or can't all come to maintenance in time
+-- a fleet's tails aren't as many as its aircraft, are told only in part where they are, or can't all come to maintenance in time
 abbrev pub is_unplaced : Option Placed → Bool
 is_unplaced None = false
 is_unplaced (Some (placed.WrongNumber tails used)) = true
 is_unplaced (Some (placed.Late within tails starts)) = true
+is_unplaced (Some (placed.SomeAt at tails)) = true
+is_unplaced (Some (placed.Lacks at tails starts)) = true
+is_unplaced (Some (placed.LateAt at within tails starts)) = true
 is_unplaced (Some (placed.Lines starts)) = false
 
 -- some fleet's are so

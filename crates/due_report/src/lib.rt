@@ -3,6 +3,7 @@
 
 pub mod lines;
 pub mod placing;
+mod unplaced;
 
 pub use lines::due_lines;
 pub use placing::{are_unplaced, placings};

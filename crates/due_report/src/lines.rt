@@ -1,7 +1,7 @@
 //! What each named tail flies on each date.
 ghost use Rattle.std.specs.Prelude.{◌≡◌, ◌++◌, ◌*◌, ◌<◌, ◌^◌, IfOk, OnOk, length, map};
 ghost use Rattle.calendar_dates.specs.Days.{HasDays, day_on};
-ghost use Rattle.due_report.specs.Lines.{AreBegun, begun_lines, days_tails, due_text, fleet_due, fleets_due, late_line, names_of, number_line, placed_lines, tail_line, tails_on};
+ghost use Rattle.due_report.specs.Lines.{AreBegun, begun_lines, days_tails, due_text, fleet_due, fleets_due, names_of, placed_lines, tail_line, tails_on};
 ghost use Rattle.due_report.specs.Placings.{ArePlacings, IsPlacing, OnSomeDay};
 ghost use Rattle.fleet_model.specs.Legal.{IsAssignment};
 ghost use Rattle.fleet_model.specs.Schedule.{days_in, fleets_in};
@@ -11,6 +11,7 @@ ghost use Rattle.lines_of_flying.specs.Lines.{BeginsAfterStart};
 ghost use Rattle.rotation_report.specs.Tails.{AreLinesOf, lines_by};
 ghost use Rattle.tail_dates.specs.Placing.{IsPlaced};
 
+use crate::unplaced::{push_lacking, push_late, push_late_at, push_number, push_some_at};
 use calendar_dates::{Date, dates_from};
 use entries::{Entries, NoMemory};
 use euler_rotation::{FleetRotation, Rotation};
@@ -134,6 +135,18 @@ fn push_placed(
             tails,
             starts,
         } => push_late(alloc, text, tables, fleet, *within, *tails, *starts),
+        Placed::SomeAt { at, tails } => push_some_at(alloc, text, tables, fleet, *at, *tails),
+        Placed::Lacks {
+            place,
+            tails,
+            starts,
+        } => push_lacking(alloc, text, tables, fleet, *place, *tails, *starts),
+        Placed::LateAt {
+            place,
+            within,
+            tails,
+            starts,
+        } => push_late_at(alloc, text, tables, fleet, *place, *within, *tails, *starts),
         Placed::Lines(starts) => {
             let starts = starts.as_slice();
             push_begun(alloc, text, tables, plan, fleet, tour, tails, starts, dates)
@@ -164,62 +177,6 @@ fn push_begun(
     let flown = lines_by(alloc, tables, plan, fleet, tour)?;
     let names = names_of(alloc, tails, fleet)?;
     push_days(alloc, text, tables, &flown, &names, starts, dates)
-}
-
-/// Appends `F: tails N of M`.
-fn push_number(
-    alloc: Global,
-    text: &mut Vec<u8>,
-    tables: &Tables,
-    fleet: u32,
-    tails: u64,
-    used: u32,
-) -> Result<(), NoMemory>
-    requires { fleet < fleets_in tables.now }
-    ensures { OnOk result (text.new.items ≡ text.old.items ++ number_line tables.now fleet tails used) }
-{
-    let tails = tails.to_string(alloc)?;
-    let used = used.to_string(alloc)?;
-    push_line(
-        text,
-        &[
-            tables.fleet(fleet).name.as_slice(),
-            b": tails ".as_slice(),
-            tails.as_bytes(),
-            b" of ".as_slice(),
-            used.as_bytes(),
-        ],
-    )
-}
-
-/// Appends `F: late within V, tails N, starts M`.
-fn push_late(
-    alloc: Global,
-    text: &mut Vec<u8>,
-    tables: &Tables,
-    fleet: u32,
-    within: u64,
-    tails: u64,
-    starts: u64,
-) -> Result<(), NoMemory>
-    requires { fleet < fleets_in tables.now }
-    ensures { OnOk result (text.new.items ≡ text.old.items ++ late_line tables.now fleet within tails starts) }
-{
-    let within = within.to_string(alloc)?;
-    let tails = tails.to_string(alloc)?;
-    let starts = starts.to_string(alloc)?;
-    push_line(
-        text,
-        &[
-            tables.fleet(fleet).name.as_slice(),
-            b": late within ".as_slice(),
-            within.as_bytes(),
-            b", tails ".as_slice(),
-            tails.as_bytes(),
-            b", starts ".as_slice(),
-            starts.as_bytes(),
-        ],
-    )
 }
 
 /// The names of a fleet's tails, in their order.

@@ -62,8 +62,8 @@ fn placing(
     }
 }
 
-/// Whether the tails of a fleet with a tour are too few or too many, or can't all come to maintenance in time. Takes no
-/// memory.
+/// Whether the tails of a fleet with a tour are too few or too many, or can't all come to maintenance in time from where they
+/// are told to be, or it is told of some of them alone. Takes no memory.
 pub fn are_unplaced(placings: &[Option<Placed>]) -> bool
     ensures { result ≡ are_unplaced placings.now }
 {
@@ -76,6 +76,8 @@ fn is_unplaced(placing: &Option<Placed>) -> bool
 {
     match placing {
         Some(Placed::WrongNumber { .. }) | Some(Placed::Late { .. }) => true,
+        Some(Placed::SomeAt { .. }) | Some(Placed::Lacks { .. }) | Some(Placed::LateAt { .. }) =>
+            true,
         Some(Placed::Lines(_)) | None => false,
     }
 }

@@ -2,7 +2,7 @@
 use entries::Entries;
 
 /// An end that somebody found.
-#[derive(Debug, Drop)]
+#[derive(Drop)]
 pub enum Hint {
     /// A cheapest point.
     Point(PointHint),
@@ -11,7 +11,7 @@ pub enum Hint {
 }
 
 /// Dual values of the lines, and a point that is said to cost what their right sides weigh.
-#[derive(Debug, Drop)]
+#[derive(Drop)]
 pub struct PointHint {
     /// A dual value for each line, and no more, over their scale.
     pub duals: Entries<i128>,
@@ -22,7 +22,7 @@ pub struct PointHint {
 }
 
 /// Multipliers of the lines, which are said to weigh no column above 0, and the right sides above 0.
-#[derive(Debug, Drop)]
+#[derive(Drop)]
 pub struct RefusalHint {
     /// One for each line, and no more.
     pub multipliers: Entries<i128>,

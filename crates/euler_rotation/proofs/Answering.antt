@@ -1,7 +1,7 @@
 -- What becomes of a fleet's rotation: the cases, and that the search is complete.
 use Rattle.std.proofs.Common.{◌≡◌, ℕ, ◌*◌, ◌<◌, ◌≤◌, Bool, IsTrue, true, false, ◌||◌, ◌==◌, if◌then◌else◌, List, [], ◌∷◌, Result, Ok, Err, IfOk, length, slice_index, sym, ◌∙◌, ap, subst, inl, inr, arith}
 use Rattle.std.specs.List.{list_any}
-use Rattle.std.proofs.Math.Nat.{mul_comm}
+use Rattle.std.proofs.Math.Nat.{mul_comm, mul-le-mul_left}
 use Rattle.std.proofs.lemmas.Bool.{cases_lt, eq-eqb, eqb-true}
 use Rattle.std.proofs.lemmas.List.{get_or_default}
 use Rattle.std.proofs.lemmas.List.Sums.{sum_by-append}
@@ -11,10 +11,11 @@ use Rattle.fleet_model.specs.declared.parts.Connection.{Connection}
 use Rattle.fleet_model.specs.declared.tables.Tables.{Tables}
 use Rattle.entries.specs.declared.memory.NoMemory.{NoMemory}
 use Rattle.ground_turns.specs.Maps.{IsTour, turns_round}
-use Rattle.ground_turns.specs.Nights.{IsMaintainedFrom, can_maintain, maintained_in, nights_of_tour}
+use Rattle.ground_turns.specs.Nights.{IsMaintainedFrom, can_maintain, maintained_in, nights_at_maintenance, nights_of_tour}
 use Rattle.ground_turns.specs.declared.nights.Night.{Night}
 use Rattle.ground_turns.specs.declared.nights.Night.TheVariants as night
 use Rattle.ground_turns.proofs.MaintainedNights.{kept_has_nights, maintained_are_stands}
+use Rattle.ground_turns.proofs.Stays.{all_are_maintained, maintained_are_there}
 use Rattle.ground_turns.proofs.TourNights.{nights_are_use}
 use Rattle.ground_turns.proofs.Totals.{some_counted}
 use Rattle.ground_turns.proofs.Rounds.{bit}
@@ -35,22 +36,28 @@ use Rattle.euler_rotation.proofs.TourTurns.{own_leg, tour_order}
 use Rattle.sums.proofs.Rounds.{from_start}
 
 module _ (t : Tables) (a : List ℕ) (f : ℕ) where
-  -- the nights of a tour, and those at maintenance stations
+  -- the nights of a tour, those at maintenance stations, and those for maintenance
   tour_nights : (legs : List ℕ) → IsTour t a f legs → length (nights_of_tour t f legs) ≡ nights_used t a f
   tour_nights legs tour = nights_are_use t a f (turns_round legs) tour.fitting
 
-  tour_maintained : (legs : List ℕ) → IsTour t a f legs → maintained_in t (nights_of_tour t f legs) ≡ nights_maintained t a f
-  tour_maintained legs tour = maintained_are_stands t a f (turns_round legs) tour.fitting
+  tour_there : (legs : List ℕ) → IsTour t a f legs → nights_at_maintenance t (nights_of_tour t f legs) ≡ nights_maintained t a f
+  tour_there legs tour = maintained_are_stands t a f (turns_round legs) tour.fitting
+
+  tour_few : (legs : List ℕ) → IsTour t a f legs → maintained_in t (nights_of_tour t f legs) ≤ nights_maintained t a f
+  tour_few legs tour = omega (arith, maintained_are_there t (nights_of_tour t f legs), tour_there legs tour)
+
+  tour_maintained : (legs : List ℕ) → IsTour t a f legs → t.settings.least_night ≡ 0 → maintained_in t (nights_of_tour t f legs) ≡ nights_maintained t a f
+  tour_maintained legs tour none = all_are_maintained t f (turns_round legs) none ∙ tour_there legs tour
 
   module _ (pairs : List Connection) (days : ℕ) where
     -- with too few nights no tour is kept
     pub too_few : (legs : List ℕ) → nights_maintained t a f * days < nights_used t a f → IsKeptTour t a f pairs days legs → ⊥
     too_few legs few kept =
         contradict (length (nights_of_tour t f legs)) (nights_used t a f) days (maintained_in t (nights_of_tour t f legs)) (nights_maintained t a f)
-        (kept_has_nights t (nights_of_tour t f legs) days kept.kept) (tour_nights legs kept.tour) (tour_maintained legs kept.tour) few
+        (kept_has_nights t (nights_of_tour t f legs) days kept.kept) (tour_nights legs kept.tour) (tour_few legs kept.tour) few
       where
-        contradict : (l u d m h : ℕ) → l ≤ d * m → l ≡ u → m ≡ h → h * d < u → ⊥
-        contradict l u d m h le e g lt = let same : d * m ≡ h * d = ap (λ n. d * n) g ∙ mul_comm d h in omega (arith, le, e, same, lt)
+        contradict : (l u d m h : ℕ) → l ≤ d * m → l ≡ u → m ≤ h → h * d < u → ⊥
+        contradict l u d m h le e g lt = let most : d * m ≤ d * h = mul-le-mul_left d g in omega (arith, le, e, most, mul_comm d h, lt)
 
     -- some night counts
     some_night : (nights : List Night) → 0 < maintained_in t nights → list_any (can_maintain t) nights ≡ true
@@ -62,9 +69,9 @@ module _ (t : Tables) (a : List ℕ) (f : ℕ) where
         or_else : Bool → Bool → Bool
         or_else b c = b || c
 
-    -- where there are as many days as nights, each tour is kept if one is
-    pub all_kept : (joined legs : List ℕ) → AreEnough t a f days → IsTourWith t a f pairs joined → nights_used t a f ≤ days → IsKeptTour t a f pairs days legs → IsKeptTour t a f pairs days joined
-    all_kept joined legs nights tour many kept = record { tour = tour.tour; holds = tour.holds; kept = record { some = some; each = each } }
+    -- where there are as many days as nights and none is short, each tour is kept if one is
+    pub all_kept : (joined legs : List ℕ) → t.settings.least_night ≡ 0 → AreEnough t a f days → IsTourWith t a f pairs joined → nights_used t a f ≤ days → IsKeptTour t a f pairs days legs → IsKeptTour t a f pairs days joined
+    all_kept joined legs none_short nights tour many kept = record { tour = tour.tour; holds = tour.holds; kept = record { some = some; each = each } }
       where
         long : length (nights_of_tour t f joined) ≡ length (nights_of_tour t f legs)
         long = tour_nights joined tour.tour ∙ sym (tour_nights legs kept.tour)
@@ -73,7 +80,7 @@ module _ (t : Tables) (a : List ℕ) (f : ℕ) where
         some = omega (arith, long, kept.kept.some)
 
         maintained : 0 < maintained_in t (nights_of_tour t f joined)
-        maintained = above (nights_used t a f) (nights_maintained t a f) days (maintained_in t (nights_of_tour t f joined)) nights.enough (omega (arith, kept.kept.some, tour_nights legs kept.tour)) (tour_maintained joined tour.tour)
+        maintained = above (nights_used t a f) (nights_maintained t a f) days (maintained_in t (nights_of_tour t f joined)) nights.enough (omega (arith, kept.kept.some, tour_nights legs kept.tour)) (tour_maintained joined tour.tour none_short)
           where
             above : (u h d m : ℕ) → u ≤ h * d → 0 < u → m ≡ h → 0 < m
             above u h d m le lt e = elim (cases_lt 0 m) [ inl more ↦ more | inr none ↦ absurd (zero u h d (omega arith) le lt) ]
@@ -124,7 +131,7 @@ module _ (t : Tables) (a : List ℕ) (f : ℕ) where
     complete visits (rotation.Spent order prefix) is suffice = ((λ none. absurd none), (λ has. spent suffice))
       where
         spent : Suffice t a f pairs days visits → ⊥
-        spent (inl many) = omega (arith, many, is.few)
+        spent (inl many) = omega (arith, many.1, is.few many.0)
         spent (inr few) = omega (arith, few order is.visited.each_leg, is.visited.more)
 
     pub complete_all : (visits : ℕ) (answer : Result Rotation NoMemory) → IfOk answer (IsRotation t a f pairs days visits) → IfOk answer (IsComplete t a f pairs days visits)

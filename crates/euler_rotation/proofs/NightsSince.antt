@@ -72,52 +72,52 @@ below_none t days x some n (suc k) lt =
     least : (days : ℕ) → 0 < days → nat_lt 0 days ≡ true
     least days lt = grind (arith, nat_tests)
 
--- ---- the nights of a turn: aloft, and then at a station
-abbrev nights_of_turn : ℕ → ℕ → ℕ → List Night
-nights_of_turn k m s = replicate k night.Aloft ++ replicate m (night.At s)
+-- ---- the nights of a turn: aloft, and then of one kind
+abbrev nights_of_turn : ℕ → ℕ → Night → List Night
+nights_of_turn k m x = replicate k night.Aloft ++ replicate m x
 
-module _ (t : Tables) (days n k m s : ℕ) (few : n < days) where
-  front : stays_below t days n (nights_of_turn k m s) ≡ (nat_lt (n + k) days && stays_below t days (n + k) (replicate m (night.At s)))
+module _ (t : Tables) (days n k m : ℕ) (x : Night) (few : n < days) where
+  front : stays_below t days n (nights_of_turn k m x) ≡ (nat_lt (n + k) days && stays_below t days (n + k) (replicate m x))
   front =
-      below_append t days n (replicate k night.Aloft) (replicate m (night.At s))
-      ∙ ap (λ b. b && stays_below t days (nights_since t n (replicate k night.Aloft)) (replicate m (night.At s))) (below_more t days night.Aloft refl n k few)
-      ∙ ap (λ j. nat_lt (n + k) days && stays_below t days j (replicate m (night.At s))) (since_more t night.Aloft refl n k)
+      below_append t days n (replicate k night.Aloft) (replicate m x)
+      ∙ ap (λ b. b && stays_below t days (nights_since t n (replicate k night.Aloft)) (replicate m x)) (below_more t days night.Aloft refl n k few)
+      ∙ ap (λ j. nat_lt (n + k) days && stays_below t days j (replicate m x)) (since_more t night.Aloft refl n k)
 
-  back : nights_since t n (nights_of_turn k m s) ≡ nights_since t (n + k) (replicate m (night.At s))
-  back = since_append t n (replicate k night.Aloft) (replicate m (night.At s)) ∙ ap (λ j. nights_since t j (replicate m (night.At s))) (since_more t night.Aloft refl n k)
+  back : nights_since t n (nights_of_turn k m x) ≡ nights_since t (n + k) (replicate m x)
+  back = since_append t n (replicate k night.Aloft) (replicate m x) ∙ ap (λ j. nights_since t j (replicate m x)) (since_more t night.Aloft refl n k)
 
-  pub too_many_aloft : days ≤ n + k → stays_below t days n (nights_of_turn k m s) ≡ false
-  too_many_aloft full = front ∙ ap (λ b. b && stays_below t days (n + k) (replicate m (night.At s))) (le-ltb (n + k) days full)
+  pub too_many_aloft : days ≤ n + k → stays_below t days n (nights_of_turn k m x) ≡ false
+  too_many_aloft full = front ∙ ap (λ b. b && stays_below t days (n + k) (replicate m x)) (le-ltb (n + k) days full)
 
   -- where those aloft are few enough
   module _ (less : n + k < days) where
     tested : nat_lt (n + k) days ≡ true
     tested = lt-ltb (n + k) days less
 
-    rest : stays_below t days n (nights_of_turn k m s) ≡ stays_below t days (n + k) (replicate m (night.At s))
-    rest = front ∙ ap (λ b. b && stays_below t days (n + k) (replicate m (night.At s))) tested
+    rest : stays_below t days n (nights_of_turn k m x) ≡ stays_below t days (n + k) (replicate m x)
+    rest = front ∙ ap (λ b. b && stays_below t days (n + k) (replicate m x)) tested
 
-    pub none_waited : (since : ℕ) → m ≡ 0 → since ≡ n + k → StayBelow t days n (nights_of_turn k m s) since
+    pub none_waited : (since : ℕ) → m ≡ 0 → since ≡ n + k → StayBelow t days n (nights_of_turn k m x) since
     none_waited since none is = record {
-      below = rest ∙ ap (λ j. stays_below t days (n + k) (replicate j (night.At s))) none;
-      since_is = is ∙ sym (back ∙ ap (λ j. nights_since t (n + k) (replicate j (night.At s))) none);
+      below = rest ∙ ap (λ j. stays_below t days (n + k) (replicate j x)) none;
+      since_is = is ∙ sym (back ∙ ap (λ j. nights_since t (n + k) (replicate j x)) none);
       few = omega arith;
     }
 
-    pub maintained : 0 < m → can_maintain t (night.At s) ≡ true → StayBelow t days n (nights_of_turn k m s) 0
+    pub maintained : 0 < m → can_maintain t x ≡ true → StayBelow t days n (nights_of_turn k m x) 0
     maintained some there = record {
-      below = rest ∙ below_none t days (night.At s) there (n + k) m (omega arith);
-      since_is = sym (back ∙ ap (λ j. nights_since t (n + k) (replicate j (night.At s))) (one_behind m some) ∙ since_none t (night.At s) there (n + k) (m - 1));
+      below = rest ∙ below_none t days x there (n + k) m (omega arith);
+      since_is = sym (back ∙ ap (λ j. nights_since t (n + k) (replicate j x)) (one_behind m some) ∙ since_none t x there (n + k) (m - 1));
       few = omega arith;
     }
 
-    pub too_many_stood : can_maintain t (night.At s) ≡ false → days ≤ n + k + m → stays_below t days n (nights_of_turn k m s) ≡ false
-    too_many_stood there full = rest ∙ below_more t days (night.At s) there (n + k) m less ∙ le-ltb (n + k + m) days full
+    pub too_many_stood : can_maintain t x ≡ false → days ≤ n + k + m → stays_below t days n (nights_of_turn k m x) ≡ false
+    too_many_stood there full = rest ∙ below_more t days x there (n + k) m less ∙ le-ltb (n + k + m) days full
 
-    pub stood : (since : ℕ) → can_maintain t (night.At s) ≡ false → since < days → since ≡ n + k + m → StayBelow t days n (nights_of_turn k m s) since
+    pub stood : (since : ℕ) → can_maintain t x ≡ false → since < days → since ≡ n + k + m → StayBelow t days n (nights_of_turn k m x) since
     stood since there low is = record {
-      below = rest ∙ below_more t days (night.At s) there (n + k) m less ∙ lt-ltb (n + k + m) days (omega arith);
-      since_is = is ∙ sym (back ∙ since_more t (night.At s) there (n + k) m);
+      below = rest ∙ below_more t days x there (n + k) m less ∙ lt-ltb (n + k + m) days (omega arith);
+      since_is = is ∙ sym (back ∙ since_more t x there (n + k) m);
       few = low;
     }
 
@@ -129,8 +129,8 @@ repeated_any t x (suc m) = ap (λ b. can_maintain t x || b) (repeated_any t x m)
     more : (b : Bool) (m : ℕ) → (b || (nat_lt 0 m && b)) ≡ (nat_lt 0 (suc m) && b)
     more b m = grind (arith, nat_tests)
 
-pub some_in_turn : (t : Tables) (k m s : ℕ) → list_any (can_maintain t) (nights_of_turn k m s) ≡ (nat_lt 0 m && can_maintain t (night.At s))
-some_in_turn t k m s =
-    list_any-append (can_maintain t) (replicate k night.Aloft) (replicate m (night.At s))
-    ∙ ap (λ b. b || list_any (can_maintain t) (replicate m (night.At s))) (repeated_any t night.Aloft k ∙ and-false (nat_lt 0 k))
-    ∙ repeated_any t (night.At s) m
+pub some_in_turn : (t : Tables) (k m : ℕ) (x : Night) → list_any (can_maintain t) (nights_of_turn k m x) ≡ (nat_lt 0 m && can_maintain t x)
+some_in_turn t k m x =
+    list_any-append (can_maintain t) (replicate k night.Aloft) (replicate m x)
+    ∙ ap (λ b. b || list_any (can_maintain t) (replicate m x)) (repeated_any t night.Aloft k ∙ and-false (nat_lt 0 k))
+    ∙ repeated_any t x m

@@ -51,11 +51,11 @@ pub record AreVisited (t : Tables) (a : List ℕ) (f : ℕ) (pairs : List Connec
   pub none : (k : ℕ) → k < visits → IsKeptTour t a f pairs days (entry_of (preorder t a f pairs days order) k) → ⊥
   pub last : prefix ≡ numbered (preorder t a f pairs days order) visits
 
--- some tour holds the pairs and there are fewer days than nights, and so many prefixes were visited in vain
+-- some tour holds the pairs, there are fewer days than nights or nights may be short, and so many prefixes were visited in vain
 pub record IsSpent (t : Tables) (a : List ℕ) (f : ℕ) (pairs : List Connection) (days visits : ℕ) (order prefix : List ℕ) : Type 0 where
   pub nights : AreEnough t a f days
   pub tour : HasTour t a f pairs
-  pub few : days < nights_used t a f
+  pub few : t.settings.least_night ≡ 0 → days < nights_used t a f
   pub visited : AreVisited t a f pairs days visits order prefix
 
 -- what is said of each answer
@@ -76,9 +76,9 @@ IsTourAnswer (rotation.Tour legs) = Unit {0}
 IsTourAnswer rotation.None = ⊥
 IsTourAnswer (rotation.Spent order prefix) = ⊥
 
--- the search comes to its end: there are as many days as nights, or under no order more prefixes than visits
+-- the search comes to its end: there are as many days as nights and none is short, or under no order more prefixes than visits
 abbrev pub Suffice : Tables → List ℕ → ℕ → List Connection → ℕ → ℕ → Type 0
-Suffice t a f pairs days visits = (nights_used t a f ≤ days) ⊎ ((order : List ℕ) → IsOrder t a f order → length (preorder t a f pairs days order) ≤ visits)
+Suffice t a f pairs days visits = ((t.settings.least_night ≡ 0) × (nights_used t a f ≤ days)) ⊎ ((order : List ℕ) → IsOrder t a f order → length (preorder t a f pairs days order) ≤ visits)
 
 -- then the answer is a kept tour exactly where one holds the pairs
 abbrev pub IsComplete : Tables → List ℕ → ℕ → List Connection → ℕ → ℕ → Rotation → Type 0

@@ -101,7 +101,7 @@ fn is_often(asked: &Asked<'_>, legs: &[u32]) -> bool
     }
 }
 
-// Whether a night of a tour is at a maintenance station.
+// Whether a night of a tour is for maintenance.
 fn has_some(asked: &Asked<'_>, legs: &[u32]) -> bool
     requires asked { IsAsked asked.now }
     requires known { AreKnown asked.now.tables.now legs.now }

@@ -1,15 +1,14 @@
 //! The nights of a fleet, and how many pass without maintenance.
 ghost use Rattle.std.specs.Prelude.{◌≡◌, ◌+◌, ◌<◌, ◌≤◌, true, false, MatchOption};
 ghost use Rattle.std.specs.List.{list_any};
-ghost use Rattle.fleet_model.specs.Schedule.{legs_in, station_of};
+ghost use Rattle.fleet_model.specs.Schedule.{legs_in};
 ghost use Rattle.ground_turns.specs.Nights.{can_maintain, nights_in_turn};
-ghost use Rattle.ground_turns.specs.Turns.{station_at};
 ghost use Rattle.euler_rotation.specs.Asked.{IsAsked};
 ghost use Rattle.euler_rotation.specs.Often.{GoesOn, nights_since, stays_below};
 
 use crate::asked::Asked;
 use fleet_model::Connection;
-use ground_turns::{flight, nights_waited};
+use ground_turns::{flight, is_maintained, nights_waited};
 
 /// The nights without maintenance after those of a turn, where so many came before; nothing where they come to the days
 /// that are asked for. Takes no memory.
@@ -31,7 +30,7 @@ pub(crate) fn since_after(asked: &Asked<'_>, since: u32, turn: Connection) -> Op
     if waited == 0 {
         return Some(aloft);
     }
-    if is_maintained(asked, turn) {
+    if is_maintained(asked.tables, asked.fleet, turn) {
         return Some(0);
     }
     if aloft + waited >= asked.days {
@@ -40,28 +39,18 @@ pub(crate) fn since_after(asked: &Asked<'_>, since: u32, turn: Connection) -> Op
     Some(aloft + waited)
 }
 
-// Whether a turn is at a maintenance station.
-fn is_maintained(asked: &Asked<'_>, turn: Connection) -> bool
-    requires { turn.arriving < legs_in asked.now.tables.now }
-    ensures { result ≡ (station_of asked.now.tables.now (station_at asked.now.tables.now turn)).maintenance }
-{
-    asked
-        .tables
-        .station(asked.tables.leg(turn.arriving).to)
-        .maintenance
-}
-
-/// Whether a night of a turn is at a maintenance station. Takes no memory.
+/// Whether a night of a turn is for maintenance. Takes no memory.
 pub(crate) fn has_maintenance(asked: &Asked<'_>, turn: Connection) -> bool
     requires asked { IsAsked asked.now }
     requires arriving { turn.arriving < legs_in asked.now.tables.now }
     requires departing { turn.departing < legs_in asked.now.tables.now }
     ensures { result ≡ list_any (can_maintain asked.now.tables.now) (nights_in_turn asked.now.tables.now asked.now.fleet turn) }
 {
-    nights_waited(asked.tables, asked.fleet, turn) > 0 && is_maintained(asked, turn)
+    nights_waited(asked.tables, asked.fleet, turn) > 0
+        && is_maintained(asked.tables, asked.fleet, turn)
 }
 
-/// The nights of a turn but those at a maintenance station. Takes no memory.
+/// The nights of a turn but those for maintenance. Takes no memory.
 pub(crate) fn nights_without(asked: &Asked<'_>, turn: Connection) -> u32
     requires asked { IsAsked asked.now }
     requires arriving { turn.arriving < legs_in asked.now.tables.now }
@@ -70,7 +59,7 @@ pub(crate) fn nights_without(asked: &Asked<'_>, turn: Connection) -> u32
     let aloft = asked
         .tables
         .nights(flight(asked.tables, turn.arriving, asked.fleet));
-    if is_maintained(asked, turn) {
+    if is_maintained(asked.tables, asked.fleet, turn) {
         aloft
     } else {
         aloft + nights_waited(asked.tables, asked.fleet, turn)

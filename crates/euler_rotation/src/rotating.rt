@@ -1,5 +1,5 @@
 //! The rotation of a fleet.
-ghost use Rattle.std.specs.Prelude.{◌≡◌, ◌<◌, ◌≤◌, ℕ, IfOk};
+ghost use Rattle.std.specs.Prelude.{◌≡◌, ◌<◌, ◌≤◌, ◌==◌, ◌&&◌, nat_le, ℕ, IfOk};
 ghost use Rattle.fleet_model.specs.Legal.{IsAssignment};
 ghost use Rattle.fleet_model.specs.Schedule.{fleets_in};
 ghost use Rattle.ground_turns.specs.Maps.{IsHeld};
@@ -24,8 +24,8 @@ use fleet_model::{Assignment, Connection, Tables};
 use std::alloc::Global;
 
 /// What becomes of the rotation of a fleet whose tour is to hold given pairs: a tour of all its legs in which any so many
-/// days one after another have a night at a maintenance station, or the cause why there is none. At most so many
-/// prefixes of such tours are visited.
+/// days one after another have a night for maintenance, or the cause why there is none. At most so many prefixes of such
+/// tours are visited.
 ///
 /// The cycles of a fitting map are joined to one tour (Gopalan and Talluri 1998). Where that isn't kept, parts of it change
 /// places, and at last all beginnings of kept tours are visited in a fixed order.
@@ -140,7 +140,7 @@ fn told_by(
     if is_kept_tour(clean, tour) {
         return Ok(Found::Tour(begun(alloc, clean.asked, tour)?));
     }
-    if clean.asked.days >= used {
+    if are_alike(clean.asked, used) {
         return Ok(Found::Nothing);
     }
     match found(alloc, clean, tour, visits)? {
@@ -148,6 +148,13 @@ fn told_by(
         Found::Nothing => Ok(Found::Nothing),
         Found::Spent(prefix) => Ok(Found::Spent(prefix)),
     }
+}
+
+// Whether all tours are kept or none is: no night is short, and there are as many days as nights.
+fn are_alike(asked: &Asked<'_>, used: u32) -> bool
+    ensures { result ≡ ((asked.now.tables.now.settings.least_night == 0) && nat_le used asked.now.days) }
+{
+    asked.tables.settings.least_night == 0 && asked.days >= used
 }
 
 // What is found where a tour isn't kept: the tour improved, or what a search under its order finds.

@@ -11,7 +11,7 @@ use Rattle.fleet_cli.proofs.SameBytes.{follows_plan, same_answer, same_follows}
 use Rattle.fleet_cli.specs.Answer.{Answers, TellsProof}
 use Rattle.fleet_cli.specs.Contents.{FileBytes, bytes_in, same_file, with_plan}
 use Rattle.fleet_cli.specs.Gathered.{AllHeld, IsAmong, IsHeld}
-use Rattle.fleet_cli.specs.Opened.{Awaits, Settles}
+use Rattle.fleet_cli.specs.Opened.{Awaits, AnswersAtOnce}
 use Rattle.fleet_cli.specs.Reading.{IsReached, first_files, folder_of}
 use Rattle.fleet_cli.specs.declared.answer.Answer.{Answer}
 use Rattle.fleet_cli.specs.declared.opened.Checking.{Checking}
@@ -27,7 +27,7 @@ module _ (held : Files) (asked : Option Asked) (bytes : FileBytes) (first : AllH
   all_there = front_in held (folder_of asked) (first_files asked) (length (first_files asked)) bytes first
 
   -- no more files are asked for
-  pub settled : (answer : Answer) → Settles asked bytes answer → Answers held asked answer
+  pub settled : (answer : Answer) → AnswersAtOnce asked bytes answer → Answers held asked answer
   settled answer x = inr (record {
     within = record { first = all_there; further = λ f follows. absurd (x.no_more f (same_follows asked there bytes (λ g among. sym (agrees g among)) f follows)) };
     answers = same_answer asked bytes there agrees (λ f follows. absurd (x.no_more f follows)) answer x.answers;
@@ -63,7 +63,7 @@ module _ (held : Files) (asked : Option Asked) (bytes : FileBytes) (first : AllH
 -- ---- the same of a desk that may not tell
 
 module _ (told : Option Files) (asked : Option Asked) (bytes : FileBytes) (first : IfSome told (λ held. AllHeld held (folder_of asked) (first_files asked) bytes)) where
-  pub told_settled : (answer : Answer) → Settles asked bytes answer → IfSome told (λ held. Answers held asked answer)
+  pub told_settled : (answer : Answer) → AnswersAtOnce asked bytes answer → IfSome told (λ held. Answers held asked answer)
   told_settled answer x = by_told told first
     where
       by_told : (o : Option Files) → IfSome o (λ held. AllHeld held (folder_of asked) (first_files asked) bytes) → IfSome o (λ held. Answers held asked answer)

@@ -1,15 +1,14 @@
--- What checking says of a proof doesn't change with the longest wait of a through pair.
-use Rattle.std.proofs.Common.{◌≡◌, ◌⊎◌, ℕ, ◌<◌, ◌≤◌, Bool, List, ℤ, Option, Some, None, inl, inr, refl, sym, ap, subst, ◌∙◌, arith}
-use Rattle.std.proofs.lemmas.Bool.{cases_lt}
+-- What checking says of a proof doesn't change with settings other than the day start and the days of the period.
+use Rattle.std.proofs.Common.{◌≡◌, ℕ, Bool, List, ℤ, Option, Some, None, inl, inr, refl, sym, ap, subst, ◌∙◌}
 use Rattle.bound_cert.proofs.OtherReading.{reads_by}
 use Rattle.cert_check.proofs.OtherSettings.{holds_by, legal_by}
 use Rattle.command_words.specs.Words.{check}
 use Rattle.fleet_model.specs.Legal.{cost_of, total_cost}
 use Rattle.fleet_model.specs.Limits.{AreSettings}
 use Rattle.fleet_model.specs.Schedule.{days_in, fleet_by, slot_by}
-use Rattle.fleet_model.specs.Period.{minutes_of}
 use Rattle.fleet_model.specs.declared.options.TableOptions.{TableOptions}
 use Rattle.fleet_model.specs.declared.parts.Settings.{Settings}
+use Rattle.fleet_model.proofs.SettingsFit.{fit_or_not}
 use Rattle.fleet_model.specs.declared.tables.Tables.{Tables}
 use Rattle.plan_desk.specs.Desk.{Files}
 use Rattle.plan_desk.specs.declared.file.DeskFile.TheVariants as file
@@ -28,20 +27,11 @@ use Rattle.fleet_cli.specs.SolvedChecked.{CountAlike}
 use Rattle.fleet_cli.specs.declared.answer.Answer.{Answer}
 
 -- files read by settings that are within their limits
-wait_in_day : (bytes : AllBytes) (options : TableOptions) (t : Tables) → FilesRead bytes options t → options.settings.through_max < minutes_of 1
-wait_in_day bytes options t reads =
-    let fits = t.in_range.settings_fit.through_max in
-    let same : t.settings.through_max ≡ options.settings.through_max = ap (λ (s : Settings). s.through_max) (settings_read bytes options t reads) in
-    omega (arith, fits, same)
+read_within : (bytes : AllBytes) (options : TableOptions) (t : Tables) → FilesRead bytes options t → AreSettings options.settings
+read_within bytes options t reads = subst AreSettings (settings_read bytes options t reads) t.in_range.settings_fit
 
 days_are : (bytes : AllBytes) (options : TableOptions) (t : Tables) → FilesRead bytes options t → t.settings.period ≡ options.settings.period
 days_are bytes options t reads = ap (λ (s : Settings). s.period) (settings_read bytes options t reads)
-
-day_in_day : (bytes : AllBytes) (options : TableOptions) (t : Tables) → FilesRead bytes options t → options.settings.day_start < minutes_of 1
-day_in_day bytes options t reads =
-    let fits = t.in_range.settings_fit.day_start in
-    let same : t.settings.day_start ≡ options.settings.day_start = ap (λ (s : Settings). s.day_start) (settings_read bytes options t reads) in
-    omega (arith, fits, same)
 
 module _ (held : Files) (dir : List ℕ) where
   module _ (t : Tables) (settings : Settings) (fit : AreSettings settings) (as_long : t.settings.period ≡ settings.period) where
@@ -92,40 +82,28 @@ module _ (held : Files) (dir : List ℕ) where
           holds = holds_by t.stations t.fleets t.legs t.costs t.throughs t.departures t.windows t.optional (t.settings, t.in_range) (checking.settings, u.in_range) as_long x.cost x.proof.tree x.bound x.holds;
         }
 
-    -- where checking answers at all, its longest wait is within its limit
-    never_answered : (answer : Answer) → ProofThere held dir solving → minutes_of 1 ≤ checking.settings.through_max → Answers held (Some (check dir checking)) answer → ⊥
-    never_answered answer x great (inl long) =
+    -- where checking answers at all, its settings are within their limits
+    never_answered : (answer : Answer) → ProofThere held dir solving → ¬ (AreSettings checking.settings) → Answers held (Some (check dir checking)) answer → ⊥
+    never_answered answer x unfit (inl long) =
         within_or_long (Some (check dir checking)) held long.file
         (all_within held (Some (check dir checking)) (subst (AllStand held dir) same_files x.there) (λ follows. absurd (unread follows.1.tables follows.1.reads))) long.longer
       where
         unread : (t : Tables) → FilesRead (table_bytes (bytes_in held dir)) checking t → ⊥
-        unread t reads = let small = wait_in_day (table_bytes (bytes_in held dir)) checking t reads in omega (arith, great, small)
-    never_answered answer x great (inr read) = by_tables read.answers
+        unread t reads = unfit (read_within (table_bytes (bytes_in held dir)) checking t reads)
+    never_answered answer x unfit (inr read) = by_tables read.answers
       where
         solving_fits : AreSettings solving.settings
-        solving_fits = subst AreSettings (settings_read (table_bytes (bytes_in held dir)) solving x.tables x.reads) x.tables.in_range.settings_fit
+        solving_fits = read_within (table_bytes (bytes_in held dir)) solving x.tables x.reads
 
         by_tables : Checks checking (table_bytes (bytes_in held dir)) (bytes_in held dir file.Proof) (bytes_in held dir file.Plan) answer → ⊥
         by_tables (inl refused) =
             no_fault (table_bytes (bytes_in held dir)) solving x.tables refused.file refused.row refused.kind x.reads
             (fault_by_day (table_bytes (bytes_in held dir)) checking solving (sym alike.day_start) (sym alike.days) (sym alike.windows) (sym alike.optional) solving_fits refused.file refused.row refused.kind refused.bad)
-        by_tables (inr answers) = let small = wait_in_day (table_bytes (bytes_in held dir)) checking answers.tables answers.reads in omega (arith, great, small)
+        by_tables (inr answers) = unfit (read_within (table_bytes (bytes_in held dir)) checking answers.tables answers.reads)
 
     -- so a proof that stands there by some settings is one by those of an answer to checking that counts minutes alike
     pub proof_by_day : (answer : Answer) → ProofThere held dir solving → Answers held (Some (check dir checking)) answer → ProofThere held dir checking
-    proof_by_day answer x answers = by_wait (cases_lt checking.settings.through_max (minutes_of 1))
-      where
-        days : x.tables.settings.period ≡ checking.settings.period
-        days = days_are (table_bytes (bytes_in held dir)) solving x.tables x.reads ∙ alike.days
-
-        settings_fit : checking.settings.through_max < minutes_of 1 → AreSettings checking.settings
-        settings_fit small = record {
-          day_start = rw (← alike.day_start) (day_in_day (table_bytes (bytes_in held dir)) solving x.tables x.reads);
-          through_max = small;
-          some_days = rw (← days) x.tables.in_range.settings_fit.some_days;
-          few_days = rw (← days) x.tables.in_range.settings_fit.few_days;
-        }
-
-        by_wait : (checking.settings.through_max < minutes_of 1) ⊎ (minutes_of 1 ≤ checking.settings.through_max) → ProofThere held dir checking
-        by_wait (inl small) = proof_by (settings_fit small) x
-        by_wait (inr great) = absurd (never_answered answer x great answers)
+    proof_by_day answer x answers = elim (fit_or_not checking.settings) [
+      | inl fit ↦ proof_by fit x
+      | inr unfit ↦ absurd (never_answered answer x unfit answers)
+    ]

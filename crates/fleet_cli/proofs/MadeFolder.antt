@@ -188,7 +188,7 @@ by_plan t plan (solved.Infeasible tree) legal right = absurd (right.none.none pl
 by_plan t plan (solved.Unsettled bound tree) legal right = inr (inr refl)
 
 defaults_fit : AreSettings DEFAULT_READING.settings
-defaults_fit = record { day_start = omega arith; through_max = omega arith; some_days = omega arith; few_days = omega arith }
+defaults_fit = record { day_start = omega arith; through_max = omega arith; least_night = omega arith; some_days = omega arith; few_days = omega arith }
 
 -- made tables have no fault
 pub never_bad : (number legs : ℕ) (made : MadeTables) (loaded : Result Tables LoadError) (error : LoadError) (bad : BadInput) → CanBeMade number legs → made ≡ made_tables number legs

@@ -15,7 +15,7 @@ use Rattle.fleet_cli.proofs.Skeletons.{never_read, says_one}
 use Rattle.fleet_cli.specs.Answer.{TellsOn, TellsProof}
 use Rattle.fleet_cli.specs.Refusals.{RefusesProof, RefusesTables, fleet_named, says}
 use Rattle.fleet_cli.specs.Contents.{FileBytes, table_bytes}
-use Rattle.fleet_cli.specs.Opened.{IsOpened, IsOpenedBy, IsOpenedOn, OpensProof, Settles, TellsAlone}
+use Rattle.fleet_cli.specs.Opened.{IsOpened, IsOpenedBy, IsOpenedOn, OpensProof, AnswersAtOnce, TellsAlone}
 use Rattle.fleet_cli.specs.Reading.{WantsPlan}
 use Rattle.fleet_cli.specs.Texts.{unknown_fleet_text}
 use Rattle.fleet_cli.specs.declared.status.TheConstants.{REFUSED}
@@ -65,7 +65,7 @@ wants_plan reading bytes text t asks checking reads by = record { tables = t; pr
 -- ---- checking
 
 module _ (dir : List ℕ) (reading : TableOptions) (bytes : FileBytes) where
-  pub refused_settles : (answer : Answer) → RefusesTables (table_bytes bytes) reading answer → Settles (Some (check dir reading)) bytes answer
+  pub refused_settles : (answer : Answer) → RefusesTables (table_bytes bytes) reading answer → AnswersAtOnce (Some (check dir reading)) bytes answer
   refused_settles answer x = record {
     no_more = λ f follows. tables.no_fault (table_bytes bytes) reading follows.1.tables x.file x.row x.kind follows.1.reads x.bad;
     answers = inl x;
@@ -97,7 +97,7 @@ module _ (t : Tables) (name : List ℕ) (count : ℕ) (text : List ℕ) where
 -- by the tables
 
 module _ (dir : List ℕ) (reading : TableOptions) (name : List ℕ) (count : ℕ) (bytes : FileBytes) where
-  pub refused_unasked : (answer : Answer) → RefusesTables (table_bytes bytes) reading answer → Settles (Some (whatif dir reading name count)) bytes answer
+  pub refused_unasked : (answer : Answer) → RefusesTables (table_bytes bytes) reading answer → AnswersAtOnce (Some (whatif dir reading name count)) bytes answer
   refused_unasked answer x = record {
     no_more = λ f follows. tables.no_fault (table_bytes bytes) reading follows.1.wants.tables x.file x.row x.kind follows.1.wants.reads x.bad;
     answers = inl x;

@@ -1,6 +1,6 @@
 -- What is read one after the other: one answer, what follows of it, and that what is good is not refused. Each of these
 -- once, for whatever is answered on what was read.
-use Rattle.std.proofs.Common.{◌≡◌, ℕ, ◌+◌, ◌-◌, Bool, List, length, Some, None, Err, Ok, refl, sym, ap, subst, ◌∙◌, inl, inr, arith, map}
+use Rattle.std.proofs.Common.{◌≡◌, ℕ, ◌+◌, ◌-◌, Bool, List, length, Some, None, Err, Ok, refl, sym, ap, subst, ◌∙◌, inl, inr, arith}
 use mathlib.Core.Bool.{false≢true}
 use Rattle.std.specs.Prelude.{IsSome}
 use Rattle.std.proofs.lemmas.Option.{same_Some}
@@ -14,7 +14,6 @@ use Rattle.dual_bound.specs.declared.nodes.Node.{Node}
 use Rattle.fleet_model.specs.Legal.{IsLegal, total_cost}
 use Rattle.fleet_model.specs.declared.options.TableOptions.{TableOptions}
 use Rattle.fleet_model.specs.declared.tables.Tables.{Tables}
-use Rattle.fleet_tables.specs.Fleets.{fleet_name_of}
 use Rattle.plan_judge.proofs.OneVerdict.{one_verdict}
 use Rattle.plan_judge.specs.declared.verdicts.Verdict.TheVariants as verdict
 use Rattle.plan_text.proofs.ReadOrNot.{reads_or_not}
@@ -23,8 +22,8 @@ use Rattle.sched_read.proofs.FileReadLaws as tables
 use Rattle.sched_read.specs.Files.{AllBytes, FilesRead}
 use Rattle.fleet_cli.specs.Refusals.{RefusesFleet, RefusesPlan, RefusesProof, RefusesTables, RefusesTails, RefusesVerdict, fleet_named, says, verdict_status}
 use Rattle.fleet_cli.specs.Skeletons.{OnFleet, OnLegal, OnPlan, OnProof, OnTables, OnTails}
-use Rattle.table_rows.proofs.OneReading.{table_bad_same, table_reads_no_fault, table_reads_same}
-use Rattle.tail_dates.specs.TailTable.{TailsRead, tail_header, tail_name_of, tail_read}
+use Rattle.tail_dates.proofs.TailReads as tail_file
+use Rattle.tail_dates.specs.TailTable.{TailsRead}
 use Rattle.tail_dates.specs.declared.tails.TailState.{TailState}
 use Rattle.fleet_cli.specs.Texts.{verdict_text}
 use Rattle.fleet_cli.specs.declared.answer.Answer.{Answer}
@@ -64,13 +63,10 @@ never_legal t plan answer x legal =
     let bad : ◌≡◌ {A = ℕ} 0 9 = sym (ap verdict_status same) ∙ x.refused in
     omega arith
 
--- a table of tails reads as one list, or has one first fault, and not both
+-- a table of tails that reads has no fault
 module _ (t : Tables) (bytes : List ℕ) where
-  one_list : (one other : List TailState) → TailsRead (map fleet_name_of t.fleets) (records_of bytes) one → TailsRead (map fleet_name_of t.fleets) (records_of bytes) other → one ≡ other
-  one_list one other = table_reads_same tail_name_of (tail_read (map fleet_name_of t.fleets)) tail_header (records_of bytes) one other
-
-  never_listed : (answer : Answer) (tails : List TailState) → RefusesTails t bytes answer → TailsRead (map fleet_name_of t.fleets) (records_of bytes) tails → ⊥
-  never_listed answer tails x reads = table_reads_no_fault tail_name_of (tail_read (map fleet_name_of t.fleets)) tail_header (records_of bytes) tails x.row x.kind reads x.bad
+  never_listed : (answer : Answer) (tails : List TailState) → RefusesTails t bytes answer → TailsRead t (records_of bytes) tails → ⊥
+  never_listed answer tails x reads = tail_file.no_fault t (records_of bytes) tails x.row x.kind reads x.bad
 
 -- a name is that of a fleet, or of none
 pub never_named : (t : Tables) (name : List ℕ) (fleet : ℕ) → fleet_named t name ≡ None → fleet_named t name ≡ Some fleet → ⊥
@@ -105,7 +101,7 @@ module _ (answer other : Answer) where
 
   refuses_tails : (t : Tables) (bytes : List ℕ) → RefusesTails t bytes answer → RefusesTails t bytes other → answer ≡ other
   refuses_tails t bytes x y =
-      let same = table_bad_same tail_name_of (tail_read (map fleet_name_of t.fleets)) tail_header (records_of bytes) x.row y.row x.kind y.kind x.bad y.bad in
+      let same = tail_file.one_fault t (records_of bytes) x.row y.row x.kind y.kind x.bad y.bad in
       x.is ∙ rw (same.0, same.1) refl ∙ sym y.is
 
   pub one_tables : (reading : TableOptions) (bytes : AllBytes) (finish : Tables → Answer → Type 0) → ((t : Tables) → finish t answer → finish t other → answer ≡ other)
@@ -122,7 +118,7 @@ module _ (answer other : Answer) where
     one_tails bytes finish one (inl x) (inl y) = refuses_tails t bytes x y
     one_tails bytes finish one (inl x) (inr y) = absurd (never_listed t bytes answer y.tails x y.reads)
     one_tails bytes finish one (inr x) (inl y) = absurd (never_listed t bytes other x.tails y x.reads)
-    one_tails bytes finish one (inr x) (inr y) = one y.tails (subst (λ tails. finish tails answer) (one_list t bytes x.tails y.tails x.reads y.reads) x.finishes) y.finishes
+    one_tails bytes finish one (inr x) (inr y) = one y.tails (subst (λ tails. finish tails answer) (tail_file.one_list t (records_of bytes) x.tails y.tails x.reads y.reads) x.finishes) y.finishes
 
     pub one_fleet : (name : List ℕ) (finish : ℕ → Answer → Type 0) → ((fleet : ℕ) → fleet_named t name ≡ Some fleet → finish fleet answer → finish fleet other → answer ≡ other)
         → OnFleet t name finish answer → OnFleet t name finish other → answer ≡ other
@@ -198,10 +194,10 @@ module _ (answer : Answer) where
   there_tables reading bytes finish t reads (inr x) = subst (λ u. finish u answer) (tables.one_reading bytes reading x.tables t x.reads reads) x.finishes
 
   module _ (t : Tables) where
-    pub there_tails : (bytes : List ℕ) (finish : List TailState → Answer → Type 0) (tails : List TailState) → TailsRead (map fleet_name_of t.fleets) (records_of bytes) tails → OnTails t bytes finish answer
+    pub there_tails : (bytes : List ℕ) (finish : List TailState → Answer → Type 0) (tails : List TailState) → TailsRead t (records_of bytes) tails → OnTails t bytes finish answer
         → finish tails answer
     there_tails bytes finish tails reads (inl x) = absurd (never_listed t bytes answer tails x reads)
-    there_tails bytes finish tails reads (inr x) = subst (λ s. finish s answer) (one_list t bytes x.tails tails x.reads reads) x.finishes
+    there_tails bytes finish tails reads (inr x) = subst (λ s. finish s answer) (tail_file.one_list t (records_of bytes) x.tails tails x.reads reads) x.finishes
 
     -- the fleet that is there is some fleet
     pub there_fleet : (name : List ℕ) (finish : ℕ → Answer → Type 0) → IsSome (fleet_named t name) → OnFleet t name finish answer → (fleet : ℕ) × finish fleet answer

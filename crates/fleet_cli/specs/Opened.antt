@@ -36,7 +36,7 @@ LoadsSettling (loaded.Refused answer) = ⊤
 LoadsSettling (loaded.Read tables) = CanSettle tables
 
 -- no further file is asked for, and this is the answer
-pub record Settles (asked : Option Asked) (bytes : FileBytes) (answer : Answer) : Type 0 where
+pub record AnswersAtOnce (asked : Option Asked) (bytes : FileBytes) (answer : Answer) : Type 0 where
   pub no_more : (f : DeskFile) → ¬ (Follows asked bytes f)
   pub answers : AnswersOf asked bytes answer
 
@@ -63,7 +63,7 @@ pub record Awaits (asked : Option Asked) (bytes : FileBytes) (checking : Checkin
 
 -- what the first files come to
 abbrev pub IsOpened : Option Asked → FileBytes → Opened → Type 0
-IsOpened asked bytes (opened.Answered answer) = Settles asked bytes answer
+IsOpened asked bytes (opened.Answered answer) = AnswersAtOnce asked bytes answer
 IsOpened asked bytes (opened.WantsPlan checking) = Awaits asked bytes checking
 
 -- the proof's text reads and says that no plan comes with it, and it is told of its tree what is asked

@@ -8,7 +8,6 @@ use Rattle.fleet_model.specs.declared.options.TableOptions.{TableOptions}
 use Rattle.fleet_model.specs.declared.refusals.TableFile.{TableFile}
 use Rattle.fleet_model.specs.declared.refusals.TheConstants.{TOO_LONG}
 use Rattle.fleet_model.specs.declared.tables.Tables.{Tables}
-use Rattle.fleet_tables.specs.Fleets.{fleet_name_of}
 use Rattle.plan_desk.specs.declared.file.DeskFile.{DeskFile}
 use Rattle.plan_desk.specs.declared.file.DeskFile.TheVariants as desk_file
 use Rattle.plan_judge.specs.Verdicts.{IsVerdict}
@@ -44,7 +43,7 @@ pub record RefusesTables (bytes : AllBytes) (reading : TableOptions) (answer : A
 pub record RefusesTails (t : Tables) (bytes : List ℕ) (answer : Answer) : Type 0 where
   pub row : ℕ
   pub kind : ℕ
-  pub bad : TailsBad (map fleet_name_of t.fleets) (records_of bytes) row kind
+  pub bad : TailsBad t (records_of bytes) row kind
   pub is : answer ≡ says BAD_INPUT (bad_input_text desk_file.Tails row kind)
 
 -- the number of the fleet of this name, where the tables have one

@@ -7,7 +7,6 @@ use Rattle.csv_fields.specs.Record.{records_of}
 use Rattle.fleet_model.specs.Legal.{IsLegal, total_cost}
 use Rattle.fleet_model.specs.declared.options.TableOptions.{TableOptions}
 use Rattle.fleet_model.specs.declared.tables.Tables.{Tables}
-use Rattle.fleet_tables.specs.Fleets.{fleet_name_of}
 use Rattle.plan_desk.specs.Counts.{IsOneMoreAtMost, counted}
 use Rattle.plan_desk.specs.Desk.{Files}
 use Rattle.plan_desk.specs.Sink.{AppendsPrefix, handed_with, output_with}
@@ -72,7 +71,7 @@ pub record DueThere (held : Files) (dir : List ℕ) (reading : TableOptions) : T
   pub plan : List ℕ
   pub there : AllStand held dir (due_files reading)
   pub reads : FilesRead (table_bytes (bytes_in held dir)) reading tables
-  pub tails_read : TailsRead (map fleet_name_of tables.fleets) (records_of (bytes_in held dir desk_file.Tails)) tails
+  pub tails_read : TailsRead tables (records_of (bytes_in held dir desk_file.Tails)) tails
   pub plan_reads : PlanReads tables (records_of (bytes_in held dir desk_file.Plan)) plan
   pub legal : IsLegal tables plan
 

@@ -7,7 +7,6 @@ use Rattle.csv_fields.specs.Record.{records_of}
 use Rattle.fleet_model.specs.Legal.{IsLegal}
 use Rattle.fleet_model.specs.declared.options.TableOptions.{TableOptions}
 use Rattle.fleet_model.specs.declared.tables.Tables.{Tables}
-use Rattle.fleet_tables.specs.Fleets.{fleet_name_of}
 use Rattle.plan_text.specs.Reading.{PlanReads}
 use Rattle.retime_windows.specs.Settled.{IsSettled}
 use Rattle.sched_read.specs.Files.{AllBytes, FilesRead}
@@ -28,7 +27,7 @@ OnTables reading bytes finish answer = RefusesTables bytes reading answer ⊎ Ta
 -- the table of tails reads, and the rest is answered on the tails
 pub record TailsListed (t : Tables) (bytes : List ℕ) (finish : List TailState → Answer → Type 0) (answer : Answer) : Type 0 where
   pub tails : List TailState
-  pub reads : TailsRead (map fleet_name_of t.fleets) (records_of bytes) tails
+  pub reads : TailsRead t (records_of bytes) tails
   pub finishes : finish tails answer
 
 abbrev pub OnTails : Tables → List ℕ → (List TailState → Answer → Type 0) → Answer → Type 0

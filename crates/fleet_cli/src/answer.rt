@@ -8,14 +8,14 @@ use plan_desk::DeskFile;
 use std::alloc::Global;
 
 /// A file that a run writes, whole.
-#[derive(Debug, Drop)]
+#[derive(Drop)]
 pub struct FileText {
     pub file: DeskFile,
     pub bytes: Entries<u8>,
 }
 
 /// What a run answers: how it ends, what it puts, and the files that it writes before, in this order.
-#[derive(Debug, Drop)]
+#[derive(Drop)]
 pub struct Answer {
     pub status: Status,
     pub text: Entries<u8>,
@@ -23,7 +23,7 @@ pub struct Answer {
 }
 
 /// Why a run has no answer.
-#[derive(Clone, Copy, Debug, PartialEq, Eq)]
+#[derive(Clone, Copy)]
 pub enum Failure {
     /// The desk failed; it tells which file is to blame.
     Fault,

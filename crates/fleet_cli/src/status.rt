@@ -1,5 +1,5 @@
 /// How a run ended: the exit status of the program.
-#[derive(Clone, Copy, Debug, PartialEq, Eq)]
+#[derive(Clone, Copy)]
 pub struct Status {
     /// One of the numbers below.
     pub code: u8,

@@ -1,4 +1,5 @@
 pub mod Bits
+pub mod BySizes
 pub mod Choices
 pub mod CostLookup
 pub mod Departures
@@ -19,6 +20,7 @@ pub mod PeriodMinutes
 pub mod Periods
 pub mod PlainTables
 pub mod ParkingLimits
+pub mod SettingsFit
 pub mod SoleFleets
 pub mod TablesSame
 pub mod ToldPairs

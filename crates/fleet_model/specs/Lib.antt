@@ -13,6 +13,7 @@ pub mod OwnTimes
 pub mod Period
 pub mod Plain
 pub mod Schedule
+pub mod Sizes
 pub mod Times
 pub mod Use
 pub mod Whole

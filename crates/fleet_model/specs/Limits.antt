@@ -12,7 +12,7 @@ use Rattle.fleet_model.specs.declared.parts.PairCost.{PairCost}
 use Rattle.fleet_model.specs.declared.parts.Through.{Through}
 use Rattle.fleet_model.specs.declared.parts.Settings.{Settings}
 use Rattle.fleet_model.specs.declared.shifts.Shift.{Shift}
-use Rattle.fleet_model.specs.declared.limits.TheConstants.{MINUTES_PER_DAY, MAX_PERIOD, MAX_STATIONS, MAX_FLEETS, MAX_LEGS, MAX_THROUGHS, MAX_AIRCRAFT, MAX_GROUND_MINUTES, MAX_PARKING, MAX_COST, MAX_SHIFT, MAX_SHIFTS, MAX_TRIPLES}
+use Rattle.fleet_model.specs.declared.limits.TheConstants.{MINUTES_PER_DAY, MAX_PERIOD, MAX_STATIONS, MAX_FLEETS, MAX_LEGS, MAX_THROUGHS, MAX_AIRCRAFT, MAX_GROUND_MINUTES, MAX_LEAST_NIGHT, MAX_PARKING, MAX_COST, MAX_SHIFT, MAX_SHIFTS, MAX_TRIPLES}
 
 pub record IsStation (station : Station) : Type 0 where
   pub code : IsStationCode station.code
@@ -74,6 +74,7 @@ pub record IsThrough (legs : ℕ) (entry : Through) : Type 0 where
 pub record AreSettings (settings : Settings) : Type 0 where
   pub day_start : settings.day_start < MINUTES_PER_DAY
   pub through_max : settings.through_max < MINUTES_PER_DAY
+  pub least_night : settings.least_night ≤ MAX_LEAST_NIGHT
   pub some_days : 1 ≤ settings.period
   pub few_days : settings.period ≤ MAX_PERIOD
 

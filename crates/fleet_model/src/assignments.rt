@@ -7,7 +7,7 @@ use std::marker::Model;
 /// An assignment: a choice for each leg, by number, in the order of the legs. Contracts see the list of choices.
 ///
 /// It lies in a row of fixed size, so that no call on it takes memory.
-#[derive(Debug, Drop)]
+#[derive(Drop)]
 pub struct Assignment {
     choices: [u32; MAX_LEGS],
     legs: usize,

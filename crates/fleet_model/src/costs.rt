@@ -9,7 +9,7 @@ use std::marker::Model;
 ///
 /// It remembers whether its entries rise by leg and fleet, as they mostly do in a file, and then finds one by
 /// bisection.
-#[derive(Debug, Drop)]
+#[derive(Drop)]
 pub struct Costs {
     entries: Vec<PairCost>,
     rising: bool,

@@ -14,7 +14,7 @@ use std::marker::Model;
 
 /// A step from a subproblem into a part of it: `yes` leaves only this pair on the leg, and no (`yes` is false)
 /// removes it.
-#[derive(Clone, Copy, Debug, PartialEq, Eq)]
+#[derive(Clone, Copy)]
 pub struct Step {
     pub leg: u32,
     pub choice: u32,
@@ -24,7 +24,7 @@ pub struct Step {
 /// The pairs that a subproblem keeps. Contracts see which (`kept_by`), and no more of it.
 ///
 /// It lies in rows of fixed size, so that no call on it takes memory.
-#[derive(Clone, Copy, Debug)]
+#[derive(Clone, Copy)]
 pub struct Kept {
     rows: [[bool; MAX_CHOICES]; MAX_LEGS],
 }

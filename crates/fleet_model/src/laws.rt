@@ -1,7 +1,7 @@
 //! The laws of need and use, over all tables and weights, of kept pairs and of mixed plans. Each function is a law:
 //! its contract is the statement, and it does nothing.
 ghost use Rattle.std.specs.Prelude.{◌≡◌, ◌<◌, ℕ, List, pos};
-ghost use Rattle.fleet_model.specs.declared.limits.TheConstants.{MAX_AIRCRAFT, MAX_CHOICES, MAX_COST, MAX_DEPARTURES, MAX_FLEETS, MAX_GROUND_MINUTES, MAX_LEGS, MAX_PARKING, MAX_PERIOD, MAX_SHIFT, MAX_SHIFTS, MAX_STATIONS, MAX_THROUGHS, MAX_TRIPLES, MINUTES_PER_DAY};
+ghost use Rattle.fleet_model.specs.declared.limits.TheConstants.{MAX_AIRCRAFT, MAX_CHOICES, MAX_COST, MAX_DEPARTURES, MAX_FLEETS, MAX_GROUND_MINUTES, MAX_LEAST_NIGHT, MAX_LEGS, MAX_PARKING, MAX_PERIOD, MAX_SHIFT, MAX_SHIFTS, MAX_STATIONS, MAX_THROUGHS, MAX_TRIPLES, MINUTES_PER_DAY};
 ghost use Rattle.fleet_model.specs.declared.refusals.TheConstants.{BAD_FIELD, DUPLICATE, NOT_TEXT, TOO_LONG, TOO_MANY, TOO_MANY_CHOICES, TOO_MANY_OF_FLIGHT, TO_ITSELF, UNKNOWN_FLEET, UNKNOWN_FLIGHT, UNKNOWN_STATION, WRONG_HEADER, WRONG_WIDTH, ZERO_BLOCK};
 ghost use Rattle.fleet_model.specs.declared.tables.Tables.{Tables};
 ghost use Rattle.fleet_model.specs.Legal.{IsAssignment};
@@ -102,6 +102,7 @@ pub fn limits_in_numbers()
     ensures throughs { MAX_THROUGHS ≡ 2000 }
     ensures aircraft { MAX_AIRCRAFT ≡ 500 }
     ensures ground_minutes { MAX_GROUND_MINUTES ≡ 600 }
+    ensures least_night { MAX_LEAST_NIGHT ≡ 1440 }
     ensures parking { MAX_PARKING ≡ 10000 }
     ensures cost { MAX_COST ≡ pos 1000000000000 }
     ensures day { MINUTES_PER_DAY ≡ 1440 }

@@ -37,6 +37,9 @@ pub const MAX_AIRCRAFT: u32 = 500;
 /// The longest turn of a fleet and the longest extra time of a station, in minutes.
 pub const MAX_GROUND_MINUTES: u16 = 600;
 
+/// The longest stay that a night for maintenance may be asked to have, in minutes.
+pub const MAX_LEAST_NIGHT: u16 = MINUTES_PER_DAY;
+
 /// The most ground arcs of one day: of each fleet at each station one in each minute.
 pub const MAX_DAY_ARCS: usize = MAX_FLEETS * MAX_STATIONS * MINUTES_PER_DAY as usize;
 

@@ -2,7 +2,7 @@ use crate::shifts::Shifts;
 use entries::Entries;
 
 /// A station.
-#[derive(Debug, Drop)]
+#[derive(Drop)]
 pub struct Station {
     /// Three capital letters.
     pub code: Entries<u8>,
@@ -15,7 +15,7 @@ pub struct Station {
 }
 
 /// A fleet: the aircraft of one type.
-#[derive(Debug, Drop)]
+#[derive(Drop)]
 pub struct Fleet {
     /// One to eight capital letters and digits.
     pub name: Entries<u8>,
@@ -26,7 +26,7 @@ pub struct Fleet {
 }
 
 /// A leg: one flight of the schedule, flown once a period.
-#[derive(Debug, Drop)]
+#[derive(Drop)]
 pub struct Leg {
     /// One to eight capital letters and digits.
     pub flight: Entries<u8>,
@@ -69,14 +69,14 @@ pub struct PairCost {
 }
 
 /// A leg that arrives and one that departs, by number, in one aircraft.
-#[derive(Clone, Copy, Debug, PartialEq, Eq, Hash)]
+#[derive(Clone, Copy, PartialEq, Eq, Hash)]
 pub struct Connection {
     pub arriving: u32,
     pub departing: u32,
 }
 
 /// Two legs that passengers would like to fly in one aircraft, and what that is worth, in cost units.
-#[derive(Clone, Copy, Debug, PartialEq, Eq)]
+#[derive(Clone, Copy)]
 pub struct Through {
     /// The leg that arrives.
     pub arriving: u32,
@@ -86,12 +86,15 @@ pub struct Through {
 }
 
 /// What the command line says of the tables.
-#[derive(Clone, Copy, Debug, PartialEq, Eq)]
+#[derive(Clone, Copy)]
 pub struct Settings {
     /// The clock minute at which the day starts; minutes of departure are counted from it.
     pub day_start: u16,
     /// The longest wait between the two legs of a through pair, in minutes.
     pub through_max: u16,
+    /// The shortest stay that makes a night at a maintenance station one for maintenance, in minutes, at most those of a day.
+    /// By 0 each such night is one.
+    pub least_night: u16,
     /// The days after which the schedule repeats, 1 to 7.
     pub period: u16,
 }

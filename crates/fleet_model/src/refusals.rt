@@ -7,7 +7,7 @@ use thiserror::Error;
 
 /// The tables of a schedule, by their files, in the order in which they are read and judged. Tails are named beside a plan:
 /// no schedule has them.
-#[derive(Clone, Copy, Debug, PartialEq, Eq)]
+#[derive(Clone, Copy, Debug)]
 pub enum TableFile {
     Stations,
     Fleets,
@@ -20,7 +20,7 @@ pub enum TableFile {
 }
 
 /// The first fault of a table's file.
-#[derive(Clone, Copy, Debug, PartialEq, Eq)]
+#[derive(Clone, Copy, Debug)]
 pub struct BadInput {
     pub file: TableFile,
     /// The number of the record, from 1; the header is record 1. 0 where the file as a whole is meant.
@@ -30,7 +30,7 @@ pub struct BadInput {
 }
 
 /// Why tables could not be read.
-#[derive(Clone, Copy, Debug, PartialEq, Eq, Error)]
+#[derive(Clone, Copy, Debug, Error)]
 pub enum LoadError {
     #[error("bad input: {0:?}")]
     Bad(BadInput),

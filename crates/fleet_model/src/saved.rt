@@ -12,7 +12,7 @@ const BITS: u32 = 61;
 const LAST_BITS: u32 = MAX_CHOICES as u32 - 2 * BITS;
 
 /// A row of kept choices, a bit each, so that a deep recursion can hold one at each level. Contracts see the list.
-#[derive(Debug, Drop)]
+#[derive(Drop)]
 pub(crate) struct SavedRow {
     first: u64,
     second: u64,

@@ -33,7 +33,7 @@ impl Shift {
 /// The times of a leg, by their minutes. Contracts see the list.
 ///
 /// They lie in a row of fixed size, so that no call on them takes memory.
-#[derive(Debug, Drop)]
+#[derive(Drop)]
 pub struct Shifts {
     row: [Shift; MAX_SHIFTS],
     count: usize,

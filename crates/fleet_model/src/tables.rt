@@ -6,7 +6,7 @@ use entries::Entries;
 
 /// A schedule with its stations, fleets, costs and through pairs, all within their limits. Stations, fleets, legs and
 /// departures go by their numbers, which are their places in these lists.
-#[derive(Debug, Drop)]
+#[derive(Drop)]
 pub struct Tables {
     pub stations: Entries<Station>,
     pub fleets: Entries<Fleet>,

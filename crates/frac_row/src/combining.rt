@@ -13,7 +13,7 @@ use std::alloc::Global;
 use thiserror::Error;
 
 /// Why two rows could not be combined.
-#[derive(Clone, Copy, Debug, PartialEq, Eq, Error)]
+#[derive(Clone, Copy, Debug, Error)]
 pub enum CombineError {
     /// A product or difference is outgrown, first in this column (the denominator stands after the
     /// last number); `left` and `right` are its operands.

@@ -7,7 +7,7 @@ use crate::divisor::gcd;
 use crate::row::FracRow;
 
 /// What a row and the pivot row are multiplied by before they are subtracted.
-#[derive(Clone, Copy, Debug)]
+#[derive(Clone, Copy)]
 pub struct Factors {
     /// The factor of the row itself.
     pub own: i128,

@@ -8,7 +8,7 @@ use crate::row::FracRow;
 
 /// An outgrown product or difference: its column and its two operands. The denominator stands in the
 /// column after the last number.
-#[derive(Clone, Copy, Debug, PartialEq, Eq)]
+#[derive(Clone, Copy)]
 pub struct Growth {
     pub column: u32,
     pub left: i128,

@@ -6,13 +6,13 @@ use crate::sparse_row::SparseRow;
 use std::marker::Model;
 
 /// The numbers of a line. Contracts see all of them; those that are 0 need not be held.
-#[derive(Debug, Drop)]
+#[derive(Drop)]
 pub struct Line {
     layout: Layout,
 }
 
 /// How a line is held.
-#[derive(Debug, Drop)]
+#[derive(Drop)]
 pub enum Layout {
     /// All its numbers, as it was made of them.
     Full(Vec<i128>),

@@ -4,7 +4,7 @@ ghost use Rattle.frac_row.specs.Pairs.{pairs_of};
 use crate::entry::Entry;
 
 /// What two rows have in a column.
-#[derive(Clone, Copy, Debug)]
+#[derive(Clone, Copy)]
 pub struct Pair {
     pub column: u32,
     pub number: i128,

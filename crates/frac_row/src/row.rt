@@ -4,7 +4,7 @@ use entries::{Entries, NoMemory};
 use std::alloc::Global;
 
 /// Whole numbers over one positive number.
-#[derive(Debug, Drop)]
+#[derive(Drop)]
 pub struct FracRow {
     /// The numerators, column by column.
     pub numbers: Entries<i128>,

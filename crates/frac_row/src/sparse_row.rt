@@ -9,7 +9,7 @@ use std::marker::Model;
 
 /// Whole numbers over one positive number, of which those are held that are not 0. Contracts see the row
 /// with all its numbers.
-#[derive(Debug, Drop)]
+#[derive(Drop)]
 pub struct SparseRow {
     /// By rising columns.
     pub(crate) entries: Vec<Entry>,

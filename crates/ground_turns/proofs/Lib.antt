@@ -16,6 +16,7 @@ pub mod Ranks
 pub mod Regroup
 pub mod Rounds
 pub mod SomeMap
+pub mod Stays
 pub mod Totals
 pub mod TourNights
 pub mod Waits

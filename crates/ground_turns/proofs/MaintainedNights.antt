@@ -13,17 +13,17 @@ use Rattle.fleet_model.specs.Schedule.{leg_on, no_leg, station_of, stations_in}
 use Rattle.fleet_model.specs.Times.{nights_of}
 use Rattle.ground_turns.specs.Laws.{KeptHasNights, MaintainedAreStands, maintained_at, nights_there}
 use Rattle.ground_turns.specs.Maps.{turn_at}
-use Rattle.ground_turns.specs.Nights.{IsMaintainedFrom, can_maintain, maintained_in, nights_in_turn, nights_in_turns}
+use Rattle.ground_turns.specs.Nights.{IsMaintainedFrom, at_maintenance, can_maintain, is_short, maintained_in, night_of_stay, nights_at_maintenance, nights_in_turn, nights_in_turns}
 use Rattle.ground_turns.specs.Turns.{nights_waited, station_at}
 use Rattle.ground_turns.specs.declared.nights.Night.{Night}
 use Rattle.ground_turns.specs.declared.nights.Night.TheVariants as night
 use Rattle.ground_turns.proofs.NightCounts.{nights_are_stands}
 use Rattle.ground_turns.proofs.Rounds.{bit, times_bit}
 
-count_cons : (p : Night → Bool) (x : Night) (xs : List Night) → count_by p (x ∷ xs) ≡ bit (p x) + count_by p xs
+pub count_cons : (p : Night → Bool) (x : Night) (xs : List Night) → count_by p (x ∷ xs) ≡ bit (p x) + count_by p xs
 count_cons p x xs = omega (arith, sum_by-append (λ y. bit (p y)) (x ∷ []) xs)
 
-count_append : (p : Night → Bool) (xs ys : List Night) → count_by p (xs ++ ys) ≡ count_by p xs + count_by p ys
+pub count_append : (p : Night → Bool) (xs ys : List Night) → count_by p (xs ++ ys) ≡ count_by p xs + count_by p ys
 count_append p xs ys = sum_by-append (λ y. bit (p y)) xs ys
 
 -- a count over a list by its places
@@ -50,31 +50,38 @@ kept_has_nights t nights days kept =
         let here : good ((first + h.after) % length nights) ≡ 1 = ap bit h.maintained in
         omega (arith, here, term_le (λ j. good ((first + j) % length nights)) h.after days h.within)
 
-repeated : (p : Night → Bool) (n : ℕ) (x : Night) → count_by p (replicate n x) ≡ n * bit (p x)
+pub repeated : (p : Night → Bool) (n : ℕ) (x : Night) → count_by p (replicate n x) ≡ n * bit (p x)
 repeated p zero x = omega arith
 repeated p (suc n) x = let one : suc n * bit (p x) ≡ bit (p x) + n * bit (p x) = more n (bit (p x)) in omega (arith, count_cons p x (replicate n x), repeated p n x, one)
   where
     more : (n k : ℕ) → suc n * k ≡ k + n * k
     more n k = grind arith
 
--- the maintenance nights of a turn
+-- the nights of a turn at a maintenance station
 stood : Tables → ℕ → Connection → ℕ
 stood t f turn = if (station_of t (station_at t turn)).maintenance then nights_waited t f turn else 0
 
-in_turn : (t : Tables) (f : ℕ) (turn : Connection) → maintained_in t (nights_in_turn t f turn) ≡ stood t f turn
+there_by_stay : (t : Tables) (f : ℕ) (turn : Connection) → at_maintenance t (night_of_stay t f turn) ≡ (station_of t (station_at t turn)).maintenance
+there_by_stay t f turn = by_stay (is_short t f turn)
+  where
+    by_stay : (b : Bool) → at_maintenance t (if b then night.Short (station_at t turn) else night.At (station_at t turn)) ≡ (station_of t (station_at t turn)).maintenance
+    by_stay true = refl
+    by_stay false = refl
+
+in_turn : (t : Tables) (f : ℕ) (turn : Connection) → nights_at_maintenance t (nights_in_turn t f turn) ≡ stood t f turn
 unfolding stood
 in_turn t f turn =
-    let parts = count_append (can_maintain t) (replicate (nights_of t (leg_on turn.arriving f)) night.Aloft) (replicate (nights_waited t f turn) (night.At (station_at t turn))) in
-    let aloft = repeated (can_maintain t) (nights_of t (leg_on turn.arriving f)) night.Aloft in
-    let there = repeated (can_maintain t) (nights_waited t f turn) (night.At (station_at t turn)) in
+    let parts = count_append (at_maintenance t) (replicate (nights_of t (leg_on turn.arriving f)) night.Aloft) (replicate (nights_waited t f turn) (night_of_stay t f turn)) in
+    let aloft = repeated (at_maintenance t) (nights_of t (leg_on turn.arriving f)) night.Aloft in
+    let there = repeated (at_maintenance t) (nights_waited t f turn) (night_of_stay t f turn) ∙ ap (λ b. nights_waited t f turn * bit b) (there_by_stay t f turn) in
     let none = times_bit (nights_of t (leg_on turn.arriving f)) false in
     let some = times_bit (nights_waited t f turn) (station_of t (station_at t turn)).maintenance in
     omega (arith, parts, aloft, there, none, some)
 
-in_turns : (t : Tables) (f : ℕ) (turns : List Connection) → maintained_in t (nights_in_turns t f turns) ≡ sum_below (λ k. stood t f (turn_at turns k)) (length turns)
+in_turns : (t : Tables) (f : ℕ) (turns : List Connection) → nights_at_maintenance t (nights_in_turns t f turns) ≡ sum_below (λ k. stood t f (turn_at turns k)) (length turns)
 in_turns t f [] = refl
 in_turns t f (turn ∷ turns) =
-    let parts = count_append (can_maintain t) (nights_in_turn t f turn) (nights_in_turns t f turns) in
+    let parts = count_append (at_maintenance t) (nights_in_turn t f turn) (nights_in_turns t f turns) in
     omega (arith, parts, in_turn t f turn, in_turns t f turns, shifted (λ k. stood t f (turn_at (turn ∷ turns) k)) (length turns))
 
 -- what counts where a test of the station passes, at the one station

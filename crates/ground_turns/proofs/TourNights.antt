@@ -16,8 +16,8 @@ use Rattle.fleet_model.proofs.PeriodMinutes.{days_are_period, lap_split}
 use Rattle.fleet_model.proofs.PlainTables.{plain_laps}
 use Rattle.ground_turns.specs.Laws.{NightsAreUse, NightsByDays, TurnByDays}
 use Rattle.ground_turns.specs.Maps.{IsSuccessorMap, periods_in_turn, periods_of, turn_at}
-use Rattle.ground_turns.specs.Nights.{nights_in, nights_in_turn, nights_in_turns}
-use Rattle.ground_turns.specs.Turns.{crosses, departs_at, nights_waited, ready_at, station_at, wait_of}
+use Rattle.ground_turns.specs.Nights.{night_of_stay, nights_in, nights_in_turn, nights_in_turns}
+use Rattle.ground_turns.specs.Turns.{crosses, departs_at, nights_waited, ready_at, wait_of}
 use Rattle.ground_turns.specs.declared.nights.Night.TheVariants as night
 use Rattle.ground_turns.proofs.DayStarts.{div-more, wait_end}
 use Rattle.ground_turns.proofs.Rounds.{bit}
@@ -27,9 +27,9 @@ pub nights_long : (t : Tables) (f : ℕ) (turns : List Connection) → length (n
 nights_long t f [] = refl
 nights_long t f (turn ∷ turns) =
     let front = length-append (nights_in_turn t f turn) (nights_in_turns t f turns) in
-    let parts = length-append (replicate (nights_of t (leg_on turn.arriving f)) night.Aloft) (replicate (nights_waited t f turn) (night.At (station_at t turn))) in
+    let parts = length-append (replicate (nights_of t (leg_on turn.arriving f)) night.Aloft) (replicate (nights_waited t f turn) (night_of_stay t f turn)) in
     let aloft = length-replicate (nights_of t (leg_on turn.arriving f)) night.Aloft in
-    let stood = length-replicate (nights_waited t f turn) (night.At (station_at t turn)) in
+    let stood = length-replicate (nights_waited t f turn) (night_of_stay t f turn) in
     omega (arith, front, parts, aloft, stood, nights_long t f turns, shifted (λ k. nights_in t f (turn_at (turn ∷ turns) k)) (length turns))
 
 times_sum : (n a b : ℕ) → n * (a + b) ≡ n * a + n * b

@@ -1,5 +1,5 @@
 -- The laws of turns and successor maps, as statements.
-use Rattle.std.specs.Prelude.{◌≡◌, ◌≢◌, ◌+◌, ◌-◌, ◌*◌, ◌<◌, ◌≤◌, ◌==◌, ◌↔◌, [], Bool, IsTrue, List, ℕ, if◌then◌else◌, length, slice_index, suc}
+use Rattle.std.specs.Prelude.{◌≡◌, ◌≢◌, ◌+◌, ◌-◌, ◌*◌, ◌<◌, ◌≤◌, ◌==◌, ◌↔◌, [], Bool, IsTrue, List, ℕ, false, if◌then◌else◌, length, slice_index, suc}
 use Rattle.sums.specs.Below.{sum_below}
 use Rattle.fleet_model.specs.Period.{day_end, day_of_minute}
 use Rattle.fleet_model.specs.declared.parts.Connection.{Connection}
@@ -11,7 +11,7 @@ use Rattle.fleet_model.specs.Plain.{IsPlain}
 use Rattle.fleet_model.specs.Times.{departure}
 use Rattle.ground_turns.specs.FirstOut.{AreFirstOut}
 use Rattle.ground_turns.specs.Maps.{AreClean, AreExchanged, Holds, IsFitting, IsHeld, IsNext, IsSuccessorMap, IsTour, arrivals_of, crossings_at, periods_in_turn, periods_of, turn_at, turns_by, turns_round, waiting_at}
-use Rattle.ground_turns.specs.Nights.{IsKeptFor, maintained_in, nights_in, nights_in_turns}
+use Rattle.ground_turns.specs.Nights.{IsKeptFor, is_short, maintained_in, nights_at_maintenance, nights_in, nights_in_turns}
 use Rattle.ground_turns.specs.Parts.{KeepsPart, NeverTouches}
 use Rattle.ground_turns.specs.Segments.{EndAt, NoneEnds, is_among, minutes_of}
 use Rattle.ground_turns.specs.declared.nights.Night.{Night}
@@ -89,9 +89,26 @@ maintained_at t a f s = if (station_of t s).maintenance then stands_by_day t a f
 -- the nights of a fitting map at maintenance stations number what stands there at the ends of days
 abbrev pub MaintainedAreStands : Type 0
 MaintainedAreStands = (t : Tables) (a : List ℕ) (f : ℕ) (turns : List Connection) → IsFitting t a f turns
-    → maintained_in t (nights_in_turns t f turns) ≡ sum_below (maintained_at t a f) (stations_in t)
+    → nights_at_maintenance t (nights_in_turns t f turns) ≡ sum_below (maintained_at t a f) (stations_in t)
 
--- nights that are kept for so many days are no more than so many times those at maintenance stations
+-- nights for maintenance are at maintenance stations, so they are no more than those there
+abbrev pub MaintainedAreThere : Type 0
+MaintainedAreThere = (t : Tables) (nights : List Night) → maintained_in t nights ≤ nights_at_maintenance t nights
+
+-- where no least minutes are asked for, no night is short
+abbrev pub NoneIsShort : Type 0
+NoneIsShort = (t : Tables) (f : ℕ) (turn : Connection) → t.settings.least_night ≡ 0 → is_short t f turn ≡ false
+
+-- so all nights at maintenance stations are for maintenance
+abbrev pub AllAreMaintained : Type 0
+AllAreMaintained = (t : Tables) (f : ℕ) (turns : List Connection) → t.settings.least_night ≡ 0
+    → maintained_in t (nights_in_turns t f turns) ≡ nights_at_maintenance t (nights_in_turns t f turns)
+
+-- two nights in one wait are never short
+abbrev pub TwoAreLong : Type 0
+TwoAreLong = (t : Tables) (f : ℕ) (turn : Connection) → 2 ≤ nights_waited t f turn → is_short t f turn ≡ false
+
+-- nights that are kept for so many days are no more than so many times those for maintenance
 abbrev pub KeptHasNights : Type 0
 KeptHasNights = (t : Tables) (nights : List Night) (days : ℕ) → IsKeptFor t nights days → length nights ≤ days * maintained_in t nights
 

@@ -1,5 +1,5 @@
 //! The laws of turns and successor maps. Each function is a law: its contract is the statement, and it does nothing.
-ghost use Rattle.ground_turns.specs.Laws.{ApartForAll, ExchangedFits, ExchangedHolds, FirstOutFits, FitsWhereClean, KeptHasNights, MaintainedAreStands, NextIsMap, NightsAreNeed, NightsAreStands, NightsAreUse, NightsByDays, PeriodsBeyondUse, ReadyFirstDepartsFirst, SegmentsTellClean, SomeFits, TourIsWhole, WaitingIsStand, WaitingLaw};
+ghost use Rattle.ground_turns.specs.Laws.{AllAreMaintained, ApartForAll, ExchangedFits, ExchangedHolds, FirstOutFits, FitsWhereClean, KeptHasNights, MaintainedAreStands, MaintainedAreThere, NextIsMap, NightsAreNeed, NightsAreStands, NightsAreUse, NightsByDays, NoneIsShort, PeriodsBeyondUse, ReadyFirstDepartsFirst, SegmentsTellClean, SomeFits, TourIsWhole, TwoAreLong, WaitingIsStand, WaitingLaw};
 
 /// In a successor map the aircraft that wait at a station are, at each moment, those that stand there and one number
 /// more: by which the turns that cross the period's start pass the need.
@@ -50,8 +50,25 @@ pub fn maintained_are_stands()
     ensures { MaintainedAreStands }
 {}
 
-/// Nights that are kept for so many days are no more than so many times those at maintenance stations. So with too few
-/// of these no tour is kept.
+/// Nights for maintenance are no more than those at maintenance stations.
+pub fn maintained_are_there()
+    ensures { MaintainedAreThere }
+{}
+
+/// Where no least minutes of a stay are asked for, no night is short, and all nights at maintenance stations are for
+/// maintenance.
+pub fn none_is_short()
+    ensures short { NoneIsShort }
+    ensures all { AllAreMaintained }
+{}
+
+/// Two nights of one wait are never short, whatever minutes are asked for.
+pub fn two_are_long()
+    ensures { TwoAreLong }
+{}
+
+/// Nights that are kept for so many days are no more than so many times those for maintenance. So with too few nights at
+/// maintenance stations no tour is kept.
 pub fn kept_has_nights()
     ensures { KeptHasNights }
 {}

@@ -8,4 +8,6 @@ pub mod turns;
 
 pub use nights::Night;
 pub use segments::Segments;
-pub use turns::{crosses, flight, minutes_until, nights_waited, wait};
+pub use turns::{
+    crosses, flight, is_maintained, is_short, minutes_until, nights_waited, stay, wait,
+};

@@ -9,7 +9,7 @@ use std::marker::Model;
 
 /// The segments of a period at a station, each of which reaches to a minute at whose end no aircraft stands there.
 /// They tell in constant time whether a turn is clean. Contracts see the number of each minute's segment.
-#[derive(Debug, Drop)]
+#[derive(Drop)]
 pub struct Segments {
     // for each minute how many segments have ended before it, and last how many end in the period
     numbers: Vec<u16>,

@@ -1,5 +1,6 @@
 ghost use Rattle.std.specs.Prelude.{◌≡◌, ◌<◌, ◌≤◌, ◌^◌};
 ghost use Rattle.fleet_model.specs.Schedule.{IsPair, days_in, fleets_in, leg_on, legs_in, period_of};
+ghost use Rattle.ground_turns.specs.Nights.{can_maintain, is_short, night_of_stay, stay_of};
 ghost use Rattle.ground_turns.specs.Turns.{crosses, minutes_round, nights_waited, wait_of};
 
 use fleet_model::period::day_of_minute;
@@ -62,4 +63,39 @@ pub fn nights_waited(tables: &Tables, fleet: u32, turn: Connection) -> u32
     let ready = tables.ready(flight(tables, turn.arriving, fleet));
     let wait = wait(tables, fleet, turn);
     u32::from(day_of_minute(ready + wait) - day_of_minute(ready))
+}
+
+/// The minutes that an aircraft of a fleet is on the ground in a turn, from its arrival to its departure. Takes no memory.
+pub fn stay(tables: &Tables, fleet: u32, turn: Connection) -> u16
+    requires fleet { fleet < fleets_in tables.now }
+    requires arriving { turn.arriving < legs_in tables.now }
+    requires departing { turn.departing < legs_in tables.now }
+    ensures { result ≡ stay_of tables.now fleet turn }
+{
+    let station = tables.station(tables.leg(turn.arriving).to);
+    tables.fleet(fleet).turn + station.extra + wait(tables, fleet, turn)
+}
+
+/// Whether an aircraft of a fleet is on the ground in a turn for less time than a night for maintenance is asked to have.
+/// Takes no memory.
+pub fn is_short(tables: &Tables, fleet: u32, turn: Connection) -> bool
+    requires fleet { fleet < fleets_in tables.now }
+    requires arriving { turn.arriving < legs_in tables.now }
+    requires departing { turn.departing < legs_in tables.now }
+    ensures { result ≡ is_short tables.now fleet turn }
+{
+    stay(tables, fleet, turn) < tables.settings.least_night
+}
+
+/// Whether the nights that an aircraft of a fleet waits in a turn are for maintenance: the station maintains, and they aren't
+/// short. Takes no memory.
+#[tactic(auto, using(crate::proofs::Stays::stay_maintains))]
+pub fn is_maintained(tables: &Tables, fleet: u32, turn: Connection) -> bool
+    requires fleet { fleet < fleets_in tables.now }
+    requires arriving { turn.arriving < legs_in tables.now }
+    requires departing { turn.departing < legs_in tables.now }
+    ensures { result ≡ can_maintain tables.now (night_of_stay tables.now fleet turn) }
+{
+    let station = tables.station(tables.leg(turn.arriving).to);
+    station.maintenance && !is_short(tables, fleet, turn)
 }

@@ -3,7 +3,6 @@ use Rattle.std.specs.Prelude.{◌≡◌, ℕ, ◌≤◌, Bool, true, false, if�
 use Rattle.std.specs.Ordering.{int_eq}
 use Rattle.fleet_model.specs.Kept.{Domains}
 use Rattle.fleet_model.specs.declared.tables.Tables.{Tables}
-use Rattle.dual_bound.specs.Bound.{part}
 use Rattle.dual_bound.specs.Leaves.{has_open, open_grew, open_pivots, splits_in}
 use Rattle.dual_bound.specs.OfTables.{IsOfTables}
 use Rattle.dual_bound.specs.WrittenOrder.{InWrittenOrder, IsShallow}
@@ -11,7 +10,7 @@ use Rattle.dual_bound.specs.declared.solved.Solved.{Solved}
 use Rattle.dual_bound.specs.declared.solved.Solved.TheVariants as solved
 use Rattle.dual_bound.specs.declared.trees.Tree.{Tree}
 use Rattle.cert_check.specs.Nodes.{Node, nodes_in}
-use Rattle.cert_check.specs.Verdicts.{AreSound}
+use Rattle.cert_check.specs.declared.reached.Reached.{Reached}
 use Rattle.node_bounding.specs.Found.{AnswersSole, LeavesGap}
 use Rattle.node_bounding.specs.declared.plans.Plan.{Plan}
 
@@ -32,10 +31,6 @@ pub record SpendsSplits (nodes : ℕ) (tree : Tree) : Type 0 where
 
 -- ---- leaves
 
--- all nodes keep all rules
-pub record KeepAllRules (t : Tables) (cost : Option ℤ) (keeps : Domains) (tree : Tree) : Type 0 where
-  pub each : AreSound t cost keeps tree
-
 -- there is a cost that is no more than a bound, where there is a bound
 pub record IsCovered (cost bound : Option ℤ) : Type 0 where
   pub covers : IfSome bound (λ b. IsSomeAnd cost (λ c. c ≤ℤ b))
@@ -53,10 +48,10 @@ pub record IsAnswered (t : Tables) (cost : Option ℤ) (node : Node) : Type 0 wh
 pub record AreAnswered (t : Tables) (cost : Option ℤ) (keeps : Domains) (tree : Tree) : Type 0 where
   pub each : All (IsAnswered t cost) (nodes_in keeps tree)
 
--- all nodes of both children of a trim or a split by a pair are
-pub record AreBothAnswered (t : Tables) (cost : Option ℤ) (keeps : Domains) (leg choice : ℕ) (with_pair without : Tree) : Type 0 where
-  pub first : AreAnswered t cost (part keeps leg choice true) with_pair
-  pub second : AreAnswered t cost (part keeps leg choice false) without
+-- what a walk finds of a node: it is answered, or the walk ends there
+abbrev pub IsToldAnswered : Tables → Option ℤ → Node → Reached → Reached → Bool → Type 0
+IsToldAnswered t cost node before after false = IsAnswered t cost node
+IsToldAnswered t cost node before after true = ¬ (IsAnswered t cost node)
 
 -- ---- a plan, a bound and a tree together
 

@@ -22,7 +22,7 @@ use std::alloc::{AllocError, AllocFailed, Global};
 use thiserror::Error;
 
 /// Why prices are not paid back.
-#[derive(Clone, Copy, Debug, PartialEq, Eq, Error)]
+#[derive(Clone, Copy, Debug, Error)]
 pub enum PaybackError {
     /// A rent or a price of this fleet passes its limit, and none of a fleet before it.
     #[error("a price or the rent of fleet {fleet} is too large")]

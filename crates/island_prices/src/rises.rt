@@ -13,7 +13,7 @@ use fleet_model::limits::MAX_DAY_ARCS;
 pub const MAX_RISES: usize = MAX_DAY_ARCS;
 
 /// Which minutes take another price where a rise goes to its moment.
-#[derive(Clone, Copy, Debug, PartialEq, Eq)]
+#[derive(Clone, Copy)]
 pub enum Shift {
     /// Those after the moment up to this one, at whose end the price rose: they take the price that comes.
     Raised { last: u16 },
@@ -22,7 +22,7 @@ pub enum Shift {
 }
 
 /// A rise of a fleet's price at a station over an arc that went, and the moment to whose end it goes.
-#[derive(Clone, Copy, Debug, PartialEq, Eq)]
+#[derive(Clone, Copy)]
 pub struct Rise {
     /// The fleet, by its number.
     pub fleet: u32,

@@ -13,7 +13,7 @@ use std::alloc::Global;
 
 /// The rounds of rises: in each every rent grows by its number, and so do the prices at a station up to and with the
 /// minute that it takes there.
-#[derive(Debug, Drop)]
+#[derive(Drop)]
 pub struct Rounds {
     /// The numbers of the rounds.
     pub numbers: Entries<i128>,

@@ -1,41 +1,46 @@
 -- What the lift of an end that was checked settles.
-use Rattle.std.proofs.Common.{◌≡◌, Option, Some, None, Result, Ok, Err, IfOk, IsSomeAnd, sym, subst}
+use Rattle.std.proofs.Common.{Result, Ok, Err, IfErr, IfOk, sym, subst}
 use mathlib.Core.Bool.{false≢true}
-use Rattle.std.specs.Prelude.{IsErr}
 use Rattle.entries.specs.declared.memory.NoMemory.{NoMemory}
+use Rattle.end_check.specs.declared.hint.Hint.{Hint}
 use Rattle.fleet_model.specs.Kept.{Domains}
 use Rattle.fleet_model.specs.declared.tables.Tables.{Tables}
-use Rattle.dual_bound.specs.Fractions.{IsMixedAt, IsWorth}
-use Rattle.dual_bound.specs.OfTables.{IsMixedOf}
-use Rattle.dual_bound.specs.WrittenOrder.{IsMixedInOrder}
-use Rattle.dual_bound.specs.declared.mixed.Mixed.{Mixed}
-use Rattle.dual_bound.specs.declared.prices.Prices.{Prices}
 use Rattle.dual_lift.specs.declared.error.LiftError.{LiftError}
 use Rattle.dual_lift.specs.declared.error.LiftError.TheVariants as lift
-use Rattle.price_lift.specs.EndLifts.{IsLiftedEnd}
-use Rattle.price_lift.specs.declared.lift.Lifted.{Lifted}
-use Rattle.node_bounding.specs.Relaxed.{AreGood}
-use Rattle.node_bounding.specs.SecondRun.{IsTried, IsTriedAtBest}
+use Rattle.price_lift.specs.PaidBack.{IsLiftErrorBy}
+use Rattle.node_bounding.specs.Relaxed.{IsTold}
+use Rattle.node_bounding.specs.Tried.{IsLeftBy, Settles, IsTried, excess_from}
 use Rattle.node_bounding.specs.declared.relaxing.Relaxed.{Relaxed}
 use Rattle.node_bounding.specs.declared.relaxing.Relaxed.TheVariants as relaxed
 
-module _ (t : Tables) (keeps : Domains) where
-  abbrev Tries : Result (Option Relaxed) NoMemory → Type 0
-  Tries r = IfOk r (IsTried t keeps)
+module _ (t : Tables) (keeps : Domains) (end : Hint) where
+  -- what is settled, or left since a number is too large
+  abbrev Comes : Relaxed → Type 0
+  Comes found = IsTried t keeps found × IsLeftBy t keeps end found
 
-  none_tries : (r : Result (Option Relaxed) NoMemory) → IsErr r → Tries r
-  none_tries (Ok found) e = absurd (false≢true e)
-  none_tries (Err error) e = tt
+  settled_comes : (found : Relaxed) → Settles t keeps found → Comes found
+  settled_comes (relaxed.Refuted prices) is = (is, tt)
+  settled_comes (relaxed.Bounded best) is = (is, tt)
+  settled_comes (relaxed.Stopped why) is = absurd is
 
-  by_mixed : (prices : Prices) (m : Option Mixed) (r : Result (Option Relaxed) NoMemory) → AreGood t prices
-      → IsSomeAnd m (IsMixedOf t) → IsSomeAnd m (IsMixedInOrder t) → IsSomeAnd m (IsMixedAt t keeps) → IsSomeAnd m (IsWorth t keeps prices) → IsSomeAnd m (λ mixed. r ≡ Ok (Some (relaxed.Bounded prices mixed))) → Tries r
-  by_mixed prices None r good known in_order at value is = absurd is
-  by_mixed prices (Some mixed) r good known in_order at value is =
-      subst Tries (sym is) (record { good = good; known = known; in_order = in_order; mixed_at = at; value = value })
+  comes : (lifted : Result Relaxed LiftError) (r : Result Relaxed NoMemory) → IfOk lifted (Settles t keeps) → IfErr lifted (IsLiftErrorBy t keeps (excess_from t keeps end)) → IsTold lifted r → IfOk r Comes
+  comes (Ok found) r is large told = subst (λ r. IfOk r Comes) (sym told) (settled_comes found is)
+  comes (Err (lift.TooLarge step at)) (Ok found) is large told = subst Comes (sym told.stopped) (tt, large)
+  comes (Err (lift.TooLarge step at)) (Err error) is large told = tt
+  comes (Err lift.NoMemory) (Ok found) is large told = absurd (false≢true told)
+  comes (Err lift.NoMemory) (Err error) is large told = tt
 
-  -- at a cheapest point
-  pub point_settles : (lifted : Result Lifted LiftError) (r : Result (Option Relaxed) NoMemory) → IfOk lifted (IsLiftedEnd t keeps) → IsTriedAtBest lifted r → Tries r
-  point_settles (Ok l) r end is =
-      by_mixed l.prices l.mixed r (record { proper = end.prices.proper; known = end.prices.of_tables; in_order = end.prices.in_order }) end.known end.weights_in_order end.plan end.value is
-  point_settles (Err (lift.TooLarge step at)) r end is = subst Tries (sym is) tt
-  point_settles (Err lift.NoMemory) r end is = none_tries r is
+  module _ (lifted : Result Relaxed LiftError) (r : Result Relaxed NoMemory) (is : IfOk lifted (Settles t keeps)) (large : IfErr lifted (IsLiftErrorBy t keeps (excess_from t keeps end))) (told : IsTold lifted r) where
+    pub told_tried : IfOk r (IsTried t keeps)
+    told_tried = first r (comes lifted r is large told)
+      where
+        first : (r : Result Relaxed NoMemory) → IfOk r Comes → IfOk r (IsTried t keeps)
+        first (Ok found) is = is.0
+        first (Err error) is = tt
+
+    pub told_left : IfOk r (IsLeftBy t keeps end)
+    told_left = second r (comes lifted r is large told)
+      where
+        second : (r : Result Relaxed NoMemory) → IfOk r Comes → IfOk r (IsLeftBy t keeps end)
+        second (Ok found) is = is.1
+        second (Err error) is = tt

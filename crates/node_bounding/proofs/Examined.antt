@@ -9,7 +9,6 @@ use Rattle.fleet_model.specs.declared.tables.Tables.{Tables}
 use Rattle.fleet_model.proofs.KeptLaws.{sole_is_one}
 use Rattle.dual_bound.specs.Bound.{lesser_bound}
 use Rattle.dual_bound.specs.Worth.{worth_of}
-use Rattle.dual_bound.specs.declared.mixed.Mixed.{Mixed}
 use Rattle.dual_bound.specs.declared.prices.Prices.{Prices}
 use Rattle.dual_bound.specs.declared.trees.Cause.{Cause}
 use Rattle.dual_bound.specs.declared.trees.Cause.TheVariants as cause
@@ -20,14 +19,14 @@ use Rattle.dual_bound.specs.WrittenOrder.{IsNodeInOrder}
 use Rattle.dual_bound.specs.declared.nodes.Node.{Node}
 use Rattle.dual_bound.specs.declared.nodes.Node.TheVariants as ordered
 use Rattle.cert_check.specs.Rules.{Reaches}
+use Rattle.price_lift.specs.declared.best_point.BestPoint.{BestPoint}
 use Rattle.node_bounding.specs.Examined.{IsDoneLeaf, IsExamined, IsFoundHere, IsStoppedBy, IsStoppedWith, IsWholeOffered}
 use Rattle.node_bounding.specs.Found.{EndsAt}
 use Rattle.node_bounding.specs.Made.{CouldBeSplit, IsMadeAs}
 use Rattle.node_bounding.specs.Offers.{IsNoSole, IsOffered, IsPlanOf, IsSoleOffered, IsTaken}
-use Rattle.node_bounding.specs.Relaxed.{AreBest, AreGood, AreRefuting, IsWhyStopped}
+use Rattle.node_bounding.specs.Relaxed.{AreGood, AreRefuting, IsBestPoint, IsWhyStopped}
 use Rattle.node_bounding.specs.Runs.{IsSearched}
-use Rattle.node_bounding.specs.Subproblems.{IsLess, IsNoMore, IsPart, IsPlan, cost_of}
-use Rattle.node_bounding.specs.Splits.{IsSplit}
+use Rattle.node_bounding.specs.Subproblems.{IsFractional, IsLess, IsNoMore, IsPart, IsPlan, cost_of}
 use Rattle.node_bounding.specs.Trims.{AreSearched}
 use Rattle.node_bounding.specs.Wholes.{FliesParts}
 use Rattle.node_bounding.specs.Worked.{own_node}
@@ -62,11 +61,11 @@ module _ (t : Tables) (pivots : Option ℕ) (best : Option Plan) (plan : IfSome 
       (λ final less. leaf_part t pivots final keeps above (tree.Refuted prices) refl refl refuting.good.known (all_one (IsNodeInOrder t) (ordered.Refuted prices) refuting.good.in_order)
       (refuted_sound t final keeps prices refuting.good.proper searched.some_pair refuting.refute) (answers_none t final keeps (tree.Refuted prices) (λ e. cc)) tt)
 
-  pub priced_leaf : (prices : Prices) (mixed : Mixed) → IsSearched t keeps → AreBest t keeps prices mixed → IsSomeAnd (cost_of best) (Reaches t keeps prices)
+  pub priced_leaf : (prices : Prices) → IsSearched t keeps → AreGood t prices → IsSomeAnd (cost_of best) (Reaches t keeps prices)
       → IsExamined t pivots best best keeps above (state.Leaf (tree.Priced prices))
-  priced_leaf prices mixed searched is reached = at_leaf (tree.Priced prices) tt (inl (record { reaches = reached; none = refl })) searched
-      (λ final less. leaf_part t pivots final keeps above (tree.Priced prices) refl refl is.good.known (all_one (IsNodeInOrder t) (ordered.Priced prices) is.good.in_order)
-      (priced_sound t final keeps prices is.good.proper searched.some_pair (reaches_on t keeps prices (cost_of best) final reached less)) (answers_none t final keeps (tree.Priced prices) (λ e. cc)) tt)
+  priced_leaf prices searched good reached = at_leaf (tree.Priced prices) tt (inl (record { reaches = reached; none = refl })) searched
+      (λ final less. leaf_part t pivots final keeps above (tree.Priced prices) refl refl good.known (all_one (IsNodeInOrder t) (ordered.Priced prices) good.in_order)
+      (priced_sound t final keeps prices good.proper searched.some_pair (reaches_on t keeps prices (cost_of best) final reached less)) (answers_none t final keeps (tree.Priced prices) (λ e. cc)) tt)
 
   -- its run gave no prices, and it takes those above
   stopped_parts : (prices : Prices) (why : Cause) → IsSearched t keeps → AreGood t above → prices ≡ above → IsWhyStopped t keeps pivots why
@@ -112,22 +111,21 @@ module _ (t : Tables) (pivots : Option ℕ) (best : Option Plan) (plan : IfSome 
   stopped_here prices why (state.Split f) searched good same is stays = absurd stays
 
   -- it waits to be split
-  pub waiting : (f : Fraction) → IsSplit t keeps f.leg f.choice f.prices f.mixed → IsCeiling (worth_of t keeps f.prices 1) f.prices.scale f.worth → IfSome (cost_of best) (λ c. f.worth <ℤ c)
-      → IsExamined t pivots best best keeps above (state.Waiting f)
-  waiting f split rounded below = record {
+  pub waiting : (f : Fraction) → IsFractional t keeps f → IfSome (cost_of best) (λ c. f.worth <ℤ c) → IsExamined t pivots best best keeps above (state.Waiting f)
+  waiting f is below = record {
     found = None;
     fresh = tt;
     plan = plan;
     cheapest = refl;
     is = (by_cost (cost_of best) below, refl);
-    right = λ final less. record { split = split; rounded = rounded };
+    right = λ final less. is;
     place = inl refl;
     replaced = inl refl;
   }
     where
-      by_cost : (c : Option ℤ) → IfSome c (λ c. f.worth <ℤ c) → CouldBeSplit t keeps f.prices (cause.Nodes f.mixed) c
+      by_cost : (c : Option ℤ) → IfSome c (λ c. f.worth <ℤ c) → CouldBeSplit t keeps f.best.prices (cause.Nodes f.best.mixed) c
       by_cost None below = tt
-      by_cost (Some c) below = record { least = f.worth; rounded = rounded; short = below }
+      by_cost (Some c) below = record { least = f.worth; rounded = is.rounded; short = below }
 
 -- a rounded worth that reaches the cost of a plan
 pub reaches_by : (t : Tables) (keeps : Domains) (prices : Prices) (worth : ℤ) (cost : Option ℤ) → IsCeiling (worth_of t keeps prices 1) prices.scale worth → IsSomeAnd cost (λ c. c ≤ℤ worth) → IsSomeAnd cost (Reaches t keeps prices)
@@ -185,17 +183,16 @@ module _ (t : Tables) (pivots : Option ℕ) (before after : Option Plan) (keeps 
       answer final less a kept legal =
           no_more_on (Some (total_cost t a)) (cost_of after) final (subst (λ b. IsNoMore (Some (total_cost t b)) (cost_of after)) (sym (one a kept)) (no_less sole.plan sole.offered (subst (IsLegal t) (one a kept) legal))) less
 
-  pub whole_leaf : (prices : Prices) (mixed : Mixed) → IsSearched t keeps → AreBest t keeps prices mixed → IsWholeOffered t keeps prices before after
-      → IsExamined t pivots before after keeps above (state.Leaf (tree.Priced prices))
-  whole_leaf prices mixed searched best whole = record {
+  pub whole_leaf : (prices : Prices) → IsSearched t keeps → AreGood t prices → IsWholeOffered t keeps prices before after → IsExamined t pivots before after keeps above (state.Leaf (tree.Priced prices))
+  whole_leaf prices searched good whole = record {
     found = whole.offered.found;
     fresh = tt;
     plan = whole.offered.plan;
     cheapest = whole.offered.cheapest;
     is = inr (record { plan = whole.plan; kept = whole.kept; legal = whole.legal; worth = whole.worth; is = whole.offered.legal whole.legal });
     right = λ final less. (
-      leaf_part t pivots final keeps above (tree.Priced prices) refl refl best.good.known (all_one (IsNodeInOrder t) (ordered.Priced prices) best.good.in_order)
-          (priced_sound t final keeps prices best.good.proper searched.some_pair (reaches_less t keeps prices (total_cost t whole.plan) final reaches (no_more_on (Some (total_cost t whole.plan)) (cost_of after) final (no_less whole.plan whole.offered whole.legal) less)))
+      leaf_part t pivots final keeps above (tree.Priced prices) refl refl good.known (all_one (IsNodeInOrder t) (ordered.Priced prices) good.in_order)
+          (priced_sound t final keeps prices good.proper searched.some_pair (reaches_less t keeps prices (total_cost t whole.plan) final reaches (no_more_on (Some (total_cost t whole.plan)) (cost_of after) final (no_less whole.plan whole.offered whole.legal) less)))
           (answers_none t final keeps (tree.Priced prices) (λ e. cc)) tt,
       searched,
     );
@@ -207,13 +204,13 @@ module _ (t : Tables) (pivots : Option ℕ) (before after : Option Plan) (keeps 
       reaches = record { least = total_cost t whole.plan; rounded = whole.worth; reaches = omega (arith, ints) }
 
 -- the assignment that a whole fractional assignment is
-pub whole_offered : (t : Tables) (keeps : Domains) (prices : Prices) (mixed : Mixed) (a : List ℕ) (before after : Option Plan) → KeepAllowed t keeps → AreBest t keeps prices mixed → IsWhole t mixed → FliesParts t mixed a
-    → IsOffered t a before after → IsWholeOffered t keeps prices before after
-whole_offered t keeps prices mixed a before after allowed best whole flies offered = record {
+pub whole_offered : (t : Tables) (keeps : Domains) (point : BestPoint) (a : List ℕ) (before after : Option Plan) → KeepAllowed t keeps → IsBestPoint t keeps point → IsWhole t point.mixed → FliesParts t point.mixed a
+    → IsOffered t a before after → IsWholeOffered t keeps point.prices before after
+whole_offered t keeps point a before after allowed best whole flies offered = record {
   plan = a;
-  kept = whole_kept t keeps mixed a allowed best.mixed_at whole flies;
-  legal = whole_legal t keeps mixed a allowed best.mixed_at whole flies;
-  worth = whole_worth t keeps mixed a allowed best.mixed_at whole flies prices best.good.proper.scale.some best.value;
+  kept = whole_kept t keeps point.mixed a allowed best.mixed_at whole flies;
+  legal = whole_legal t keeps point.mixed a allowed best.mixed_at whole flies;
+  worth = whole_worth t keeps point.mixed a allowed best.mixed_at whole flies point.prices best.good.proper.scale.some best.value;
   offered = offered;
 }
 

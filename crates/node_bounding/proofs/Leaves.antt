@@ -2,6 +2,7 @@
 use Rattle.std.proofs.Common.{Box, Global, ◌≡◌, ◌≢◌, ℕ, Option, IfSome, IsSomeAnd, ℤ, pos, ◌<ℤ◌, inl, inr, arith}
 use Rattle.std.proofs.lemmas.Int.{ints}
 use Rattle.fleet_model.specs.Kept.{Domains, IsSole}
+use Rattle.fleet_model.specs.Schedule.{leg_on}
 use Rattle.fleet_model.specs.declared.tables.Tables.{Tables}
 use Rattle.dual_bound.specs.Prices.{ArePrices}
 use Rattle.dual_bound.specs.Worth.{worth_of}
@@ -15,6 +16,7 @@ use Rattle.cert_check.specs.Nodes.{mixed_of}
 use Rattle.cert_check.specs.Rules.{HaveAllPairs, IsKeptPair, IsSound, Keeps, Reaches}
 use Rattle.cert_check.specs.declared.rules.Rule.{Rule}
 use Rattle.cert_check.specs.declared.rules.Rule.TheVariants as rule
+use Rattle.price_lift.specs.declared.best_point.BestPoint.{BestPoint}
 use Rattle.node_bounding.specs.Causes.{IsFirstPartial}
 use Rattle.node_bounding.specs.Splits.{IsSplit}
 use Rattle.node_bounding.specs.Found.{AnswersSole}
@@ -110,10 +112,10 @@ module _ (t : Tables) (cost : Option ℤ) (keeps : Domains) (leg choice : ℕ) (
   is_partial mixed first (inl none) = absurd (omega (arith, ints, first.some, none))
   is_partial mixed first (inr all) = absurd (omega (arith, ints, first.not_all, all))
 
-  pub split_sound : (prices : Prices) (mixed : Mixed) → IsSplit t keeps leg choice prices mixed → IsSound t cost (node keeps (Split leg choice prices mixed yes no))
-  split_sound prices mixed is = record { each = each }
+  pub split_sound : (point : BestPoint) → IsSplit t keeps (leg_on leg choice) point → IsSound t cost (node keeps (Split leg choice point.prices point.mixed yes no))
+  split_sound point is = record { each = each }
     where
-      each : (r : Rule) → Keeps t cost (node keeps (Split leg choice prices mixed yes no)) r
+      each : (r : Rule) → Keeps t cost (node keeps (Split leg choice point.prices point.mixed yes no)) r
       each rule.Scale = is.best.good.proper.scale
       each rule.Limits = is.best.good.proper.within
       each rule.Fall = is.best.good.proper.fall
@@ -123,4 +125,4 @@ module _ (t : Tables) (cost : Option ℤ) (keeps : Domains) (leg choice : ℕ) (
       each rule.Priced = tt
       each rule.Parts = (is.kept, not_one t keeps leg choice is.pair is.kept is.other)
       each rule.Mixed = is.best.mixed_at
-      each rule.Fraction = (is.fraction, is_partial mixed is.first)
+      each rule.Fraction = (is.fraction, is_partial point.mixed is.first)

@@ -1,10 +1,9 @@
 -- What the run over the lines of a subproblem, and the lift of its last table, say of the relaxation.
-use Rattle.std.proofs.Common.{◌≡◌, ℕ, List, Option, Some, None, Result, Ok, Err, IfOk, IfErr, IsOkAnd, IsSomeAnd, pos, ◌<ℤ◌, inl, inr, refl, sym, subst}
+use Rattle.std.proofs.Common.{◌≡◌, ℕ, List, Option, Some, None, Result, Ok, Err, IfOk, MatchResult, inl, inr, refl, sym, subst}
 use mathlib.Core.Bool.{false≢true}
-use Rattle.std.specs.Prelude.{IsErr}
 use Rattle.entries.specs.declared.memory.NoMemory.{NoMemory}
 use Rattle.frac_row.specs.declared.row.FracRow.{FracRow}
-use Rattle.fleet_model.specs.Kept.{Domains, IsBare}
+use Rattle.fleet_model.specs.Kept.{Domains}
 use Rattle.fleet_model.specs.declared.tables.Tables.{Tables}
 use Rattle.row_store.specs.Problem.{IsProblem, first_table}
 use Rattle.row_store.specs.declared.problem.Rows.{Rows}
@@ -17,25 +16,16 @@ use Rattle.simplex_frac.specs.Ends.{outcome_of}
 use Rattle.simplex_frac.specs.declared.outcome.Outcome.{Outcome}
 use Rattle.simplex_frac.specs.declared.outcome.Outcome.TheVariants as outcome
 use Rattle.simplex_frac.specs.declared.turn.Turn.TheVariants as turns
-use Rattle.dual_bound.specs.Fractions.{IsMixedAt, IsWorth}
-use Rattle.dual_bound.specs.OfTables.{ArePricesOf, IsMixedOf}
-use Rattle.dual_bound.specs.Prices.{ArePrices}
-use Rattle.dual_bound.specs.Worth.{worth_of}
-use Rattle.dual_bound.specs.WrittenOrder.{ArePricesInOrder, IsMixedInOrder}
-use Rattle.dual_bound.specs.declared.mixed.Mixed.{Mixed}
-use Rattle.dual_bound.specs.declared.prices.Prices.{Prices}
 use Rattle.price_lift.specs.Ends.{Ends}
 use Rattle.price_lift.specs.Laws.{NoRays}
 use Rattle.price_lift.specs.TooLarge.{best_excess, refusal_excess}
-use Rattle.price_lift.specs.PaidBack.{IsLiftErrorBy}
+use Rattle.price_lift.specs.PaidBack.{IsFirstBy, IsLiftErrorBy}
 use Rattle.dual_lift.specs.declared.error.LiftError.{LiftError}
 use Rattle.dual_lift.specs.declared.error.LiftError.TheVariants as lift
-use Rattle.price_lift.specs.declared.lift.Lifted.{Lifted}
-use Rattle.node_bounding.specs.Relaxed.{AreGood, IsAtBest, IsAtNoPoint, IsLiftStopped, IsRelaxed}
+use Rattle.node_bounding.specs.Relaxed.{IsRelaxed, IsTold}
 use Rattle.price_lift.proofs.Columns.{sides_at_least}
-use Rattle.node_bounding.specs.Runs.{HasEnded, IsOutcomeWithin, RunEnds}
+use Rattle.node_bounding.specs.Runs.{HasEnded, IsLiftRefused, IsOutcomeWithin, RunEnds}
 use Rattle.node_bounding.specs.declared.relaxing.Relaxed.{Relaxed}
-use Rattle.node_bounding.specs.declared.relaxing.Relaxed.TheVariants as relaxed
 
 -- how a run has ended, from the first table as a store holds it
 pub has_ended : (t : Tables) (keeps : Domains) (pivots : Option ℕ) (rows : Rows) (first table : List FracRow) (found : Outcome) → AreLinesOf t keeps rows → IsProblem rows → first ≡ first_table rows → IsOutcomeWithin first rows.columns pivots table found
@@ -75,55 +65,14 @@ module _ (first : List FracRow) (columns : ℕ) (table : List FracRow) where
   turns_ray (Some budget) column ends = (ends.0, ends.1, ends.3)
   turns_ray None column ends = (ends.0, ends.1, ends.2)
 
--- the prices of a lift, by its clauses
-pub as_good : (t : Tables) (lifted : Result Lifted LiftError) → IfOk lifted (λ l. ArePricesOf t l.prices) → IfOk lifted (λ l. ArePrices t l.prices) → IfOk lifted (λ l. ArePricesInOrder t l.prices) → IfOk lifted (λ l. AreGood t l.prices)
-as_good t (Ok l) known proper in_order = record { proper = proper; known = known; in_order = in_order }
-as_good t (Err error) known proper in_order = tt
-
--- the lift of the last table
-module _ (t : Tables) (keeps : Domains) (pivots : Option ℕ) (table : List FracRow) (basis : List ℕ) (made : ℕ) where
-  abbrev Relaxes : Result Relaxed NoMemory → Type 0
-  Relaxes r = IfOk r (IsRelaxed t keeps pivots)
-
-  none_relaxes : (r : Result Relaxed NoMemory) → IsErr r → Relaxes r
-  none_relaxes (Ok found) e = absurd (false≢true e)
-  none_relaxes (Err error) e = tt
-
-  stopped_best : (step at : ℕ) (r : Result Relaxed NoMemory) → HasEnded t keeps pivots table (outcome.Best basis made)
-      → IsLiftErrorBy t keeps (best_excess t keeps table basis) (lift.TooLarge step at) → IsOkAnd r (IsLiftStopped step at) → Relaxes r
-  stopped_best step at (Ok found) has excess is =
-      subst (IsRelaxed t keeps pivots) (sym is.stopped)
-      (record { stopped = inl (record { rows = has.rows; table = table; basis = basis; made = made; run = has.run; first = excess }); in_order = (is.step_held, is.at_held) })
-  stopped_best step at (Err error) has excess is = absurd is
-
-  stopped_no_point : (step at : ℕ) (r : Result Relaxed NoMemory) → HasEnded t keeps pivots table (outcome.NoPoint basis made)
-      → IsLiftErrorBy t keeps (refusal_excess t keeps table) (lift.TooLarge step at) → IsOkAnd r (IsLiftStopped step at) → Relaxes r
-  stopped_no_point step at (Ok found) has excess is =
-      subst (IsRelaxed t keeps pivots) (sym is.stopped)
-      (record { stopped = inr (record { rows = has.rows; table = table; basis = basis; made = made; run = has.run; first = excess }); in_order = (is.step_held, is.at_held) })
-  stopped_no_point step at (Err error) has excess is = absurd is
-
-  by_mixed : (prices : Prices) (m : Option Mixed) (r : Result Relaxed NoMemory) → AreGood t prices
-      → IsSomeAnd m (IsMixedOf t) → IsSomeAnd m (IsMixedInOrder t) → IsSomeAnd m (IsMixedAt t keeps) → IsSomeAnd m (IsWorth t keeps prices) → IsSomeAnd m (λ mixed. r ≡ Ok (relaxed.Bounded prices mixed)) → Relaxes r
-  by_mixed prices None r good known in_order at value is = absurd is
-  by_mixed prices (Some mixed) r good known in_order at value is =
-      subst Relaxes (sym is) (record { good = good; known = known; in_order = in_order; mixed_at = at; value = value })
-
-  best_relaxed : (lifted : Result Lifted LiftError) (r : Result Relaxed NoMemory) → HasEnded t keeps pivots table (outcome.Best basis made) → IfOk lifted (λ l. AreGood t l.prices)
-      → IfOk lifted (λ l. IsSomeAnd l.mixed (IsMixedOf t)) → IfOk lifted (λ l. IsSomeAnd l.mixed (IsMixedInOrder t)) → IfOk lifted (λ l. IsSomeAnd l.mixed (IsMixedAt t keeps)) → IfOk lifted (λ l. IsSomeAnd l.mixed (IsWorth t keeps l.prices))
-      → IfErr lifted (IsLiftErrorBy t keeps (best_excess t keeps table basis)) → IsAtBest lifted r → Relaxes r
-  best_relaxed (Ok l) r has good known mixed_order at value excess is =
-      by_mixed l.prices l.mixed r good known mixed_order at value is
-  best_relaxed (Err (lift.TooLarge step at)) r has prices known mixed_order mixed_at value excess is = stopped_best step at r has excess is
-  best_relaxed (Err lift.NoMemory) r has prices known mixed_order at value excess is = none_relaxes r is
-
-  no_point_relaxed : (lifted : Result Lifted LiftError) (r : Result Relaxed NoMemory) → HasEnded t keeps pivots table (outcome.NoPoint basis made) → ((l : ℕ) → ¬ (IsBare t keeps l))
-      → IfOk lifted (λ l. AreGood t l.prices) → IfOk lifted (λ l. ((leg : ℕ) → ¬ (IsBare t keeps leg)) → pos 0 <ℤ worth_of t keeps l.prices 0)
-      → IfErr lifted (IsLiftErrorBy t keeps (refusal_excess t keeps table)) → IsAtNoPoint lifted r → Relaxes r
-  no_point_relaxed (Ok l) r has pairs good refutes excess is =
-      subst Relaxes (sym is) (record { good = good; refute = refutes pairs })
-  no_point_relaxed (Err (lift.TooLarge step at)) r has pairs prices refutes excess is = stopped_no_point step at r has excess is
-  no_point_relaxed (Err lift.NoMemory) r has pairs prices refutes excess is = none_relaxes r is
+-- what is told of a lift by the last table of a run
+pub told_relaxed : (t : Tables) (keeps : Domains) (pivots : Option ℕ) (lifted : Result Relaxed LiftError) (r : Result Relaxed NoMemory) → MatchResult lifted (IsRelaxed t keeps pivots) (IsLiftRefused t keeps pivots) → IsTold lifted r → IfOk r (IsRelaxed t keeps pivots)
+told_relaxed t keeps pivots (Ok found) r is told = subst (λ r. IfOk r (IsRelaxed t keeps pivots)) (sym told) is
+told_relaxed t keeps pivots (Err (lift.TooLarge step at)) (Ok found) is told =
+    subst (IsRelaxed t keeps pivots) (sym told.stopped) (record { stopped = is; in_order = (told.step_held, told.at_held) })
+told_relaxed t keeps pivots (Err (lift.TooLarge step at)) (Err error) is told = tt
+told_relaxed t keeps pivots (Err lift.NoMemory) (Ok found) is told = absurd (false≢true told)
+told_relaxed t keeps pivots (Err lift.NoMemory) (Err error) is told = tt
 
 -- what a run has ended in, and what becomes of it
 module _ (t : Tables) (keeps : Domains) (pivots : Option ℕ) (table : List FracRow) (found : Outcome) (has : HasEnded t keeps pivots table found) where
@@ -148,16 +97,13 @@ module _ (t : Tables) (keeps : Domains) (pivots : Option ℕ) (table : List Frac
           let at = turns_ray (first_table has.rows) has.rows.columns table pivots column run.ends in
           never t keeps table at.1 column (record { rows = has.rows; lines = run.lines; made = at.0; turn = record { problem = has.problem; turns = at.2 } })
 
-  pub after_best : (lifted : Result Lifted LiftError) (basis slice : List ℕ) (made : ℕ) (r : Result Relaxed NoMemory) → found ≡ outcome.Best basis made → slice ≡ basis
-      → IfOk lifted (λ l. AreGood t l.prices)
-      → IfOk lifted (λ l. IsSomeAnd l.mixed (IsMixedOf t)) → IfOk lifted (λ l. IsSomeAnd l.mixed (IsMixedInOrder t)) → IfOk lifted (λ l. IsSomeAnd l.mixed (IsMixedAt t keeps)) → IfOk lifted (λ l. IsSomeAnd l.mixed (IsWorth t keeps l.prices))
-      → IfErr lifted (IsLiftErrorBy t keeps (best_excess t keeps table slice)) → IsAtBest lifted r → IfOk r (IsRelaxed t keeps pivots)
-  after_best lifted basis slice made r e same prices known in_order at value excess is =
-      best_relaxed t keeps pivots table basis made lifted r (subst (HasEnded t keeps pivots table) e has)
-      prices known in_order at value (subst (λ b. IfErr lifted (IsLiftErrorBy t keeps (best_excess t keeps table b))) same excess) is
+  -- why its lift is refused
+  pub best_refused : (basis slice : List ℕ) (made : ℕ) (e : LiftError) → found ≡ outcome.Best basis made → slice ≡ basis → IsLiftErrorBy t keeps (best_excess t keeps table slice) e → IsLiftRefused t keeps pivots e
+  best_refused basis slice made (lift.TooLarge step at) e same is =
+      inl (record { rows = has.rows; table = table; basis = basis; made = made; run = subst (RunEnds t keeps pivots has.rows table) e has.run; first = subst (λ b. IsFirstBy t keeps (best_excess t keeps table b) (record { step = step; at = at })) same is })
+  best_refused basis slice made lift.NoMemory e same is = tt
 
-  pub after_no_point : (lifted : Result Lifted LiftError) (basis : List ℕ) (made : ℕ) (r : Result Relaxed NoMemory) → found ≡ outcome.NoPoint basis made → ((l : ℕ) → ¬ (IsBare t keeps l))
-      → IfOk lifted (λ l. AreGood t l.prices) → IfOk lifted (λ l. ((leg : ℕ) → ¬ (IsBare t keeps leg)) → pos 0 <ℤ worth_of t keeps l.prices 0)
-      → IfErr lifted (IsLiftErrorBy t keeps (refusal_excess t keeps table)) → IsAtNoPoint lifted r → IfOk r (IsRelaxed t keeps pivots)
-  after_no_point lifted basis made r e pairs prices refutes excess is =
-      no_point_relaxed t keeps pivots table basis made lifted r (subst (HasEnded t keeps pivots table) e has) pairs prices refutes excess is
+  pub no_point_refused : (basis : List ℕ) (made : ℕ) (e : LiftError) → found ≡ outcome.NoPoint basis made → IsLiftErrorBy t keeps (refusal_excess t keeps table) e → IsLiftRefused t keeps pivots e
+  no_point_refused basis made (lift.TooLarge step at) e is =
+      inr (record { rows = has.rows; table = table; basis = basis; made = made; run = subst (RunEnds t keeps pivots has.rows table) e has.run; first = is })
+  no_point_refused basis made lift.NoMemory e is = tt

@@ -1,5 +1,5 @@
 -- Without a budget of pivots no leaf is open for them.
-use Rattle.std.proofs.Common.{◌≡◌, ◌+◌, ℕ, true, false, None, refl, arith}
+use Rattle.std.proofs.Common.{◌≡◌, true, false, None, refl, arith}
 use Rattle.dual_bound.specs.Bound.{part}
 use Rattle.dual_bound.specs.Leaves.{by_pivots, open_pivots}
 use Rattle.dual_bound.specs.declared.prices.Prices.{Prices}

@@ -2,13 +2,13 @@
 use Rattle.std.proofs.Common.{Box, Global, ◌≡◌, ℕ, true, false, [], ◌∷◌, All, Option, ℤ, sym, ap, subst, arith}
 use Rattle.fleet_model.specs.Kept.{Domains}
 use Rattle.fleet_model.specs.LeftOut.{KeepLeftOut}
+use Rattle.fleet_model.specs.declared.parts.Pair.{Pair}
 use Rattle.fleet_model.specs.declared.tables.Tables.{Tables}
 use Rattle.dual_bound.specs.Bound.{part}
 use Rattle.dual_bound.specs.Leaves.{depth_of}
 use Rattle.dual_bound.specs.OfTables.{IsOfTables}
 use Rattle.dual_bound.specs.WrittenOrder.{InWrittenOrder, IsNodeInOrder}
 use Rattle.dual_bound.specs.declared.nodes.Node.TheVariants as ordered
-use Rattle.dual_bound.specs.declared.mixed.Mixed.{Mixed}
 use Rattle.dual_bound.specs.declared.prices.Prices.{Prices}
 use Rattle.dual_bound.specs.declared.trees.Tree.{Split, Tree, Trim}
 use Rattle.dual_bound.specs.declared.trees.Tree.TheVariants as tree
@@ -17,6 +17,7 @@ use Rattle.cert_check.specs.Rules.{IsSound}
 use Rattle.presolve.specs.Removals.{IsRefuted, pair_of}
 use Rattle.presolve.specs.declared.trims.Trim.{Trim as Trimmed}
 use Rattle.presolve.proofs.StepsLeft.{one_step}
+use Rattle.price_lift.specs.declared.best_point.BestPoint.{BestPoint}
 use Rattle.node_bounding.specs.Causes.{AreCaused}
 use Rattle.node_bounding.specs.Found.{AnswersSole}
 use Rattle.node_bounding.specs.Subproblems.{IsPart}
@@ -38,14 +39,14 @@ leaf_part t pivots final keeps above leaf one flat known in_order sound answers 
 }
 
 -- a split, of its two parts
-pub split_part : (t : Tables) (pivots : Option ℕ) (final : Option ℤ) (keeps : Domains) (above : Prices) (leg choice : ℕ) (prices : Prices) (mixed : Mixed) (first second : Box Tree Global) → IsSplit t keeps leg choice prices mixed
-    → IsPart t pivots final (part keeps leg choice true) prices first.value → IsPart t pivots final (part keeps leg choice false) prices second.value → IsPart t pivots final keeps above (Split leg choice prices mixed first second)
-split_part t pivots final keeps above leg choice prices mixed first second is with_pair without = record {
+pub split_part : (t : Tables) (pivots : Option ℕ) (final : Option ℤ) (keeps : Domains) (above : Prices) (p : Pair) (point : BestPoint) (first second : Box Tree Global) → IsSplit t keeps p point
+    → IsPart t pivots final (part keeps p.leg p.choice true) point.prices first.value → IsPart t pivots final (part keeps p.leg p.choice false) point.prices second.value → IsPart t pivots final keeps above (Split p.leg p.choice point.prices point.mixed first second)
+split_part t pivots final keeps above p point first second is with_pair without = record {
   of_tables = (is.pair, is.best.good.known, is.best.known, with_pair.of_tables, without.of_tables);
   in_order = all_more (IsNodeInOrder t) _ _ _ (is.pair, is.best.good.in_order, is.best.in_order) with_pair.in_order without.in_order;
-  shallow = omega (arith, with_pair.shallow, without.shallow, fewer_with t keeps leg choice is.pair is.kept is.other, fewer_without t keeps leg choice is.pair is.kept is.other);
-  sound = all_more (IsSound t final) _ _ _ (split_sound t final keeps leg choice first second prices mixed is) with_pair.sound without.sound;
-  soles = all_more (AnswersSole t final) _ _ _ (answers_none t final keeps (Split leg choice prices mixed first second) (λ e. cc)) with_pair.soles without.soles;
+  shallow = omega (arith, with_pair.shallow, without.shallow, fewer_with t keeps p.leg p.choice is.pair is.kept is.other, fewer_without t keeps p.leg p.choice is.pair is.kept is.other);
+  sound = all_more (IsSound t final) _ _ _ (split_sound t final keeps p.leg p.choice first second point is) with_pair.sound without.sound;
+  soles = all_more (AnswersSole t final) _ _ _ (answers_none t final keeps (Split p.leg p.choice point.prices point.mixed first second) (λ e. cc)) with_pair.soles without.soles;
   caused = (is.first, with_pair.caused, without.caused);
 }
 

@@ -11,12 +11,12 @@ use Rattle.fleet_model.specs.declared.parts.Pair.{Pair}
 use Rattle.fleet_model.specs.declared.tables.Tables.{Tables}
 use Rattle.dual_bound.specs.Mixed.{weight_in}
 use Rattle.dual_bound.specs.declared.mixed.Mixed.{Mixed}
-use Rattle.dual_bound.specs.declared.prices.Prices.{Prices}
 use Rattle.dual_bound.specs.Fractions.{IsMixedAt, parts_in, parts_of_leg}
 use Rattle.cert_check.specs.Rules.{IsKeptPair}
 use Rattle.node_bounding.specs.Causes.{IsFirstPartial}
 use Rattle.node_bounding.specs.Splits.{IsSplit, KeepsOther}
-use Rattle.node_bounding.specs.Relaxed.{AreBest}
+use Rattle.price_lift.specs.BestPoint.{IsBestPoint}
+use Rattle.price_lift.specs.declared.best_point.BestPoint.{BestPoint}
 use Rattle.node_bounding.specs.Runs.{IsSearched}
 use Rattle.node_bounding.specs.Wholes.{IsSplitPair}
 
@@ -73,17 +73,17 @@ module _ (t : Tables) (keeps : Domains) (mixed : Mixed) (is : IsMixedAt t keeps 
         }
 
 -- a subproblem whose best fractional assignment flies a pair in part may be split by it
-pub may_split : (t : Tables) (keeps : Domains) (prices : Prices) (mixed : Mixed) (pair : Pair) → IsSearched t keeps → AreBest t keeps prices mixed → IsSplitPair t mixed pair → IsSplit t keeps pair.leg pair.choice prices mixed
-may_split t keeps prices mixed pair searched best split = record {
+pub may_split : (t : Tables) (keeps : Domains) (point : BestPoint) (pair : Pair) → IsSearched t keeps → IsBestPoint t keeps point → IsSplitPair t point.mixed pair → IsSplit t keeps pair point
+may_split t keeps point pair searched best split = record {
   searched = searched;
   best = best;
   fraction = record { partial = λ whole. not_whole (whole pair.leg split.known.leg pair.choice split.known.choice); value = best.value };
   first = split.first;
   pair = split.known;
-  kept = split_kept t keeps mixed best.mixed_at pair split.known split.first;
-  other = split_other t keeps mixed best.mixed_at pair split.known split.first;
+  kept = split_kept t keeps point.mixed best.mixed_at pair split.known split.first;
+  other = split_other t keeps point.mixed best.mixed_at pair split.known split.first;
 }
   where
-    not_whole : (weight_in mixed pair ≡ pos 0) ⊎ (weight_in mixed pair ≡ mixed.scale) → ⊥
+    not_whole : (weight_in point.mixed pair ≡ pos 0) ⊎ (weight_in point.mixed pair ≡ point.mixed.scale) → ⊥
     not_whole (inl none) = absurd (omega (arith, ints, split.first.some, none))
     not_whole (inr all) = absurd (omega (arith, ints, split.first.not_all, all))

@@ -6,9 +6,9 @@ pub mod Made
 pub mod Offers
 pub mod Relaxed
 pub mod Runs
-pub mod SecondRun
 pub mod Splits
 pub mod Subproblems
+pub mod Tried
 pub mod Trims
 pub mod Wholes
 pub mod Worked

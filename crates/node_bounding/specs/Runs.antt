@@ -1,5 +1,5 @@
--- What the prescribed run over the lines of a subproblem comes to.
-use Rattle.std.specs.Prelude.{ℕ, ◌⊎◌, List, Option, Some, None}
+-- What the proved run over the lines of a subproblem comes to.
+use Rattle.std.specs.Prelude.{ℕ, ◌⊎◌, List, Option, Some, None, ⊤}
 use Rattle.fleet_model.specs.Kept.{Domains, IsBare, IsSole}
 use Rattle.fleet_model.specs.declared.tables.Tables.{Tables}
 use Rattle.frac_row.specs.declared.row.FracRow.{FracRow}
@@ -14,6 +14,8 @@ use Rattle.simplex_frac.specs.declared.outcome.Outcome.TheVariants as outcome
 use Rattle.price_lift.specs.PaidBack.{IsFirstBy}
 use Rattle.price_lift.specs.TooLarge.{best_excess, refusal_excess}
 use Rattle.dual_lift.specs.declared.error.Excess.{Excess}
+use Rattle.dual_lift.specs.declared.error.LiftError.{LiftError}
+use Rattle.dual_lift.specs.declared.error.LiftError.TheVariants as lift
 
 -- a subproblem that is searched: each leg keeps a pair, and some leg two or more
 pub record IsSearched (t : Tables) (keeps : Domains) : Type 0 where
@@ -77,3 +79,8 @@ pub record IsTooLargeAtNoPoint (t : Tables) (keeps : Domains) (pivots : Option �
 -- a number is too large on the way from the run's last table, first in this step and there at this place
 abbrev pub IsTooLarge : Tables → Domains → Option ℕ → ℕ → ℕ → Type 0
 IsTooLarge t keeps pivots step at = IsTooLargeAtBest t keeps pivots (record { step = step; at = at }) ⊎ IsTooLargeAtNoPoint t keeps pivots (record { step = step; at = at })
+
+-- why a lift of it is refused; want of memory is free
+abbrev pub IsLiftRefused : Tables → Domains → Option ℕ → LiftError → Type 0
+IsLiftRefused t keeps pivots (lift.TooLarge step at) = IsTooLarge t keeps pivots step at
+IsLiftRefused t keeps pivots lift.NoMemory = ⊤

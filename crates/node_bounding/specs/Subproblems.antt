@@ -52,13 +52,13 @@ IsLess earlier later = IsSomeAnd later (λ c. IfSome earlier (λ e. c <ℤ e))
 abbrev pub node_of : State → Node
 node_of (state.Leaf leaf) = own_node leaf
 node_of (state.Stopped s) = node.Open s.prices s.why
-node_of (state.Waiting f) = node.Open f.prices (cause.Nodes f.mixed)
-node_of (state.Split f) = node.Split f.leg f.choice f.prices f.mixed
+node_of (state.Waiting f) = node.Open f.best.prices (cause.Nodes f.best.mixed)
+node_of (state.Split f) = node.Split f.pair.leg f.pair.choice f.best.prices f.best.mixed
 
 -- a subproblem that may be split, with the rounded worth of its prices
 pub record IsFractional (t : Tables) (keeps : Domains) (f : Fraction) : Type 0 where
-  pub split : IsSplit t keeps f.leg f.choice f.prices f.mixed
-  pub rounded : IsCeiling (worth_of t keeps f.prices 1) f.prices.scale f.worth
+  pub split : IsSplit t keeps f.pair f.best
+  pub rounded : IsCeiling (worth_of t keeps f.best.prices 1) f.best.prices.scale f.worth
 
 -- the rounded worth of the prices of a subproblem that stays open
 pub record IsStoppedAt (t : Tables) (keeps : Domains) (s : Stopped) : Type 0 where

@@ -7,7 +7,7 @@ ghost use Rattle.dual_bound.specs.Fractions.{IsWhole};
 ghost use Rattle.dual_bound.specs.Prices.{ArePrices};
 ghost use Rattle.dual_bound.specs.Worth.{worth_of};
 ghost use Rattle.node_bounding.specs.Examined.{IsBounded, IsExamined, IsStoppedWith, IsWholeOffered};
-ghost use Rattle.node_bounding.specs.Relaxed.{AreBest, AreGood};
+ghost use Rattle.node_bounding.specs.Relaxed.{AreGood, IsBestPoint};
 ghost use Rattle.node_bounding.specs.Runs.{IsSearched};
 ghost use Rattle.node_bounding.specs.Subproblems.{IsPlan, cost_of};
 ghost use Rattle.node_bounding.specs.Wholes.{IsSplitPair};
@@ -19,12 +19,13 @@ use crate::relaxing::{Relaxed, relax};
 use crate::states::{Fraction, State, Stopped};
 use crate::wholes::{first_partial, flown_parts};
 use dual_bound::worth::worth;
-use dual_bound::{Cause, Mixed, Prices, Tree};
+use dual_bound::{Cause, Prices, Tree};
 use end_check::EndFinder;
 use entries::NoMemory;
 use fleet_model::{Kept, Pair, Tables};
 use frac_row::ceil_div;
 use lp_rows::Program;
+use price_lift::BestPoint;
 use std::alloc::Global;
 
 /// Examines a subproblem, whose nearest split above has these prices, with at most so many pivots or no budget of
@@ -55,7 +56,7 @@ pub fn examine<S: EndFinder<Program>>(
     match relax::<S>(alloc, tables, kept, pivots)? {
         Relaxed::Refuted(prices) => Ok(State::Leaf(Tree::Refuted(prices))),
         Relaxed::Stopped(why) => Ok(stopped(tables, kept, copied(alloc, above)?, why)),
-        Relaxed::Bounded { prices, mixed } => Ok(bounded(tables, best, kept, prices, mixed)),
+        Relaxed::Bounded(point) => Ok(bounded(tables, best, kept, point)),
     }
 }
 
@@ -69,52 +70,37 @@ fn stopped(tables: &Tables, kept: &Kept, prices: Prices, why: Cause) -> State
 }
 
 // What becomes of a subproblem whose best fractional assignment is known.
-fn bounded(
-    tables: &Tables,
-    best: &mut Option<Plan>,
-    kept: &Kept,
-    prices: Prices,
-    mixed: Mixed,
-) -> State
+fn bounded(tables: &Tables, best: &mut Option<Plan>, kept: &Kept, point: BestPoint) -> State
     requires plan { IfSome best.old (IsPlan tables.now) }
     requires allowed { KeepAllowed tables.now (kept_by kept.now) }
     requires searched { IsSearched tables.now (kept_by kept.now) }
-    requires best { AreBest tables.now (kept_by kept.now) prices mixed }
+    requires best { IsBestPoint tables.now (kept_by kept.now) point }
     ensures { IsBounded tables.now best.old best.new (kept_by kept.now) result }
 {
-    match first_partial(tables, &mixed) {
+    match first_partial(tables, &point.mixed) {
         None => {
-            offer_whole(tables, best, kept, &prices, &mixed);
-            State::Leaf(Tree::Priced(prices))
+            offer_whole(tables, best, kept, &point);
+            State::Leaf(Tree::Priced(point.prices))
         }
-        Some(pair) => divided(tables, best, kept, prices, mixed, pair),
+        Some(pair) => divided(tables, best, kept, point, pair),
     }
 }
 
 // What becomes of a subproblem whose best fractional assignment flies a pair in part.
-fn divided(
-    tables: &Tables,
-    best: &Option<Plan>,
-    kept: &Kept,
-    prices: Prices,
-    mixed: Mixed,
-    pair: Pair,
-) -> State
+fn divided(tables: &Tables, best: &Option<Plan>, kept: &Kept, point: BestPoint, pair: Pair) -> State
     requires plan { IfSome best.now (IsPlan tables.now) }
     requires searched { IsSearched tables.now (kept_by kept.now) }
-    requires best { AreBest tables.now (kept_by kept.now) prices mixed }
-    requires pair { IsSplitPair tables.now mixed pair }
+    requires best { IsBestPoint tables.now (kept_by kept.now) point }
+    requires pair { IsSplitPair tables.now point.mixed pair }
     ensures { IsBounded tables.now best.now best.now (kept_by kept.now) result }
 {
-    let worth = rounded_worth(tables, kept, &prices);
+    let worth = rounded_worth(tables, kept, &point.prices);
     if is_reached(&worth, best) {
-        return State::Leaf(Tree::Priced(prices));
+        return State::Leaf(Tree::Priced(point.prices));
     }
     State::Waiting(Fraction {
-        leg: pair.leg,
-        choice: pair.choice,
-        prices,
-        mixed,
+        pair,
+        best: point,
         worth,
     })
 }
@@ -123,20 +109,14 @@ fn divided(
 //
 // It has an assignment on the stack, and so is kept out of the frames of the search.
 #[inline(never)]
-fn offer_whole(
-    tables: &Tables,
-    best: &mut Option<Plan>,
-    kept: &Kept,
-    prices: &Prices,
-    mixed: &Mixed,
-)
+fn offer_whole(tables: &Tables, best: &mut Option<Plan>, kept: &Kept, point: &BestPoint)
     requires plan { IfSome best.old (IsPlan tables.now) }
     requires allowed { KeepAllowed tables.now (kept_by kept.now) }
-    requires best { AreBest tables.now (kept_by kept.now) prices.now mixed.now }
-    requires whole { IsWhole tables.now mixed.now }
-    ensures { IsWholeOffered tables.now (kept_by kept.now) prices.now best.old best.new }
+    requires best { IsBestPoint tables.now (kept_by kept.now) point.now }
+    requires whole { IsWhole tables.now point.now.mixed }
+    ensures { IsWholeOffered tables.now (kept_by kept.now) point.now.prices best.old best.new }
 {
-    let flown = flown_parts(tables, mixed);
+    let flown = flown_parts(tables, &point.mixed);
     offer(tables, flown, best);
 }
 

@@ -6,11 +6,12 @@ mod examining;
 mod made_prices;
 mod offers;
 mod plans;
+mod proved_run;
 mod relaxing;
 pub mod removals;
-mod second_run;
 mod states;
 pub mod steps;
+mod trying;
 mod wholes;
 
 pub use examining::{examine, is_reached};

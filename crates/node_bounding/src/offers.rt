@@ -2,7 +2,7 @@
 ghost use Rattle.std.specs.Prelude.{◌≤ℤ◌, ◌<ℤ◌, IfSome, IsSomeAnd, MatchBool, MatchOption};
 ghost use Rattle.fleet_model.specs.Kept.{kept_by};
 ghost use Rattle.fleet_model.specs.Legal.{IsAssignment, IsLegal};
-ghost use Rattle.cert_check.specs.Rules.{IsLegalAt};
+ghost use Rattle.plan_judge.specs.Sizes.{IsLegalAt};
 ghost use Rattle.node_bounding.specs.Offers.{IsNoSole, IsOffered, IsSoleOffered};
 ghost use Rattle.node_bounding.specs.Subproblems.{IsPlan, cost_of};
 

@@ -1,21 +1,21 @@
 //! What becomes of a subproblem.
-use dual_bound::{Cause, Mixed, Prices, Tree};
+use dual_bound::{Cause, Prices, Tree};
+use fleet_model::Pair;
+use price_lift::BestPoint;
 
 /// A subproblem whose best fractional assignment flies a pair in part, so that it may be split by it.
-#[derive(Debug, Drop)]
+#[derive(Drop)]
 pub struct Fraction {
-    /// The leg of the first such pair.
-    pub leg: u32,
-    /// Its choice.
-    pub choice: u32,
-    pub prices: Prices,
-    pub mixed: Mixed,
+    /// The first such pair, by leg and then by choice.
+    pub pair: Pair,
+    /// That assignment, and prices that are worth what it costs.
+    pub best: BestPoint,
     /// The worth of the prices, rounded up, in cost units.
     pub worth: i128,
 }
 
 /// A subproblem that stays open, since its run gave no prices of its own.
-#[derive(Debug, Drop)]
+#[derive(Drop)]
 pub struct Stopped {
     /// The prices of the nearest split above.
     pub prices: Prices,
@@ -25,7 +25,7 @@ pub struct Stopped {
 }
 
 /// What became of a subproblem.
-#[derive(Debug, Drop)]
+#[derive(Drop)]
 pub enum State {
     /// Its tree stands.
     Leaf(Tree),

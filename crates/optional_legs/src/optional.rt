@@ -5,7 +5,7 @@ use fleet_model::limits::MAX_LEGS;
 pub const MAX_OPTIONAL: usize = MAX_LEGS;
 
 /// A leg that may be left out.
-#[derive(Debug, Drop)]
+#[derive(Drop)]
 pub struct OptionalLeg {
     /// Its flight.
     pub flight: Entries<u8>,

@@ -1,2 +1,3 @@
+pub mod LegalCosts
 pub mod OneVerdict
 pub mod OtherSizes

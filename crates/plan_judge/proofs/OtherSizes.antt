@@ -8,11 +8,12 @@ use Rattle.fleet_model.specs.Counts.{arrived, departed, pair_at, weights_of}
 use Rattle.fleet_model.specs.Legal.{IsLegal, IsWithinFleets}
 use Rattle.fleet_model.specs.OtherSizes.{IsOtherSize}
 use Rattle.fleet_model.specs.Schedule.{fleet_of, fleets_in, last_of}
+use Rattle.fleet_model.specs.Sizes.{aircraft_by}
+use Rattle.fleet_model.specs.declared.sizes.Sizes.TheVariants as sizes
 use Rattle.fleet_model.specs.Use.{used_of}
 use Rattle.fleet_model.proofs.OtherSizes.{aircraft_elsewhere, aircraft_there, allowed_same, arrived_same, assignment_same, balanced_same, cost_same, days_same, departed_same, fleets_same, legs_same, parked_same, parking_same, period_same, room_same, stations_same, total_cost_same, used_same}
-use Rattle.plan_judge.specs.Sizes.{FirstTooManyBy, IsLegalBy, IsVerdictBy, IsWithinBy, aircraft_by}
+use Rattle.plan_judge.specs.Sizes.{FirstTooManyBy, IsLegalBy, IsVerdictBy, IsWithinBy}
 use Rattle.plan_judge.specs.Verdicts.{Balances, FirstCrowded, FirstNotAllowed, FirstTooMany, FirstUnbalanced, HasRoomOn, IsVerdict}
-use Rattle.plan_judge.specs.declared.sizes.Sizes.TheVariants as sizes
 use Rattle.plan_judge.specs.declared.verdicts.Verdict.{Verdict}
 use Rattle.plan_judge.specs.declared.verdicts.Verdict.TheVariants as verdict
 

@@ -1,21 +1,16 @@
 -- The verdict on an assignment where one fleet may have another number of aircraft than the tables say.
-use Rattle.std.specs.Prelude.{◌≡◌, ℕ, ◌<◌, ◌≤◌, ◌==◌, if◌then◌else◌, List}
+use Rattle.std.specs.Prelude.{◌≡◌, ℕ, ◌<◌, ◌≤◌, List, Option, Some, None, ℤ}
+use Rattle.fleet_model.specs.declared.sizes.Sizes.{Sizes}
 use Rattle.fleet_model.specs.declared.tables.Tables.{Tables}
 use Rattle.fleet_model.specs.Counts.{weights_of}
-use Rattle.fleet_model.specs.Legal.{HasRoom, IsAllowed, IsAssignment, total_cost}
-use Rattle.fleet_model.specs.Schedule.{fleet_of, fleets_in}
+use Rattle.fleet_model.specs.Legal.{HasRoom, IsAllowed, IsAssignment, IsLegal, total_cost}
+use Rattle.fleet_model.specs.Schedule.{fleets_in}
+use Rattle.fleet_model.specs.Sizes.{aircraft_by}
 use Rattle.fleet_model.specs.Use.{IsBalanced, used_of}
 use Rattle.plan_judge.specs.Verdicts.{FirstCrowded, FirstNotAllowed, FirstUnbalanced}
 use Rattle.plan_judge.specs.declared.limits.Overuse.{Overuse}
-use Rattle.plan_judge.specs.declared.sizes.Sizes.{Sizes}
-use Rattle.plan_judge.specs.declared.sizes.Sizes.TheVariants as sizes
 use Rattle.plan_judge.specs.declared.verdicts.Verdict.{Verdict}
 use Rattle.plan_judge.specs.declared.verdicts.Verdict.TheVariants as verdict
-
--- how many aircraft a fleet has
-abbrev pub aircraft_by : Tables → Sizes → ℕ → ℕ
-aircraft_by t sizes.Own f = (fleet_of t f).aircraft
-aircraft_by t (sizes.Other fleet count) f = if fleet == f then count else (fleet_of t f).aircraft
 
 -- no fleet uses more aircraft than it has
 pub record IsWithinBy (t : Tables) (by : Sizes) (a : List ℕ) : Type 0 where
@@ -47,3 +42,16 @@ IsVerdictBy t by a (verdict.Unbalanced fleet station came left) = IsAllowed t a 
 IsVerdictBy t by a (verdict.TooMany fleet used has) = IsAllowed t a × IsBalanced t (weights_of a) × FirstTooManyBy t by a fleet used has
 IsVerdictBy t by a (verdict.Crowded station day stands cap) = IsAllowed t a × IsBalanced t (weights_of a) × IsWithinBy t by a × FirstCrowded t a station day stands cap
 IsVerdictBy t by a (verdict.Legal cost) = IsLegalBy t by a × (cost ≡ total_cost t a)
+
+-- the cost of which a verdict tells
+abbrev pub cost_in : Verdict → Option ℤ
+cost_in (verdict.NotAllowed leg) = None
+cost_in (verdict.Unbalanced fleet station came left) = None
+cost_in (verdict.TooMany fleet used has) = None
+cost_in (verdict.Crowded station day stands cap) = None
+cost_in (verdict.Legal cost) = Some cost
+
+-- an assignment is legal, and costs this
+pub record IsLegalAt (t : Tables) (plan : List ℕ) (cost : ℤ) : Type 0 where
+  pub legal : IsLegal t plan
+  pub costs : cost ≡ total_cost t plan

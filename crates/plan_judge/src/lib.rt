@@ -7,8 +7,7 @@ pub mod counting;
 mod crowds;
 pub mod laws;
 mod limits;
-mod sizes;
 pub mod verdicts;
 
 pub use counting::{need, used};
-pub use verdicts::{Verdict, judge, judge_as};
+pub use verdicts::{Verdict, judge, judge_as, legal_cost};

@@ -4,8 +4,7 @@ ghost use Rattle.fleet_model.specs.Legal.{IsAssignment};
 ghost use Rattle.plan_judge.specs.Sizes.{IsFirstTooManyBy, IsWithinBy};
 
 use crate::counting::used;
-use crate::sizes::Sizes;
-use fleet_model::{Assignment, Tables};
+use fleet_model::{Assignment, Sizes, Tables};
 
 /// A fleet that uses more aircraft than it has.
 #[derive(Clone, Copy)]

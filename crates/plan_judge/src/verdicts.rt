@@ -1,21 +1,21 @@
-ghost use Rattle.std.specs.Prelude.{◌≡◌, ◌<◌, ◌≤◌};
+ghost use Rattle.std.specs.Prelude.{◌≡◌, ◌<◌, ◌≤◌, MatchOption};
 ghost use Rattle.fleet_model.specs.declared.limits.TheConstants.{MAX_AIRCRAFT};
 ghost use Rattle.fleet_model.specs.declared.tables.Tables.{Tables};
 ghost use Rattle.fleet_model.specs.Legal.{IsAssignment, IsLegal, total_cost};
 ghost use Rattle.fleet_model.specs.OtherSizes.{IsOtherSize};
 ghost use Rattle.fleet_model.specs.Schedule.{fleets_in};
-ghost use Rattle.plan_judge.specs.Sizes.{IsVerdictBy};
+ghost use Rattle.fleet_model.specs.Sizes.{AreSizes, HoldsBy};
+ghost use Rattle.plan_judge.specs.Sizes.{IsLegalAt, IsVerdictBy, cost_in};
 ghost use Rattle.plan_judge.specs.Verdicts.{IsVerdict};
 
 use crate::balance::first_unbalanced;
 use crate::cost::{cost, first_not_allowed};
 use crate::crowds::first_crowded;
 use crate::limits::first_too_many;
-use crate::sizes::Sizes;
-use fleet_model::{Assignment, Tables};
+use fleet_model::{Assignment, Sizes, Tables};
 
 /// What an assignment is worth: legal, or the first reason why it is not.
-#[derive(Clone, Copy, Debug, PartialEq, Eq)]
+#[derive(Clone, Copy)]
 pub enum Verdict {
     /// The first leg that its fleet may not fly.
     NotAllowed {
@@ -71,6 +71,25 @@ pub fn judge_as(tables: &Tables, fleet: u32, count: u32, plan: &Assignment) -> V
     ensures legal { (u : Tables) → IsOtherSize tables.now fleet count u → IsLegal u plan.now → result ≡ Verdict.Legal (total_cost u plan.now) }
 {
     judge_by(tables, Sizes::Other { fleet, count }, plan)
+}
+
+/// What an assignment costs where fleets have so many aircraft, in cost units, if it is legal then. Takes no memory.
+pub fn legal_cost(tables: &Tables, sizes: Sizes, plan: &Assignment) -> Option<i128>
+    requires sizes { AreSizes tables.now sizes }
+    requires plan { IsAssignment tables.now plan.now }
+    ensures { HoldsBy tables.now sizes (λ u. MatchOption result (¬ (IsLegal u plan.now)) (IsLegalAt u plan.now)) }
+{
+    cost_in(judge_by(tables, sizes, plan))
+}
+
+// The cost of which a verdict tells.
+fn cost_in(verdict: Verdict) -> Option<i128>
+    ensures { result ≡ cost_in verdict }
+{
+    match verdict {
+        Verdict::Legal { cost } => Some(cost),
+        _ => None,
+    }
 }
 
 // Judges an assignment where fleets have so many aircraft.

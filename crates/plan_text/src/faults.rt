@@ -6,7 +6,7 @@ use std::alloc::{AllocError, AllocFailed};
 use thiserror::Error;
 
 /// The first fault of a plan's text.
-#[derive(Clone, Copy, Debug, PartialEq, Eq)]
+#[derive(Clone, Copy, Debug)]
 pub struct PlanFault {
     /// The number of the record, from 1; the header is record 1. A record that is missing has the number that it
     /// would have.
@@ -16,7 +16,7 @@ pub struct PlanFault {
 }
 
 /// Why a plan's text could not be read.
-#[derive(Clone, Copy, Debug, PartialEq, Eq, Error)]
+#[derive(Clone, Copy, Debug, Error)]
 pub enum PlanError {
     #[error("bad plan: {0:?}")]
     Fault(PlanFault),

@@ -1,5 +1,5 @@
 /// Why a pair cannot be flown, as far as the kept pairs tell.
-#[derive(Clone, Copy, Debug, PartialEq, Eq)]
+#[derive(Clone, Copy)]
 pub enum Rule {
     /// The fleet keeps no pair that lands where the leg departs, so no aircraft of it comes there.
     NoArrival,

@@ -1,7 +1,7 @@
 use dual_bound::Prices;
 
 /// A pair that presolve removes (variable fixing), and why.
-#[derive(Debug, Drop)]
+#[derive(Drop)]
 pub struct Trim {
     /// The leg, by its number.
     pub leg: u32,

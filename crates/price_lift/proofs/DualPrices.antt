@@ -78,9 +78,7 @@ module _ (t : Tables) (keeps : Domains) (rows : Rows) (lines : AreLinesOf t keep
         record {
           scale = well.scale ∙ are.scale;
           paid = record { before = prices; by_lines = are.by_lines; starts = starts; network = network; paid = refl };
-          of_tables = well.of_tables;
-          proper = well.proper;
-          in_order = well.in_order;
+          good = record { proper = well.proper; known = well.of_tables; in_order = well.in_order };
         }
 
     -- where the right sides weigh more than 0

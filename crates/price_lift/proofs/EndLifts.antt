@@ -1,5 +1,5 @@
 -- What a lift of an end that was checked comes to, from the parts that the calls give.
-use Rattle.std.proofs.Common.{◌≡◌, ℕ, zero, suc, ◌+◌, ◌*◌, ◌^◌, ◌<◌, ◌≤◌, false, List, length, All, Option, Some, None, Result, Ok, Err, IfOk, ℤ, pos, ◌*ℤ◌, ◌<ℤ◌, ◌≤ℤ◌, unsigned_abs, refl, sym, ◌∙◌, ap, subst, inl, inr, arith}
+use Rattle.std.proofs.Common.{◌≡◌, ℕ, zero, suc, ◌+◌, ◌*◌, ◌^◌, ◌<◌, ◌≤◌, false, List, length, All, Option, Some, None, Result, Ok, Err, IfOk, MatchResult, ℤ, pos, ◌*ℤ◌, ◌<ℤ◌, ◌≤ℤ◌, unsigned_abs, refl, sym, ◌∙◌, ap, subst, inl, inr, arith}
 use Rattle.std.specs.Prelude.{int_lt}
 use Rattle.std.proofs.lemmas.Int.{ints}
 use Rattle.std.proofs.lemmas.List.{get_or-drop, get_or_past, length-drop}
@@ -38,8 +38,8 @@ use Rattle.dual_bound.specs.Prices.{max_scale}
 use Rattle.dual_bound.specs.declared.mixed.Mixed.{Mixed}
 use Rattle.dual_bound.specs.declared.prices.Prices.{Prices}
 use Rattle.price_lift.specs.ArcRises.{outline_rises}
-use Rattle.price_lift.specs.EndLifts.{IsLiftOf, IsLiftOfRefusing, IsMixedOfParts, end_duals, end_excess, first_parts, lowest_end_excess, pair_parts, parts_excess, priced_values, refusing_duals, refusing_excess}
-use Rattle.price_lift.specs.Lifted.{AreLiftedPrices, AreNodePrices}
+use Rattle.price_lift.specs.EndLifts.{IsLiftOf, IsMixedOfParts, end_duals, end_excess, first_parts, lowest_end_excess, pair_parts, parts_excess, priced_values, refusing_duals, refusing_excess}
+use Rattle.price_lift.specs.Lifted.{AreLiftedPrices, AreNodePrices, IsLiftedRefusal}
 use Rattle.price_lift.specs.PaidBack.{paid_back, payback_excess, payback_excess_by}
 use Rattle.price_lift.specs.Parts.{weights_at}
 use Rattle.price_lift.specs.Steps.{prices_by}
@@ -250,21 +250,21 @@ module _ (t : Tables) (keeps : Domains) (rows : Rows) (lines : AreLinesOf t keep
             plans.is_worth t keeps rows lines (factor hint.point hint.scale n end.some) (lowest_scale hint.point hint.scale n end.some) (factor_above hint.point hint.scale n end.some) (lowest_above hint.point hint.scale n end.some) (part_in hint.point) (lowest_part hint.point hint.scale n end.some) meets divides mixed
             (reduced (pair_parts t keeps hint)).numbers mixed_scale within (lowest_numbers hint.point hint.scale n end.some) list_is (value_in hint.duals) (end_duals t hint) point_row priced.0 hint.dual_scale (weighed rows (value_in hint.duals) rows.columns) end.values.some refl
             (end.same ∙ ap (λ s. weighed rows (value_in hint.duals) rows.columns *ℤ pos s) (scale_is hint.point hint.scale n end.some).1) before nodes_priced.scale (nodes_priced.by_lines lines.starts lines.lines.network) paid
-            (paid_scale t keeps rows lines 1 (value_in hint.duals) (end_duals t hint) point_row priced.0 o is before nodes_priced paid facts) lifted.proper
+            (paid_scale t keeps rows lines 1 (value_in hint.duals) (end_duals t hint) point_row priced.0 o is before nodes_priced paid facts) lifted.good.proper
             (paid_grows t keeps rows lines 1 (value_in hint.duals) (end_duals t hint) point_row priced.0 o is before nodes_priced paid facts each 1)
 
-        pub end_lifted : (end_excess t keeps hint (starts_in o.network) ≡ None) × IsLiftOf t keeps hint (record { prices = paid; mixed = Some mixed })
+        pub end_lifted : (end_excess t keeps hint (starts_in o.network) ≡ None) × IsLiftOf t keeps hint (record { prices = paid; mixed = mixed })
         unfolding end_excess
         end_lifted = (
           both_well _ _ priced.0 (both_well _ _ fits (excess_none t keeps rows lines 1 (value_in hint.duals) (end_duals t hint) point_row priced.0 o is before nodes_priced paid facts)),
           record {
             prices = lifted;
             weights = of_parts;
-            end = record {
-              prices = record { of_tables = lifted.of_tables; proper = lifted.proper; in_order = lifted.in_order };
+            best = record {
+              good = lifted.good;
               known = subst (All (IsWeightOf t)) (sym list_is) (weights_known t keeps lines.starts (reduced (pair_parts t keeps hint)).numbers);
-              weights_in_order = mixed_in_order t keeps lines.starts (lowest_part hint.point hint.scale n end.some) (lowest_scale hint.point hint.scale n end.some) mixed (reduced (pair_parts t keeps hint)).numbers few within mixed_scale (lowest_numbers hint.point hint.scale n end.some) list_is;
-              plan = plan;
+              in_order = mixed_in_order t keeps lines.starts (lowest_part hint.point hint.scale n end.some) (lowest_scale hint.point hint.scale n end.some) mixed (reduced (pair_parts t keeps hint)).numbers few within mixed_scale (lowest_numbers hint.point hint.scale n end.some) list_is;
+              mixed_at = plan;
               value = value;
             };
           },
@@ -279,22 +279,26 @@ module _ (t : Tables) (keeps : Domains) (rows : Rows) (lines : AreLinesOf t keep
     pub refusing_priced : AreNodePrices t keeps (starts_in o.network) (refusing_duals t hint) before
     refusing_priced = node_prices t keeps rows lines 0 (value_in hint.multipliers) (refusing_duals t hint) refusal_row priced.0 (starts_in o.network) is.network row before priced.1
 
-    pub refusing_fails : (e : LiftError) → IsLiftError (payback_excess t before (outline_rises t o before)) e → IsLiftError (refusing_excess t keeps hint (starts_in o.network)) e
+    refusing_fails : (e : LiftError) → IsLiftError (payback_excess t before (outline_rises t o before)) e → IsLiftError (refusing_excess t keeps hint (starts_in o.network)) e
     unfolding refusing_excess
     refusing_fails e fails = then_fails _ _ e priced.0 (subst (λ x. IsLiftError x e) (same_excess t keeps rows lines 0 (value_in hint.multipliers) (refusing_duals t hint) refusal_row priced.0 o is before refusing_priced) fails)
 
-    pub refusing_lifted : (paid : Prices) → (payback_excess t before (outline_rises t o before) ≡ None) × (paid ≡ paid_back t before (outline_rises t o before))
-        → (refusing_excess t keeps hint (starts_in o.network) ≡ None) × IsLiftOfRefusing t keeps hint (record { prices = paid; mixed = None })
+    refusing_lifted : (paid : Prices) → (payback_excess t before (outline_rises t o before) ≡ None) × (paid ≡ paid_back t before (outline_rises t o before))
+        → (refusing_excess t keeps hint (starts_in o.network) ≡ None) × IsLiftedRefusal t keeps (refusing_duals t hint) paid
     unfolding refusing_excess
     refusing_lifted paid facts =
         let lifted = prices_lifted t keeps rows lines 0 (value_in hint.multipliers) (refusing_duals t hint) refusal_row priced.0 o is before refusing_priced paid facts in (
           both_well _ _ priced.0 (excess_none t keeps rows lines 0 (value_in hint.multipliers) (refusing_duals t hint) refusal_row priced.0 o is before refusing_priced paid facts),
           record {
-            prices = lifted;
-            end = record {
-              prices = record { of_tables = lifted.of_tables; proper = lifted.proper; in_order = lifted.in_order };
-              no_plan = refl;
-              refutes = worth_refutes t keeps rows lines 0 (value_in hint.multipliers) (refusing_duals t hint) refusal_row priced.0 o is before refusing_priced paid facts refl end.more;
+            lifted = lifted;
+            refutes = λ each. record {
+              good = lifted.good;
+              refute = worth_refutes t keeps rows lines 0 (value_in hint.multipliers) (refusing_duals t hint) refusal_row priced.0 o is before refusing_priced paid facts refl end.more each;
             };
           },
         )
+
+    pub refusing_paid : (r : Result Prices LiftError) → MatchResult r (λ paid. (payback_excess t before (outline_rises t o before) ≡ None) × (paid ≡ paid_back t before (outline_rises t o before))) (IsLiftError (payback_excess t before (outline_rises t o before)))
+        → MatchResult r (λ paid. (refusing_excess t keeps hint (starts_in o.network) ≡ None) × IsLiftedRefusal t keeps (refusing_duals t hint) paid) (IsLiftError (refusing_excess t keeps hint (starts_in o.network)))
+    refusing_paid (Ok paid) facts = refusing_lifted paid facts
+    refusing_paid (Err e) fails = refusing_fails e fails

@@ -21,33 +21,27 @@ use Rattle.price_lift.specs.Duals.{best_duals, refusal_duals}
 use Rattle.price_lift.specs.LastTables.{none_excess, point_excess, prices_excess_by}
 use Rattle.price_lift.specs.TooLarge.{best_duals_excess, best_excess, first_priced, point_ends, prices_excess, refusal_excess}
 use Rattle.price_lift.specs.Wanted.{IsWantedBehind}
-use Rattle.price_lift.specs.declared.lift.Lifted.{Lifted}
-
--- what holds of a result that is well, in other words
-pub if_well : {P Q : Lifted → Type 0} (r : Result Lifted LiftError) → IfOk r P → ((lifted : Lifted) → P lifted → Q lifted) → IfOk r Q
-if_well (Ok lifted) holds weaker = weaker lifted holds
-if_well (Err e) holds weaker = tt
 
 -- a result of one excess, by another that is the same
-module _ (P : Lifted → Type 0) (o : Option Excess) (r : Result Lifted LiftError) (is : MatchResult r (λ lifted. (o ≡ None) × P lifted) (IsLiftError o)) where
-  pub well_lifted : (Q : Lifted → Type 0) → ((lifted : Lifted) → P lifted → Q lifted) → IfOk r Q
+module _ {X : Type 0} (P : X → Type 0) (o : Option Excess) (r : Result X LiftError) (is : MatchResult r (λ lifted. (o ≡ None) × P lifted) (IsLiftError o)) where
+  pub well_lifted : (Q : X → Type 0) → ((lifted : X) → P lifted → Q lifted) → IfOk r Q
   well_lifted Q same = by_result r is
     where
-      by_result : (r : Result Lifted LiftError) → MatchResult r (λ lifted. (o ≡ None) × P lifted) (IsLiftError o) → IfOk r Q
+      by_result : (r : Result X LiftError) → MatchResult r (λ lifted. (o ≡ None) × P lifted) (IsLiftError o) → IfOk r Q
       by_result (Ok lifted) is = same lifted is.1
       by_result (Err e) is = tt
 
   pub well_fits : (p : Option Excess) → o ≡ p → IfOk r (λ lifted. p ≡ None)
   well_fits p same = by_result r is
     where
-      by_result : (r : Result Lifted LiftError) → MatchResult r (λ lifted. (o ≡ None) × P lifted) (IsLiftError o) → IfOk r (λ lifted. p ≡ None)
+      by_result : (r : Result X LiftError) → MatchResult r (λ lifted. (o ≡ None) × P lifted) (IsLiftError o) → IfOk r (λ lifted. p ≡ None)
       by_result (Ok lifted) is = subst (λ q. q ≡ None) same is.0
       by_result (Err e) is = tt
 
   pub fails_so : (p : Option Excess) → o ≡ p → IfErr r (IsLiftError p)
   fails_so p same = by_result r is
     where
-      by_result : (r : Result Lifted LiftError) → MatchResult r (λ lifted. (o ≡ None) × P lifted) (IsLiftError o) → IfErr r (IsLiftError p)
+      by_result : (r : Result X LiftError) → MatchResult r (λ lifted. (o ≡ None) × P lifted) (IsLiftError o) → IfErr r (IsLiftError p)
       by_result (Ok lifted) is = tt
       by_result (Err e) is = subst (λ q. IsLiftError q e) same is
 
@@ -83,13 +77,13 @@ pub duals_fit : (t : Tables) (table : List FracRow) (reading : Reading) → pric
 unfolding prices_excess_by
 duals_fit t table reading fits = first_none _ _ fits
 
-pub best_duals_behind : (t : Tables) (table : List FracRow) (mixture : Mixture) (r : Result Lifted LiftError) → first_below (phases_excess table) (real_columns table) ≡ None → IfErr r (IsWantedBehind (duals_excess table (BothRows mixture) (legs_in t)))
+pub best_duals_behind : {X : Type 0} (t : Tables) (table : List FracRow) (mixture : Mixture) (r : Result X LiftError) → first_below (phases_excess table) (real_columns table) ≡ None → IfErr r (IsWantedBehind (duals_excess table (BothRows mixture) (legs_in t)))
     → IfErr r (IsWantedBehind (best_duals_excess t table))
 unfolding duals_excess
 best_duals_behind t table mixture r fits wanted =
     subst (λ o. IfErr r (IsWantedBehind o)) (ap (λ o. or_else o (or_else (scale_excess table) (first_priced t table (best_value_excess table)))) (sym fits)) wanted
 
-pub refusal_duals_behind : (t : Tables) (table : List FracRow) (r : Result Lifted LiftError) → IfErr r (IsWantedBehind (duals_excess table PhaseRow (legs_in t))) → IfErr r (IsWantedBehind (first_priced t table (refusal_value_excess table)))
+pub refusal_duals_behind : {X : Type 0} (t : Tables) (table : List FracRow) (r : Result X LiftError) → IfErr r (IsWantedBehind (duals_excess table PhaseRow (legs_in t))) → IfErr r (IsWantedBehind (first_priced t table (refusal_value_excess table)))
 unfolding duals_excess
 refusal_duals_behind t table r wanted = wanted
 
@@ -104,11 +98,11 @@ refusal_excess_is t keeps table starts =
 
 -- ---- by the network of an outline
 module _ (t : Tables) (keeps : Domains) (excess : Starts → Option Excess) (starts : Starts) (network : IsNetwork t keeps starts) where
-  pub fits_by : (r : Result Lifted LiftError) → IfOk r (λ lifted. excess starts ≡ None) → IfOk r (λ lifted. FitsBy t keeps excess)
+  pub fits_by : {X : Type 0} (r : Result X LiftError) → IfOk r (λ lifted. excess starts ≡ None) → IfOk r (λ lifted. FitsBy t keeps excess)
   fits_by (Ok lifted) fits = record { starts = starts; network = network; fits = fits }
   fits_by (Err e) fits = tt
 
-  pub fails_by : (r : Result Lifted LiftError) → IfErr r (IsLiftError (excess starts)) → IfErr r (IsLiftErrorBy t keeps excess)
+  pub fails_by : {X : Type 0} (r : Result X LiftError) → IfErr r (IsLiftError (excess starts)) → IfErr r (IsLiftErrorBy t keeps excess)
   fails_by (Ok lifted) is = tt
   fails_by (Err (TooLarge step at)) is = record { starts = starts; network = network; is = is }
   fails_by (Err NoMemory) is = tt

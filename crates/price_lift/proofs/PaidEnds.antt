@@ -1,5 +1,5 @@
 -- What a lift of a last table comes to by the outline of the kept pairs, with its prices paid back.
-use Rattle.std.proofs.Common.{◌≡◌, ℕ, List, Some, None, refl, ◌∙◌, sym, subst}
+use Rattle.std.proofs.Common.{◌≡◌, ℕ, List, None, Result, Ok, Err, MatchResult, ◌∙◌, sym, subst}
 use Rattle.sums.specs.Places.{first_below}
 use Rattle.frac_row.specs.declared.row.FracRow.{FracRow}
 use Rattle.fleet_model.specs.Kept.{Domains, pairs_kept}
@@ -34,22 +34,26 @@ module _ (t : Tables) (keeps : Domains) (table : List FracRow) (basis : List ℕ
       same_excess t keeps last.rows last.lines (counts_costs reading) (value_by table reading) (duals_by table reading (legs_in t)) (dual_row t keeps table basis reading last) (prices_fit t keeps table basis reading last well) o is before are
 
   -- ---- where no point meets the lines
-  pub none_fails : (e : LiftError) → IsLiftError (payback_excess t before (outline_rises t o before)) e → IsLiftError (none_excess t keeps table reading (starts_in o.network)) e
+  none_fails : (e : LiftError) → IsLiftError (payback_excess t before (outline_rises t o before)) e → IsLiftError (none_excess t keeps table reading (starts_in o.network)) e
   unfolding none_excess
   none_fails e fails = then_fails _ _ e well (subst (λ x. IsLiftError x e) same_there fails)
 
-  pub refusal_of : (paid : Prices) → (payback_excess t before (outline_rises t o before) ≡ None) × (paid ≡ paid_back t before (outline_rises t o before)) → counts_costs reading ≡ 0
-      → (none_excess t keeps table reading (starts_in o.network) ≡ None) × IsLiftedRefusal t keeps (duals_by table reading (legs_in t)) (record { prices = paid; mixed = None })
+  refusal_of : (paid : Prices) → (payback_excess t before (outline_rises t o before) ≡ None) × (paid ≡ paid_back t before (outline_rises t o before)) → counts_costs reading ≡ 0
+      → (none_excess t keeps table reading (starts_in o.network) ≡ None) × IsLiftedRefusal t keeps (duals_by table reading (legs_in t)) paid
   unfolding none_excess
-  refusal_of paid facts none = (
-    both_well _ _ well (sym same_there ∙ facts.0),
-    record {
-      prices = prices_lifted t keeps last.rows last.lines (counts_costs reading) (value_by table reading) (duals_by table reading (legs_in t)) (dual_row t keeps table basis reading last) (prices_fit t keeps table basis reading last well) o is before are paid facts;
-      no_plan = refl;
-      refutes = worth_refutes t keeps last.rows last.lines (counts_costs reading) (value_by table reading) (duals_by table reading (legs_in t)) (dual_row t keeps table basis reading last) (prices_fit t keeps table basis reading last well) o is before are paid facts
-          none (more t keeps table basis reading last none);
-    },
-  )
+  refusal_of paid facts none =
+      let row = dual_row t keeps table basis reading last in
+      let fits = prices_fit t keeps table basis reading last well in
+      let lifted = prices_lifted t keeps last.rows last.lines (counts_costs reading) (value_by table reading) (duals_by table reading (legs_in t)) row fits o is before are paid facts in
+      let refutes = worth_refutes t keeps last.rows last.lines (counts_costs reading) (value_by table reading) (duals_by table reading (legs_in t)) row fits o is before are paid facts none (more t keeps table basis reading last none) in (
+        both_well _ _ well (sym same_there ∙ facts.0),
+        record { lifted = lifted; refutes = λ each. record { good = lifted.good; refute = refutes each } },
+      )
+
+  pub refusal_paid : (r : Result Prices LiftError) → MatchResult r (λ paid. (payback_excess t before (outline_rises t o before) ≡ None) × (paid ≡ paid_back t before (outline_rises t o before))) (IsLiftError (payback_excess t before (outline_rises t o before)))
+      → counts_costs reading ≡ 0 → MatchResult r (λ paid. (none_excess t keeps table reading (starts_in o.network) ≡ None) × IsLiftedRefusal t keeps (duals_by table reading (legs_in t)) paid) (IsLiftError (none_excess t keeps table reading (starts_in o.network)))
+  refusal_paid (Ok paid) facts none = refusal_of paid facts none
+  refusal_paid (Err e) fails none = none_fails e fails
 
 -- ---- at a cheapest point
 module _ (t : Tables) (keeps : Domains) (table : List FracRow) (basis : List ℕ) (reading : Reading) (point : IsPointBy t keeps table basis reading) (o : Outline) (is : IsOutline t keeps o)
@@ -60,7 +64,7 @@ module _ (t : Tables) (keeps : Domains) (table : List FracRow) (basis : List ℕ
   point_fails e fails = then_fails _ _ e well (then_fails _ _ e weighed (subst (λ x. IsLiftError x e) (same_there t keeps table basis reading point.last o is before are well) fails))
 
   pub point_of : (paid : Prices) → (payback_excess t before (outline_rises t o before) ≡ None) × (paid ≡ paid_back t before (outline_rises t o before)) → (mixed : Mixed) → IsBasicMixed table basis o.pairs mixed
-      → (point_excess t keeps table basis reading (starts_in o.network) ≡ None) × IsLiftedPoint t keeps table basis (duals_by table reading (legs_in t)) (record { prices = paid; mixed = Some mixed })
+      → (point_excess t keeps table basis reading (starts_in o.network) ≡ None) × IsLiftedPoint t keeps table basis (duals_by table reading (legs_in t)) (record { prices = paid; mixed = mixed })
   unfolding point_excess
   point_of paid facts mixed basic =
       let duals = duals_by table reading (legs_in t) in
@@ -73,10 +77,13 @@ module _ (t : Tables) (keeps : Domains) (table : List FracRow) (basis : List ℕ
         record {
           prices = lifted;
           weights = weights_are t keeps table basis reading point o.pairs is.pairs mixed basic;
-          known = weights_of_tables t keeps table basis reading point o.pairs is.pairs mixed basic;
-          weights_in_order = weights_in_order t keeps table basis reading point o.pairs is.pairs mixed basic;
-          plan = mixed_is t keeps table basis reading point o.pairs is.pairs mixed basic;
-          value = worth_is t keeps table basis reading point o.pairs is.pairs mixed basic fits before are.scale (are.by_lines point.last.lines.starts point.last.lines.lines.network) paid same_scale lifted.proper
-              (grows (no_leg_bare t keeps table basis reading point o.pairs is.pairs mixed basic) 1);
+          best = record {
+            good = lifted.good;
+            known = weights_of_tables t keeps table basis reading point o.pairs is.pairs mixed basic;
+            in_order = weights_in_order t keeps table basis reading point o.pairs is.pairs mixed basic;
+            mixed_at = mixed_is t keeps table basis reading point o.pairs is.pairs mixed basic;
+            value = worth_is t keeps table basis reading point o.pairs is.pairs mixed basic fits before are.scale (are.by_lines point.last.lines.starts point.last.lines.lines.network) paid same_scale lifted.good.proper
+                (grows (no_leg_bare t keeps table basis reading point o.pairs is.pairs mixed basic) 1);
+          };
         },
       )

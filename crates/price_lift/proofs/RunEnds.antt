@@ -1,4 +1,4 @@
--- What the prescribed run over a subproblem's lines ends with, and that no table of it is a ray.
+-- What the proved run over a subproblem's lines ends with, and that no table of it is a ray.
 use Rattle.std.proofs.Common.{◌≡◌, ℕ, ◌<◌, List, length, pos, ◌*ℤ◌, ◌≤ℤ◌, refl, ◌∙◌, ap, arith}
 use Rattle.std.proofs.lemmas.Int.{ints}
 use Rattle.std.specs.Prelude.{unwrap_or}

@@ -12,7 +12,7 @@ use Rattle.dual_lift.specs.Duals.{best_scale, best_value, phase_den, phase_value
 abbrev pub priced_lines : Tables → List FracRow → ℕ
 priced_lines t table = height_of table - legs_in t
 
--- at a cheapest point of the prescribed run, and where it found that no point meets the lines
+-- at a cheapest point of the proved run, and where it found that no point meets the lines
 unfoldable pub best_duals : Tables → List FracRow → FracRow
 best_duals t table = record {
   numbers = list_below (λ k. best_value table (legs_in t + k)) (priced_lines t table);

@@ -1,9 +1,9 @@
 -- What is lifted from an end that was checked, and what is first too large there.
-use Rattle.std.specs.Prelude.{◌≡◌, ℕ, int_lt, IsSomeAnd, None, List, length, drop, Option, ℤ, pos, ◌<ℤ◌}
+use Rattle.std.specs.Prelude.{◌≡◌, ℕ, int_lt, List, length, drop, Option, ℤ, pos}
 use Rattle.sums.specs.Places.{list_below, or_else}
 use Rattle.frac_row.specs.Row.{reduced}
 use Rattle.frac_row.specs.declared.row.FracRow.{FracRow}
-use Rattle.fleet_model.specs.Kept.{Domains, IsBare, pairs_kept}
+use Rattle.fleet_model.specs.Kept.{Domains, pairs_kept}
 use Rattle.fleet_model.specs.Schedule.{legs_in}
 use Rattle.fleet_model.specs.declared.tables.Tables.{Tables}
 use Rattle.end_check.specs.Ends.{part_in}
@@ -13,18 +13,14 @@ use Rattle.dual_lift.specs.TooLarge.{excess_if}
 use Rattle.dual_lift.specs.declared.error.Excess.{Excess}
 use Rattle.fleet_model.specs.declared.parts.Pair.{Pair}
 use Rattle.lp_rows.specs.Layout.{Starts, all_kept, concat_below}
-use Rattle.dual_bound.specs.Fractions.{IsMixedAt, IsWorth}
-use Rattle.dual_bound.specs.OfTables.{ArePricesOf, IsMixedOf}
-use Rattle.dual_bound.specs.Prices.{ArePrices, max_scale}
-use Rattle.dual_bound.specs.Worth.{worth_of}
-use Rattle.dual_bound.specs.WrittenOrder.{ArePricesInOrder, IsMixedInOrder}
+use Rattle.dual_bound.specs.Prices.{max_scale}
 use Rattle.dual_bound.specs.declared.mixed.Mixed.{Mixed}
-use Rattle.dual_bound.specs.declared.prices.Prices.{Prices}
+use Rattle.price_lift.specs.BestPoint.{IsBestPoint}
 use Rattle.price_lift.specs.Lifted.{AreLiftedPrices}
 use Rattle.price_lift.specs.PaidBack.{payback_excess_by}
 use Rattle.price_lift.specs.Parts.{weights_at}
 use Rattle.price_lift.specs.TooLarge.{prices_excess}
-use Rattle.price_lift.specs.declared.lift.Lifted.{Lifted}
+use Rattle.price_lift.specs.declared.best_point.BestPoint.{BestPoint}
 
 -- the values of the lines with a price, which come after the cover lines, over the scale of all
 abbrev pub priced_values : Tables → List ℤ → ℤ → FracRow
@@ -64,32 +60,8 @@ end_excess t keeps hint starts =
 unfoldable pub refusing_excess : Tables → Domains → RefusalHint → Starts → Option Excess
 refusing_excess t keeps hint starts = or_else (prices_excess (legs_in t) (refusing_duals t hint)) (payback_excess_by t keeps starts (refusing_duals t hint))
 
--- prices of the tables, proper and in written order
-pub record AreProperPrices (t : Tables) (prices : Prices) : Type 0 where
-  pub of_tables : ArePricesOf t prices
-  pub proper : ArePrices t prices
-  pub in_order : ArePricesInOrder t prices
-
--- at a cheapest point: such prices, and a fractional assignment of the kept pairs that costs what they are worth
-pub record IsLiftedEnd (t : Tables) (keeps : Domains) (lifted : Lifted) : Type 0 where
-  pub prices : AreProperPrices t lifted.prices
-  pub known : IsSomeAnd lifted.mixed (IsMixedOf t)
-  pub weights_in_order : IsSomeAnd lifted.mixed (IsMixedInOrder t)
-  pub plan : IsSomeAnd lifted.mixed (IsMixedAt t keeps)
-  pub value : IsSomeAnd lifted.mixed (IsWorth t keeps lifted.prices)
-
--- where no point meets the lines: prices whose worth without costs is above 0, where each leg keeps a pair
-pub record IsLiftedRefusingEnd (t : Tables) (keeps : Domains) (lifted : Lifted) : Type 0 where
-  pub prices : AreProperPrices t lifted.prices
-  pub no_plan : lifted.mixed ≡ None
-  pub refutes : ((l : ℕ) → ¬ (IsBare t keeps l)) → pos 0 <ℤ worth_of t keeps lifted.prices 0
-
--- what a lift of an end gives: its dual values in lowest terms, paid back, and the parts of its pairs
-pub record IsLiftOf (t : Tables) (keeps : Domains) (hint : PointHint) (lifted : Lifted) : Type 0 where
-  pub prices : AreLiftedPrices t keeps (end_duals t hint) lifted.prices
-  pub weights : IsSomeAnd lifted.mixed (IsMixedOfParts (pair_parts t keeps hint) (all_kept t keeps))
-  pub end : IsLiftedEnd t keeps lifted
-
-pub record IsLiftOfRefusing (t : Tables) (keeps : Domains) (hint : RefusalHint) (lifted : Lifted) : Type 0 where
-  pub prices : AreLiftedPrices t keeps (refusing_duals t hint) lifted.prices
-  pub end : IsLiftedRefusingEnd t keeps lifted
+-- what a lift of a point gives: its dual values in lowest terms, paid back, and the parts of its pairs
+pub record IsLiftOf (t : Tables) (keeps : Domains) (hint : PointHint) (point : BestPoint) : Type 0 where
+  pub prices : AreLiftedPrices t keeps (end_duals t hint) point.prices
+  pub weights : IsMixedOfParts (pair_parts t keeps hint) (all_kept t keeps) point.mixed
+  pub best : IsBestPoint t keeps point

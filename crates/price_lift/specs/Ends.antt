@@ -8,7 +8,7 @@ use Rattle.simplex_frac.specs.LastTables.{IsTurn}
 use Rattle.simplex_frac.specs.declared.turn.Turn.{Turn}
 use Rattle.lp_rows.specs.Points.{AreLinesOf}
 
--- after some pivots the prescribed run over the lines of the subproblem has this table and this basis, and does this there
+-- after some pivots the proved run over the lines of the subproblem has this table and this basis, and does this there
 pub record Ends (t : Tables) (keeps : Domains) (does : Turn) (table : List FracRow) (basis : List ℕ) : Type 0 where
   pub rows : Rows
   pub lines : AreLinesOf t keeps rows

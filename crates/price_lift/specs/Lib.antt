@@ -1,4 +1,5 @@
 pub mod ArcRises
+pub mod BestPoint
 pub mod Duals
 pub mod EndLifts
 pub mod Ends

@@ -1,10 +1,10 @@
 //! Prices and fractional assignments from ends that were checked.
-ghost use Rattle.std.specs.Prelude.{◌≡◌, ◌+◌, ◌<◌, ◌≤◌, ℕ, pos, int_lt, ◌<ℤ◌, drop, length, IfOk, IfErr, IsSomeAnd, None, Some, MatchResult, unsigned_abs};
+ghost use Rattle.std.specs.Prelude.{◌≡◌, ◌+◌, ◌<◌, ◌≤◌, ℕ, pos, int_lt, ◌<ℤ◌, drop, length, IfOk, IfErr, None, Some, MatchResult, unsigned_abs};
 ghost use Rattle.frac_row.specs.Outgrown.{IsWithin};
 ghost use Rattle.sums.specs.Divisors.{gcd};
 ghost use Rattle.sums.specs.Places.{or_else};
 ghost use Rattle.frac_row.specs.Row.{IsRow, common_divisor, reduced, width_of};
-ghost use Rattle.fleet_model.specs.Kept.{kept_by};
+ghost use Rattle.fleet_model.specs.Kept.{IsBare, kept_by};
 ghost use Rattle.fleet_model.specs.Schedule.{legs_in};
 ghost use Rattle.row_store.specs.declared.problem.Rows.{Rows};
 ghost use Rattle.end_check.specs.Ends.{IsPricedEnd, IsRefusedEnd, value_in};
@@ -13,14 +13,15 @@ ghost use Rattle.lp_rows.specs.Outline.{IsOutline, IsOutlineOver};
 ghost use Rattle.lp_rows.specs.Points.{AreLinesOf};
 ghost use Rattle.dual_bound.specs.Prices.{max_scale};
 ghost use Rattle.dual_lift.specs.TooLarge.{IsLiftError};
-ghost use Rattle.price_lift.specs.EndLifts.{IsLiftOf, IsLiftOfRefusing, IsLiftedEnd, IsLiftedRefusingEnd, IsMixedOfParts, end_duals, end_excess, first_parts, lowest_end_excess, pair_parts, parts_excess, priced_values, refusing_duals, refusing_excess};
-ghost use Rattle.price_lift.specs.Lifted.{AreLiftedPrices};
+ghost use Rattle.price_lift.specs.BestPoint.{AreRefuting, IsBestPoint};
+ghost use Rattle.price_lift.specs.EndLifts.{IsLiftOf, IsMixedOfParts, end_duals, end_excess, first_parts, lowest_end_excess, pair_parts, parts_excess, priced_values, refusing_duals, refusing_excess};
+ghost use Rattle.price_lift.specs.Lifted.{AreLiftedPrices, IsLiftedRefusal};
 ghost use Rattle.price_lift.specs.PaidBack.{FitsBy, IsLiftErrorBy};
 ghost use Rattle.price_lift.specs.Steps.{prices_by};
 ghost use Rattle.price_lift.specs.TooLarge.{prices_excess};
 ghost use Rattle.price_lift.specs.Wanted.{IsWantedBehind};
 
-use crate::lift::Lifted;
+use crate::best_point::BestPoint;
 use crate::lowest::fits;
 use crate::paying::paid_back;
 use crate::pricing::prices_of;
@@ -50,12 +51,12 @@ pub fn lift_end(
     tables: &Tables,
     kept: &Kept,
     outline: &Outline,
-) -> Result<Lifted, LiftError>
+) -> Result<BestPoint, LiftError>
     requires outline { IsOutline tables.now (kept_by kept.now) outline.now }
     requires ends { (rows : Rows) × AreLinesOf tables.now (kept_by kept.now) rows × IsPricedEnd rows hint.now }
-    ensures lifted { IfOk result (IsLiftedEnd tables.now (kept_by kept.now)) }
-    ensures prices { IfOk result (λ lifted. AreLiftedPrices tables.now (kept_by kept.now) (end_duals tables.now hint.now) lifted.prices) }
-    ensures weights { IfOk result (λ lifted. IsSomeAnd lifted.mixed (IsMixedOfParts (pair_parts tables.now (kept_by kept.now) hint.now) (all_kept tables.now (kept_by kept.now)))) }
+    ensures lifted { IfOk result (IsBestPoint tables.now (kept_by kept.now)) }
+    ensures prices { IfOk result (λ best. AreLiftedPrices tables.now (kept_by kept.now) (end_duals tables.now hint.now) best.prices) }
+    ensures weights { IfOk result (λ best. IsMixedOfParts (pair_parts tables.now (kept_by kept.now) hint.now) (all_kept tables.now (kept_by kept.now)) best.mixed) }
     ensures fits { IfOk result (λ _. FitsBy tables.now (kept_by kept.now) (end_excess tables.now (kept_by kept.now) hint.now)) }
     ensures too_large { IfErr result (IsLiftErrorBy tables.now (kept_by kept.now) (end_excess tables.now (kept_by kept.now) hint.now)) }
     ensures memory { IfErr result (IsWantedBehind (lowest_end_excess tables.now (kept_by kept.now) hint.now)) }
@@ -74,11 +75,11 @@ pub fn lift_refusing_end(
     tables: &Tables,
     kept: &Kept,
     outline: &Outline,
-) -> Result<Lifted, LiftError>
+) -> Result<Prices, LiftError>
     requires outline { IsOutline tables.now (kept_by kept.now) outline.now }
     requires ends { (rows : Rows) × AreLinesOf tables.now (kept_by kept.now) rows × IsRefusedEnd rows hint.now }
-    ensures lifted { IfOk result (IsLiftedRefusingEnd tables.now (kept_by kept.now)) }
-    ensures prices { IfOk result (λ lifted. AreLiftedPrices tables.now (kept_by kept.now) (refusing_duals tables.now hint.now) lifted.prices) }
+    ensures lifted { IfOk result (λ prices. ((l : ℕ) → ¬ (IsBare tables.now (kept_by kept.now) l)) → AreRefuting tables.now (kept_by kept.now) prices) }
+    ensures prices { IfOk result (AreLiftedPrices tables.now (kept_by kept.now) (refusing_duals tables.now hint.now)) }
     ensures fits { IfOk result (λ _. FitsBy tables.now (kept_by kept.now) (refusing_excess tables.now (kept_by kept.now) hint.now)) }
     ensures too_large { IfErr result (IsLiftErrorBy tables.now (kept_by kept.now) (refusing_excess tables.now (kept_by kept.now) hint.now)) }
     ensures memory { IfErr result (IsWantedBehind (prices_excess (legs_in tables.now) (refusing_duals tables.now hint.now))) }
@@ -93,11 +94,11 @@ fn lifted_end(
     tables: &Tables,
     kept: &Kept,
     outline: &Outline,
-) -> Result<Lifted, LiftError>
+) -> Result<BestPoint, LiftError>
     requires outline { IsOutline tables.now (kept_by kept.now) outline.now }
     requires ends { (rows : Rows) × AreLinesOf tables.now (kept_by kept.now) rows × IsPricedEnd rows hint.now }
     ensures lifted { MatchResult result
-        (λ lifted. (end_excess tables.now (kept_by kept.now) hint.now (starts_in outline.now.network) ≡ None) × IsLiftOf tables.now (kept_by kept.now) hint.now lifted)
+        (λ best. (end_excess tables.now (kept_by kept.now) hint.now (starts_in outline.now.network) ≡ None) × IsLiftOf tables.now (kept_by kept.now) hint.now best)
         (IsLiftError (end_excess tables.now (kept_by kept.now) hint.now (starts_in outline.now.network))) }
     ensures memory { IfErr result (IsWantedBehind (lowest_end_excess tables.now (kept_by kept.now) hint.now)) }
 {
@@ -111,10 +112,7 @@ fn lifted_end(
     )?;
     let mixed = end_mixed(alloc, hint, outline)?;
     let prices = paid_back(alloc, tables, outline, before)?;
-    Ok(Lifted {
-        prices,
-        mixed: Some(mixed),
-    })
+    Ok(BestPoint { prices, mixed })
 }
 
 // That prices and the scale of the weights are within their limits in lowest terms. Takes no memory.
@@ -140,20 +138,16 @@ fn lifted_refusing(
     tables: &Tables,
     kept: &Kept,
     outline: &Outline,
-) -> Result<Lifted, LiftError>
+) -> Result<Prices, LiftError>
     requires outline { IsOutline tables.now (kept_by kept.now) outline.now }
     requires ends { (rows : Rows) × AreLinesOf tables.now (kept_by kept.now) rows × IsRefusedEnd rows hint.now }
     ensures lifted { MatchResult result
-        (λ lifted. (refusing_excess tables.now (kept_by kept.now) hint.now (starts_in outline.now.network) ≡ None) × IsLiftOfRefusing tables.now (kept_by kept.now) hint.now lifted)
+        (λ prices. (refusing_excess tables.now (kept_by kept.now) hint.now (starts_in outline.now.network) ≡ None) × IsLiftedRefusal tables.now (kept_by kept.now) (refusing_duals tables.now hint.now) prices)
         (IsLiftError (refusing_excess tables.now (kept_by kept.now) hint.now (starts_in outline.now.network))) }
     ensures memory { IfErr result (IsWantedBehind (prices_excess (legs_in tables.now) (refusing_duals tables.now hint.now))) }
 {
     let before = end_prices(alloc, hint.multipliers.as_slice(), 1, tables, outline)?;
-    let prices = paid_back(alloc, tables, outline, before)?;
-    Ok(Lifted {
-        prices,
-        mixed: None,
-    })
+    paid_back(alloc, tables, outline, before)
 }
 
 // The prices by the nodes of values of the lines, over their scale. That they are within their limits is found before memory

@@ -2,6 +2,7 @@
 //! fractional assignment of the same value.
 #![tactic(auto)]
 
+pub mod best_point;
 pub mod end_lifts;
 pub mod laws;
 pub mod lift;
@@ -12,6 +13,7 @@ pub mod pricing;
 pub mod stepping;
 pub mod weighing;
 
+pub use best_point::BestPoint;
 pub use dual_lift::LiftError;
 pub use end_lifts::{lift_end, lift_refusing_end};
 pub use lift::{Lifted, lift_best, lift_refusal};

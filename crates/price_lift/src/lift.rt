@@ -13,6 +13,7 @@ ghost use Rattle.price_lift.specs.PaidBack.{ArePaidBack, FitsBy, IsLiftErrorBy};
 ghost use Rattle.price_lift.specs.TooLarge.{best_excess, refusal_excess};
 ghost use Rattle.price_lift.specs.Weights.{AreBasicWeights};
 
+use crate::best_point::BestPoint;
 use crate::lifting::{lift_best_with, lift_refusal_with};
 use dual_bound::{Mixed, Prices};
 use dual_lift::LiftError;
@@ -22,7 +23,7 @@ use row_store::RowStore;
 use std::alloc::Global;
 
 /// What the last table of a run says of its subproblem.
-#[derive(Debug, Drop)]
+#[derive(Drop)]
 pub struct Lifted {
     /// Proper prices.
     pub prices: Prices,
@@ -58,7 +59,11 @@ pub fn lift_best<R: RowStore>(
     ensures too_large { IfErr result (IsLiftErrorBy tables.now (kept_by kept.now) (best_excess tables.now (kept_by kept.now) (R.content table.now) basis.now)) }
 {
     let outline = Outline::new(alloc, tables, kept)?;
-    lift_best_with(alloc, table, basis, tables, kept, &outline)
+    let BestPoint { prices, mixed } = lift_best_with(alloc, table, basis, tables, kept, &outline)?;
+    Ok(Lifted {
+        prices,
+        mixed: Some(mixed),
+    })
 }
 
 /// Prices that show that nothing in a subproblem is legal, from the table and the basis with which the run over its
@@ -82,5 +87,9 @@ pub fn lift_refusal<R: RowStore>(
     ensures too_large { IfErr result (IsLiftErrorBy tables.now (kept_by kept.now) (refusal_excess tables.now (kept_by kept.now) (R.content table.now))) }
 {
     let outline = Outline::new(alloc, tables, kept)?;
-    lift_refusal_with(alloc, table, basis, tables, kept, &outline)
+    let prices = lift_refusal_with(alloc, table, basis, tables, kept, &outline)?;
+    Ok(Lifted {
+        prices,
+        mixed: None,
+    })
 }

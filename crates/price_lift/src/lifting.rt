@@ -15,7 +15,7 @@ ghost use Rattle.price_lift.specs.PaidBack.{FitsBy, IsLiftErrorBy};
 ghost use Rattle.price_lift.specs.TooLarge.{best_duals_excess, best_excess, first_priced, refusal_excess};
 ghost use Rattle.price_lift.specs.Wanted.{IsWantedBehind};
 
-use crate::lift::Lifted;
+use crate::best_point::BestPoint;
 use crate::paying::paid_back;
 use crate::pricing::prices_of;
 use crate::weighing::basic_mixed;
@@ -34,7 +34,7 @@ pub fn lift_best_with<R: RowStore>(
     tables: &Tables,
     kept: &Kept,
     outline: &Outline,
-) -> Result<Lifted, LiftError>
+) -> Result<BestPoint, LiftError>
     requires outline { IsOutline tables.now (kept_by kept.now) outline.now }
     requires ends { Ends tables.now (kept_by kept.now) turns.Best (R.content table.now) basis.now }
     ensures lifted { IfOk result (IsLiftedPoint tables.now (kept_by kept.now) (R.content table.now) basis.now (best_duals tables.now (R.content table.now))) }
@@ -55,7 +55,7 @@ pub fn lift_refusal_with<R: RowStore>(
     tables: &Tables,
     kept: &Kept,
     outline: &Outline,
-) -> Result<Lifted, LiftError>
+) -> Result<Prices, LiftError>
     requires outline { IsOutline tables.now (kept_by kept.now) outline.now }
     requires ends { Ends tables.now (kept_by kept.now) turns.NoPoint (R.content table.now) basis.now }
     ensures lifted { IfOk result (IsLiftedRefusal tables.now (kept_by kept.now) (refusal_duals tables.now (R.content table.now))) }
@@ -75,22 +75,19 @@ fn lift_point<R: RowStore>(
     tables: &Tables,
     kept: &Kept,
     outline: &Outline,
-) -> Result<Lifted, LiftError>
+) -> Result<BestPoint, LiftError>
     requires outline { IsOutline tables.now (kept_by kept.now) outline.now }
     requires ends { IsPointBy tables.now (kept_by kept.now) (R.content table.now) basis.now reading.now }
     ensures lifted { MatchResult result
-        (λ lifted. (point_excess tables.now (kept_by kept.now) (R.content table.now) basis.now reading.now (starts_in outline.now.network) ≡ None)
-        × IsLiftedPoint tables.now (kept_by kept.now) (R.content table.now) basis.now (duals_by (R.content table.now) reading.now (legs_in tables.now)) lifted)
+        (λ best. (point_excess tables.now (kept_by kept.now) (R.content table.now) basis.now reading.now (starts_in outline.now.network) ≡ None)
+        × IsLiftedPoint tables.now (kept_by kept.now) (R.content table.now) basis.now (duals_by (R.content table.now) reading.now (legs_in tables.now)) best)
         (IsLiftError (point_excess tables.now (kept_by kept.now) (R.content table.now) basis.now reading.now (starts_in outline.now.network))) }
     ensures memory { IfErr result (IsWantedBehind (duals_excess (R.content table.now) reading.now (legs_in tables.now))) }
 {
     let before = lift_prices(alloc, table, reading, tables, kept, outline)?;
     let mixed = basic_mixed(alloc, table, basis, outline)?;
     let prices = paid_back(alloc, tables, outline, before)?;
-    Ok(Lifted {
-        prices,
-        mixed: Some(mixed),
-    })
+    Ok(BestPoint { prices, mixed })
 }
 
 // Prices alone, where no point meets the lines.
@@ -101,21 +98,17 @@ fn lift_none<R: RowStore>(
     tables: &Tables,
     kept: &Kept,
     outline: &Outline,
-) -> Result<Lifted, LiftError>
+) -> Result<Prices, LiftError>
     requires outline { IsOutline tables.now (kept_by kept.now) outline.now }
     requires ends { (basis : List ℕ) × IsRefusalBy tables.now (kept_by kept.now) (R.content table.now) basis reading.now }
     ensures lifted { MatchResult result
-        (λ lifted. (none_excess tables.now (kept_by kept.now) (R.content table.now) reading.now (starts_in outline.now.network) ≡ None)
-        × IsLiftedRefusal tables.now (kept_by kept.now) (duals_by (R.content table.now) reading.now (legs_in tables.now)) lifted)
+        (λ prices. (none_excess tables.now (kept_by kept.now) (R.content table.now) reading.now (starts_in outline.now.network) ≡ None)
+        × IsLiftedRefusal tables.now (kept_by kept.now) (duals_by (R.content table.now) reading.now (legs_in tables.now)) prices)
         (IsLiftError (none_excess tables.now (kept_by kept.now) (R.content table.now) reading.now (starts_in outline.now.network))) }
     ensures memory { IfErr result (IsWantedBehind (duals_excess (R.content table.now) reading.now (legs_in tables.now))) }
 {
     let before = lift_prices(alloc, table, reading, tables, kept, outline)?;
-    let prices = paid_back(alloc, tables, outline, before)?;
-    Ok(Lifted {
-        prices,
-        mixed: None,
-    })
+    paid_back(alloc, tables, outline, before)
 }
 
 // The prices by the nodes of the dual values that are read so.

@@ -15,7 +15,7 @@ use fleet_model::{
 use std::alloc::Global;
 
 /// Tables in which each leg has one time, and a plan on them.
-#[derive(Debug, Drop)]
+#[derive(Drop)]
 pub struct Settled {
     pub tables: Tables,
     pub plan: Assignment,

@@ -7,7 +7,7 @@ pub const MAX_WINDOWS_OF_LEG: usize = MAX_SHIFTS - 1;
 pub const MAX_WINDOWS: usize = MAX_LEGS * MAX_WINDOWS_OF_LEG;
 
 /// A further time at which a leg may depart.
-#[derive(Clone, Copy, Debug, PartialEq, Eq)]
+#[derive(Clone, Copy)]
 pub struct Window {
     /// The leg, by its number.
     pub leg: u32,

@@ -1,7 +1,7 @@
 -- On a date fly the legs of its day of the period, each once.
 use Rattle.std.proofs.Common.{◌≡◌, ℕ, zero, suc, ◌+◌, ◌-◌, ◌*◌, ◌/◌, ◌%◌, ◌<◌, ◌≤◌, ◌==◌, Bool, true, false, if◌then◌else◌, IsPermutation, List, [], ◌∷◌, ◌++◌, length, slice_index, get_or, refl, sym, ◌∙◌, ap, subst, subst₂, inl, inr, arith, mod-eq_of_lt}
 use Rattle.std.specs.List.{concat, filter}
-use Rattle.std.proofs.Math.Nat.{mod-lt, mul-le-mul_left}
+use Rattle.std.proofs.Math.Nat.{mod-lt, mul-le-mul_left, mul_comm}
 use Rattle.std.proofs.lemmas.Bool.{cases_Bool, cases_lt, eqb-true}
 use Rattle.std.proofs.lemmas.List.Elements.{filter-append}
 use Rattle.std.proofs.lemmas.Nat.{div-add-mod', mod-mul-add}
@@ -93,10 +93,7 @@ filter-joined q g (suc n) =
 in_blocks : (block blocks size place : ℕ) → block < blocks → place < size → block * size + place < blocks * size
 in_blocks block blocks size place less within =
     let room : size * suc block ≤ size * blocks = mul-le-mul_left size less in
-    omega (arith, room, within, turned block size, turned (suc block) size, turned blocks size, one_block_more block size)
-  where
-    turned : (m n : ℕ) → m * n ≡ n * m
-    turned m n = grind arith
+    omega (arith, room, within, mul_comm block size, mul_comm (suc block) size, mul_comm blocks size, one_block_more block size)
 
 -- so many blocks further, going round
 turned_block : (blocks size place x : ℕ) → place < size → 0 < blocks → (x * size + place) % (blocks * size) ≡ (x % blocks) * size + place

@@ -5,20 +5,15 @@ use Rattle.fleet_model.specs.declared.tables.Tables.{Tables}
 use Rattle.rotation_report.specs.TailLaws.{EachDateIsItsOwn}
 use Rattle.rotation_report.specs.Tails.{day_lines, days_lines}
 use Rattle.rotation_report.specs.declared.flying.FleetLines.{FleetLines}
+use Rattle.sums.proofs.Naturals.{plus_0, plus_suc}
 use Rattle.sums.proofs.Places.{get_or-list_below}
 use Rattle.sums.specs.Places.{list_below}
 
 -- so many days after a day that is so many days later
 later_day : (first : Day) (past n : ℕ) → day_after (day_after first past) n ≡ day_after first (past + n)
 unfolding day_after
-later_day first past zero = ap (day_after first) (none past)
-  where
-    none : (m : ℕ) → m ≡ m + 0
-    none m = omega arith
-later_day first past (suc n) = ap next_day (later_day first past n) ∙ ap (day_after first) (next past n)
-  where
-    next : (m n : ℕ) → suc (m + n) ≡ m + suc n
-    next m n = omega arith
+later_day first past zero = ap (day_after first) (sym (plus_0 past))
+later_day first past (suc n) = ap next_day (later_day first past n) ∙ ap (day_after first) (sym (plus_suc past n))
 
 module _ (t : Tables) (flown : FleetLines) where
   -- the lines of the first days of many, by their number
@@ -36,20 +31,14 @@ module _ (t : Tables) (flown : FleetLines) where
   parted : (days after : ℕ → Day) (past some : ℕ) → ((k : ℕ) → days (some + k) ≡ after k) → (others : ℕ)
       → by_number days past (some + others) ≡ by_number days past some ++ by_number after (past + some) others
   unfolding by_number
-  parted days after past some same zero = ap (by_number days past) (none some) ∙ sym (append-nil (by_number days past some))
-    where
-      none : (m : ℕ) → m + 0 ≡ m
-      none m = omega arith
+  parted days after past some same zero = ap (by_number days past) (plus_0 some) ∙ sym (append-nil (by_number days past some))
   parted days after past some same (suc n) =
-      ap (by_number days past) (next some n)
+      ap (by_number days past) (plus_suc some n)
       ∙ ap (λ text. text ++ day_lines t flown (days (some + n)) (past + (some + n)) flown.used) (parted days after past some same n)
       ∙ append_assoc (by_number days past some) (by_number after (past + some) n) (day_lines t flown (days (some + n)) (past + (some + n)) flown.used)
       ∙ ap (λ day. by_number days past some ++ (by_number after (past + some) n ++ day_lines t flown day (past + (some + n)) flown.used)) (same n)
       ∙ ap (λ m. by_number days past some ++ (by_number after (past + some) n ++ day_lines t flown (after n) m flown.used)) (moved past some n)
     where
-      next : (m n : ℕ) → m + suc n ≡ suc (m + n)
-      next m n = omega arith
-
       moved : (p m n : ℕ) → p + (m + n) ≡ p + m + n
       moved p m n = omega arith
 

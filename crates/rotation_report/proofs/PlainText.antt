@@ -1,5 +1,5 @@
 -- No field of a record calls for quotes, so its line is what `csv` writes.
-use Rattle.std.proofs.Common.{◌≡◌, ℕ, zero, suc, ◌/◌, ◌%◌, ◌<◌, ◌≤◌, ◌==◌, Bool, true, false, List, [], ◌∷◌, ◌++◌, length, map, replicate, slice_index, slice_index_or, codes, Option, Some, None, refl, sym, ap, ◌∙◌, inl, inr, IfSome, arith}
+use Rattle.std.proofs.Common.{◌≡◌, ℕ, zero, suc, ◌/◌, ◌%◌, ◌<◌, ◌≤◌, ◌==◌, Bool, true, false, if◌then◌else◌, List, [], ◌∷◌, ◌++◌, length, map, replicate, slice_index, slice_index_or, codes, Option, Some, None, refl, sym, ap, ◌∙◌, inl, inr, IfSome, arith}
 use Rattle.std.specs.Char.{IsAsciiUppercase}
 use Rattle.std.specs.Fmt.{decimal, digit_glyph, digits, digits_onto}
 use Rattle.std.specs.List.{flat_map, list_any}
@@ -16,14 +16,14 @@ use Rattle.fleet_model.specs.declared.parts.Connection.{Connection}
 use Rattle.fleet_model.specs.declared.tables.Tables.{Tables}
 use Rattle.fleet_model.specs.Schedule.{fleet_of, fleets_in, leg_of, legs_in, no_fleet, no_leg, no_station, station_of, stations_in}
 use Rattle.ground_turns.specs.Maps.{turn_after}
-use Rattle.ground_turns.specs.Nights.{nights_in_turn}
+use Rattle.ground_turns.specs.Nights.{is_short, night_of_stay, nights_in_turn}
 use Rattle.ground_turns.specs.Turns.{station_at}
 use Rattle.ground_turns.specs.declared.nights.Night.{Night}
 use Rattle.ground_turns.specs.declared.nights.Night.TheVariants as night
 use Rattle.lines_of_flying.specs.Lines.{AreLegs}
 use Rattle.plan_text.proofs.NameText.{name_is_plain}
 use Rattle.plan_text.specs.CsvText.{csv_text}
-use Rattle.rotation_report.specs.RotationRecords.{Fields, Row, fleet_records, fleets_records, flight_of, leg_row, line_of_record, listed_row, night_row, pair_row, rotation_header, rotation_records, rotation_rows, rotation_text, round_records, second_round, tour_rows, yes_no}
+use Rattle.rotation_report.specs.RotationRecords.{Fields, Row, fleet_records, fleets_records, flight_of, leg_row, line_of_record, listed_row, night_row, pair_row, rotation_header, rotation_records, rotation_rows, rotation_text, round_records, second_round, short_no, tour_rows, yes_no}
 use Rattle.euler_rotation.specs.FleetRotations.{AreConnections, AreRotations, IsFleetRotation, IsOfLegs, rotation_of}
 use Rattle.euler_rotation.specs.declared.fleet_rotation.FleetRotation.{FleetRotation}
 use Rattle.plan_text.proofs.CsvWriting.{csv_text-append}
@@ -57,6 +57,10 @@ code_plain code form = list_any_none (needs_byte default_writer) code (λ k d wi
 yes_no_plain : (maintained : Bool) → needs (yes_no maintained) ≡ false
 yes_no_plain true = refl
 yes_no_plain false = refl
+
+short_no_plain : (maintained : Bool) → needs (short_no maintained) ≡ false
+short_no_plain true = refl
+short_no_plain false = refl
 
 -- rows whose fields are plain
 record IsPlain (row : Row) : Type 0 where
@@ -98,18 +102,23 @@ module _ (t : Tables) where
   same_plain zero x plain = tt
   same_plain (suc n) x plain = (plain, same_plain n x plain)
 
-  station_plain : (s : ℕ) → s < stations_in t → IsPlain (night_row t (night.At s))
-  station_plain s within = record {
+  station_plain : (s : ℕ) → s < stations_in t → (short : Bool) → IsPlain (night_row t (if short then night.Short s else night.At s))
+  station_plain s within true = record {
+    kind = refl;
+    a = code_plain (station_of t s).code (t.in_range.stations_fit.each s no_station within).code;
+    b = short_no_plain (station_of t s).maintenance;
+  }
+  station_plain s within false = record {
     kind = refl;
     a = code_plain (station_of t s).code (t.in_range.stations_fit.each s no_station within).code;
     b = yes_no_plain (station_of t s).maintenance;
   }
 
-  nights_plain : (n m s : ℕ) → s < stations_in t → ArePlain (map (night_row t) (replicate n night.Aloft ++ replicate m (night.At s)))
-  nights_plain n m s within =
-      rw (map-append (night_row t) (replicate n night.Aloft) (replicate m (night.At s)))
-      (plain-append (map (night_row t) (replicate n night.Aloft)) (map (night_row t) (replicate m (night.At s)))
-      (same_plain n night.Aloft (record { kind = refl; a = refl; b = refl })) (same_plain m (night.At s) (station_plain s within)))
+  nights_plain : (n m : ℕ) (x : Night) → IsPlain (night_row t x) → ArePlain (map (night_row t) (replicate n night.Aloft ++ replicate m x))
+  nights_plain n m x plain =
+      rw (map-append (night_row t) (replicate n night.Aloft) (replicate m x))
+      (plain-append (map (night_row t) (replicate n night.Aloft)) (map (night_row t) (replicate m x))
+      (same_plain n night.Aloft (record { kind = refl; a = refl; b = refl })) (same_plain m x plain))
 
   tour_plain : (f : ℕ) (tour : List ℕ) → AreLegs t tour → (n : ℕ) → n ≤ length tour → ArePlain (tour_rows t f tour n)
   tour_plain f tour known zero within = tt
@@ -118,7 +127,8 @@ module _ (t : Tables) where
       plain-append (tour_rows t f tour n) (leg_row t f tour n ∷ map (night_row t) (nights_in_turn t f (turn_after tour n)))
       (tour_plain f tour known n (omega arith)) (
         record { kind = refl; a = flight_plain (slice_index tour n) leg; b = number_plain _ },
-        nights_plain _ _ (station_at t (turn_after tour n)) (t.in_range.legs_fit.each (slice_index tour n) no_leg leg).to,
+        nights_plain _ _ (night_of_stay t f (turn_after tour n))
+            (station_plain (station_at t (turn_after tour n)) (t.in_range.legs_fit.each (slice_index tour n) no_leg leg).to (is_short t f (turn_after tour n))),
       )
 
   rotation_plain : (f visits : ℕ) (r : Rotation) → IsOfLegs t r → ArePlain (rotation_rows t f visits r)

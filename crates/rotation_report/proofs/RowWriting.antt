@@ -1,18 +1,19 @@
 -- Rows of rounds written one after the other.
-use Rattle.std.proofs.Common.{◌≡◌, ℕ, zero, suc, ◌+◌, ◌<◌, List, [], ◌∷◌, ◌++◌, length, map, replicate, take, get_or, refl, sym, ap, subst, ◌∙◌, add-one, append_assoc, codes, slice_index}
+use Rattle.std.proofs.Common.{◌≡◌, ℕ, zero, suc, ◌+◌, ◌<◌, Bool, true, false, if◌then◌else◌, List, [], ◌∷◌, ◌++◌, length, map, replicate, take, get_or, refl, sym, ap, subst, ◌∙◌, add-one, append_assoc, codes, slice_index}
 use Rattle.std.specs.Fmt.{decimal, digits}
 use Rattle.std.proofs.lemmas.List.{map-append, map_push, take_more}
+use Rattle.fleet_model.specs.declared.parts.Connection.{Connection}
 use Rattle.fleet_model.specs.declared.tables.Tables.{Tables}
 use Rattle.fleet_model.specs.Schedule.{leg_on, station_of}
 use Rattle.fleet_model.specs.Times.{nights_of}
 use Rattle.ground_turns.specs.Maps.{turn_after}
-use Rattle.ground_turns.specs.Nights.{nights_in_turn}
+use Rattle.ground_turns.specs.Nights.{is_short, night_of_stay, nights_in_turn}
 use Rattle.ground_turns.specs.Turns.{nights_waited, station_at}
 use Rattle.ground_turns.specs.declared.nights.Night.{Night}
 use Rattle.ground_turns.specs.declared.nights.Night.TheVariants as night
 use Rattle.plan_text.proofs.CsvWriting.{text_more, written_more}
 use Rattle.plan_text.specs.CsvText.{HasWritten, TextWriter, csv_text, text_in}
-use Rattle.rotation_report.specs.RotationRecords.{Row, begun_tour_rows, fleet_records, fleets_records, leg_row, night_row, rotation_header, round_records, row_record, yes_no}
+use Rattle.rotation_report.specs.RotationRecords.{Row, begun_tour_rows, fleet_records, fleets_records, leg_row, night_row, rotation_header, round_records, row_record, short_no, yes_no}
 use Rattle.euler_rotation.specs.FleetRotations.{rotation_of}
 use Rattle.euler_rotation.specs.declared.fleet_rotation.FleetRotation.{FleetRotation}
 
@@ -40,11 +41,11 @@ row_more row entries name number a b c i d within front rest =
     (rows_more name number a b c (map row (take i entries)) (row (get_or entries i d) ∷ []) front rest)
 
 -- the nights of a turn, the same ones together
-pub night_rows : (t : Tables) (n m s : ℕ) → map (night_row t) (replicate n night.Aloft ++ replicate m (night.At s)) ≡ replicate n (night_row t night.Aloft) ++ replicate m (night_row t (night.At s))
-night_rows t n m s =
-    map-append (night_row t) (replicate n night.Aloft) (replicate m (night.At s))
-    ∙ ap (λ rows. rows ++ map (night_row t) (replicate m (night.At s))) (map-replicate n night.Aloft)
-    ∙ ap (λ rows. replicate n (night_row t night.Aloft) ++ rows) (map-replicate m (night.At s))
+pub night_rows : (t : Tables) (n m : ℕ) (x : Night) → map (night_row t) (replicate n night.Aloft ++ replicate m x) ≡ replicate n (night_row t night.Aloft) ++ replicate m (night_row t x)
+night_rows t n m x =
+    map-append (night_row t) (replicate n night.Aloft) (replicate m x)
+    ∙ ap (λ rows. rows ++ map (night_row t) (replicate m x)) (map-replicate n night.Aloft)
+    ∙ ap (λ rows. replicate n (night_row t night.Aloft) ++ rows) (map-replicate m x)
   where
     map-replicate : (k : ℕ) (x : Night) → map (night_row t) (replicate k x) ≡ replicate k (night_row t x)
     map-replicate zero x = refl
@@ -73,18 +74,36 @@ fleet_more t visits rotations n b c front rest =
     text_more b c (rotation_header ∷ fleets_records t visits rotations n) (fleet_records t visits (rotation_of rotations n) n) front rest
     ∙ ap (λ k. csv_text (rotation_header ∷ fleets_records t visits rotations k)) (sym (add-one n))
 
--- the nights after a leg of a tour, by their numbers and the fields of the station
-pub nights_written : (t : Tables) (f : ℕ) (tour : List ℕ) (place : ℕ) (name number : List ℕ) (a b c : TextWriter) (n m : ℕ) (code maintained : List ℕ)
+-- the row of a night of a wait
+abbrev stay_word : Tables → ℕ → Connection → List ℕ
+stay_word t f turn = if is_short t f turn then short_no (station_of t (station_at t turn)).maintenance else yes_no (station_of t (station_at t turn)).maintenance
+
+stay_row : (t : Tables) (f : ℕ) (turn : Connection) → record { kind = codes "night"; a = (station_of t (station_at t turn)).code; b = stay_word t f turn } ≡ night_row t (night_of_stay t f turn)
+stay_row t f turn = by_stay (is_short t f turn)
+  where
+    by_stay : (b : Bool) → ◌≡◌ {A = Row} (record {
+      kind = codes "night";
+      a = (station_of t (station_at t turn)).code;
+      b = if b then short_no (station_of t (station_at t turn)).maintenance else yes_no (station_of t (station_at t turn)).maintenance;
+    }) (night_row t (if b then night.Short (station_at t turn) else night.At (station_at t turn)))
+    by_stay true = refl
+    by_stay false = refl
+
+-- the nights after a leg of a tour, by their numbers, the station's code and what is told of its maintenance
+pub nights_written : (t : Tables) (f : ℕ) (tour : List ℕ) (place : ℕ) (name number : List ℕ) (a b c : TextWriter) (n m : ℕ) (code word : List ℕ)
     → HasWritten a b (round_records name number (replicate n (record { kind = codes "night"; a = codes "-"; b = codes "aloft" })))
-    → HasWritten b c (round_records name number (replicate m (record { kind = codes "night"; a = code; b = maintained })))
+    → HasWritten b c (round_records name number (replicate m (record { kind = codes "night"; a = code; b = word })))
     → n ≡ nights_of t (leg_on (slice_index tour place) f) → m ≡ nights_waited t f (turn_after tour place)
     → code ≡ (station_of t (station_at t (turn_after tour place))).code
-    → maintained ≡ yes_no (station_of t (station_at t (turn_after tour place))).maintenance
+    → word ≡ stay_word t f (turn_after tour place)
     → HasWritten a c (round_records name number (map (night_row t) (nights_in_turn t f (turn_after tour place))))
-nights_written t f tour place name number a b c n m code maintained aloft waited is_n is_m is_code is_maintained =
+nights_written t f tour place name number a b c n m code word aloft waited is_n is_m is_code is_word =
     let up : Row = record { kind = codes "night"; a = codes "-"; b = codes "aloft" } in
-    let down : Row = record { kind = codes "night"; a = code; b = maintained } in
+    let down : Row = record { kind = codes "night"; a = code; b = word } in
+    let below : down ≡ night_row t (night_of_stay t f (turn_after tour place)) = rw (is_code, is_word) (stay_row t f (turn_after tour place)) in
     let all : replicate n up ++ replicate m down ≡ map (night_row t) (nights_in_turn t f (turn_after tour place)) =
-    rw (is_n, is_m, is_code, is_maintained) (sym (night_rows t (nights_of t (leg_on (slice_index tour place) f)) (nights_waited t f (turn_after tour place)) (station_at t (turn_after tour place)))) in
+    ap (λ row. replicate n up ++ replicate m row) below ∙ ap (λ k. replicate k up ++ replicate m (night_row t (night_of_stay t f (turn_after tour place)))) is_n
+    ∙ ap (λ k. replicate (nights_of t (leg_on (slice_index tour place) f)) up ++ replicate k (night_row t (night_of_stay t f (turn_after tour place)))) is_m
+    ∙ sym (night_rows t (nights_of t (leg_on (slice_index tour place) f)) (nights_waited t f (turn_after tour place)) (night_of_stay t f (turn_after tour place))) in
     subst (λ rows. HasWritten a c (round_records name number rows)) all
     (rows_more name number a b c (replicate n up) (replicate m down) aloft waited)

@@ -56,10 +56,16 @@ abbrev pub yes_no : Bool → List ℕ
 yes_no true = codes "yes"
 yes_no false = codes "no"
 
+-- where a station maintains, a night there is `yes`, or `short`
+abbrev pub short_no : Bool → List ℕ
+short_no true = codes "short"
+short_no false = codes "no"
+
 -- a night: in a flight or its turn, or at a station that may maintain
 abbrev pub night_row : Tables → Night → Row
 night_row t night.Aloft = record { kind = codes "night"; a = codes "-"; b = codes "aloft" }
 night_row t (night.At s) = record { kind = codes "night"; a = (station_of t s).code; b = yes_no (station_of t s).maintenance }
+night_row t (night.Short s) = record { kind = codes "night"; a = (station_of t s).code; b = short_no (station_of t s).maintenance }
 
 -- the first legs of a tour, each with its nights
 abbrev pub tour_rows : Tables → ℕ → List ℕ → ℕ → List Row

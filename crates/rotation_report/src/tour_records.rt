@@ -1,5 +1,5 @@
 //! The records of a tour: its legs, and the nights after each.
-ghost use Rattle.std.specs.Prelude.{◌≡◌, ◌<◌, ◌≤◌, [], ◌∷◌, OnOk, codes, length, map, replicate};
+ghost use Rattle.std.specs.Prelude.{◌≡◌, ◌<◌, ◌≤◌, [], ◌∷◌, OnOk, codes, if◌then◌else◌, length, map, replicate};
 ghost use Rattle.fleet_model.specs.Schedule.{fleets_in, leg_on, legs_in};
 ghost use Rattle.fleet_model.specs.Times.{nights_of};
 ghost use Rattle.ground_turns.specs.Maps.{turn_after};
@@ -7,15 +7,15 @@ ghost use Rattle.ground_turns.specs.Nights.{nights_in_turn};
 ghost use Rattle.lines_of_flying.specs.Lines.{days_of_tour};
 ghost use Rattle.plan_text.specs.CsvText.{IsBetweenRecords};
 ghost use Rattle.rotation_report.specs.RoundRows.{HasRows};
-ghost use Rattle.rotation_report.specs.RotationRecords.{begun_tour_rows, leg_row, night_row, yes_no};
+ghost use Rattle.rotation_report.specs.RotationRecords.{begun_tour_rows, leg_row, night_row, short_no, yes_no};
 ghost use Rattle.euler_rotation.specs.FleetRotations.{AreListed};
 
 use crate::record_writer::{Round, put_numbers, put_row};
 use csv::Writer;
 use entries::NoMemory;
 use fleet_model::Tables;
-use ground_turns::flight;
-use lines_of_flying::nights_after;
+use ground_turns::{flight, is_short};
+use lines_of_flying::{nights_after, turn_after};
 use std::alloc::Global;
 
 /// Writes a tour.
@@ -95,13 +95,9 @@ fn put_nights(
     let waited = nights_after(tables, fleet, tour, place) - aloft;
     let station = tables.station(tables.leg(leg).to);
     put_same(writer, round, aloft, b"-", b"aloft")?;
-    put_same(
-        writer,
-        round,
-        waited,
-        station.code.as_slice(),
-        yes_no(station.maintenance),
-    )
+    let short = is_short(tables, fleet, turn_after(tour, place));
+    let word = night_word(station.maintenance, short);
+    put_same(writer, round, waited, station.code.as_slice(), word)
 }
 
 /// The nights in the flight and the turn of a leg.
@@ -114,11 +110,17 @@ fn nights_aloft(tables: &Tables, fleet: u32, leg: u32) -> u32
     tables.nights(flight(tables, leg, fleet))
 }
 
-/// `yes` or `no`.
-fn yes_no(maintained: bool) -> &'static [u8]
-    ensures { result.now ≡ yes_no maintained }
+/// What a night at a station is told as, by whether the station maintains, and whether the stay is too short for it.
+fn night_word(maintenance: bool, short: bool) -> &'static [u8]
+    ensures { result.now ≡ (if short then short_no maintenance else yes_no maintenance) }
 {
-    if maintained { b"yes" } else { b"no" }
+    if !maintenance {
+        b"no"
+    } else if short {
+        b"short"
+    } else {
+        b"yes"
+    }
 }
 
 /// Writes one night so many times.

@@ -5,7 +5,7 @@ ghost use Rattle.row_store.specs.Changes.{row_after};
 use frac_row::SparseRow;
 
 /// A row that is to take the place of another.
-#[derive(Debug, Drop)]
+#[derive(Drop)]
 pub struct Change {
     pub row: u32,
     pub fresh: SparseRow,

@@ -11,7 +11,7 @@ use frac_row::FracRow;
 use std::alloc::Global;
 
 /// A table with all numbers of each row, one row after another.
-#[derive(Debug, Drop)]
+#[derive(Drop)]
 pub struct Dense {
     rows: Vec<FracRow>,
     alloc: Global,

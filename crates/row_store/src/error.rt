@@ -4,7 +4,7 @@ use frac_row::Growth;
 use thiserror::Error;
 
 /// A place of a table. The denominator stands in the column after the right side.
-#[derive(Clone, Copy, Debug, PartialEq, Eq)]
+#[derive(Clone, Copy)]
 pub struct Place {
     pub row: u32,
     pub column: u32,
@@ -19,7 +19,7 @@ pub fn place_in(row: u32, growth: Option<Growth>) -> Option<Place>
 }
 
 /// Why a pivot was refused.
-#[derive(Clone, Copy, Debug, PartialEq, Eq, Error)]
+#[derive(Clone, Copy, Debug, Error)]
 pub enum PivotError {
     /// A product or difference is outgrown, first at this place.
     #[error("outgrown at row {row}, column {column}")]

@@ -3,7 +3,7 @@ use frac_row::Line;
 
 /// Lines with their costs: find numbers of at least 0, one for each real column, that meet all lines at
 /// least cost.
-#[derive(Debug, Drop)]
+#[derive(Drop)]
 pub struct Rows {
     /// How many real columns there are.
     pub columns: u32,

@@ -12,7 +12,7 @@ use frac_row::SparseRow;
 use std::alloc::Global;
 
 /// A table that holds of each row the numbers that are not 0.
-#[derive(Debug, Drop)]
+#[derive(Drop)]
 pub struct Sparse {
     pub(crate) rows: Vec<SparseRow>,
     pub(crate) alloc: Global,

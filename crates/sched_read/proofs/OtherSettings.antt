@@ -44,7 +44,7 @@ with_settings t settings fit as_long = record {
 module _ (a b : Settings) (same : a.day_start ≡ b.day_start) (as_long : a.period ≡ b.period) where
   -- what reading legs looks at
   abbrev plain : ℕ → ℕ → Settings
-  plain day_start period = record { day_start = day_start; through_max = 0; period = period }
+  plain day_start period = record a { day_start = day_start; period = period }
 
   legs_read : (stations : List (List ℕ)) (records : List Fields) (legs : List Leg) → LegsRead stations a records legs → LegsRead stations b records legs
   unfolding leg_read

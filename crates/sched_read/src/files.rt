@@ -10,7 +10,7 @@ use retime_windows::add_windows;
 use std::alloc::Global;
 
 /// The bytes of the files of tables. Those that aren't asked for are not looked at.
-#[derive(Debug, Drop)]
+#[derive(Drop)]
 pub struct FileTexts<'a> {
     pub stations: &'a [u8],
     pub fleets: &'a [u8],

@@ -4,7 +4,7 @@ ghost use Rattle.simplex_frac.specs.Ends.{outcome_of};
 use entries::Entries;
 
 /// How a run ended.
-#[derive(Debug, Drop)]
+#[derive(Drop)]
 pub enum Outcome {
     /// The last table's basic point is a cheapest one; its basic columns, line by line.
     Best { basis: Entries<u32>, made: u64 },
@@ -19,7 +19,7 @@ pub enum Outcome {
 }
 
 /// How a run without a budget ended. Pivots are counted up to 2^64 - 1.
-#[derive(Debug, Drop)]
+#[derive(Drop)]
 pub enum End {
     /// The last table's basic point is a cheapest one; its basic columns, line by line.
     Best { basis: Entries<u32>, made: u64 },

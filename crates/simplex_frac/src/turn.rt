@@ -6,7 +6,7 @@ ghost use Rattle.simplex_frac.specs.Run.{turn};
 use row_store::RowStore;
 
 /// What the run does at a table.
-#[derive(Clone, Copy, Debug, PartialEq, Eq)]
+#[derive(Clone, Copy)]
 pub enum Turn {
     /// No column improves, and the lines are met.
     Best,

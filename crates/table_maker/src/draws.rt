@@ -5,7 +5,7 @@ use std::marker::Model;
 
 /// The draws of a number: a linear congruential generator, that of the sample `rand` in the C standard. Contracts see
 /// its state.
-#[derive(Debug, Drop)]
+#[derive(Drop)]
 pub struct Draws {
     state: u32,
 }

@@ -8,7 +8,7 @@ use entries::{Entries, NoMemory};
 use std::alloc::Global;
 
 /// The texts of five tables, as their files hold them.
-#[derive(Debug, Drop)]
+#[derive(Drop)]
 pub struct MadeTables {
     /// `stations.csv`
     pub stations: Entries<u8>,

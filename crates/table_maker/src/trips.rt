@@ -8,7 +8,7 @@ use entries::NoMemory;
 use std::alloc::Global;
 
 /// A round trip from the hub: a flight out to a spoke, a stay there, and the flight back.
-#[derive(Clone, Copy, Debug)]
+#[derive(Clone, Copy)]
 pub struct RoundTrip {
     /// The spoke, from 0.
     pub spoke: u8,

@@ -11,7 +11,7 @@ use std::alloc::{AllocError, AllocFailed};
 use thiserror::Error;
 
 /// Why a record does not read.
-#[derive(Clone, Copy, Debug, PartialEq, Eq, Error)]
+#[derive(Clone, Copy, Debug, Error)]
 pub enum RecordError {
     /// The least kind of its faults.
     #[error("a record with a fault of kind {kind}")]

@@ -5,7 +5,7 @@ ghost use Rattle.table_rows.specs.Rows.{rows_in};
 use crate::rows::below_header;
 
 /// Which of its two headers a file has.
-#[derive(Clone, Copy, Debug, PartialEq, Eq)]
+#[derive(Clone, Copy)]
 pub enum Form {
     Old,
     /// That with a further column.

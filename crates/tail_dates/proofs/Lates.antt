@@ -3,7 +3,7 @@ use Rattle.std.proofs.Common.{◌≡◌, ℕ, ◌<◌, ◌≤◌, inl, inr, nat_
 use Rattle.std.proofs.lemmas.Bool.{cases_lt, le-leb}
 use Rattle.std.proofs.lemmas.Bool.Decides.{nat_tests}
 use Rattle.sums.proofs.Sums.{count_below-le, sum_below-agree, sum_below-le, sum_below-ones}
-use Rattle.tail_dates.specs.Placing.{IsLateAt, IsNeverLate, at_most}
+use Rattle.tail_dates.specs.Late.{IsLateAt, IsNeverLate, at_most}
 
 -- more nights allow more
 pub at_most_rises : (numbers : List ℕ) (few many : ℕ) → few ≤ many → at_most numbers few ≤ at_most numbers many

@@ -1,8 +1,13 @@
+pub mod AtPlaces
+pub mod InTime
 pub mod Lates
 pub mod Nights
+pub mod OwnPlaces
 pub mod Ranking
 pub mod Rounds
 pub mod StartRanks
 pub mod StartReaches
-pub mod InTime
+pub mod TailReads
 pub mod TailsFit
+pub mod Told
+pub mod TourPlaces

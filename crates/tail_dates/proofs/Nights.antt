@@ -3,15 +3,15 @@ use Rattle.std.proofs.Common.{◌≡◌, ℕ, Result, Ok, Err, OnOk, zero, suc, 
 use Rattle.std.proofs.lemmas.List.{append-nil, length-map, map-append, replicate_more}
 use Rattle.fleet_model.specs.declared.tables.Tables.{Tables}
 use Rattle.fleet_model.specs.Counts.{weights_of}
-use Rattle.fleet_model.specs.Schedule.{days_in, leg_on, station_of}
+use Rattle.fleet_model.specs.Schedule.{days_in, leg_on}
 use Rattle.fleet_model.specs.Times.{nights_of}
 use Rattle.fleet_model.specs.Use.{used_of}
 use Rattle.ground_turns.proofs.NightLists.{nights_append}
 use Rattle.ground_turns.proofs.TourNights.{nights_are_use}
 use Rattle.fleet_model.specs.declared.parts.Connection.{Connection}
 use Rattle.ground_turns.specs.Maps.{IsTour, turn_after, turns_round}
-use Rattle.ground_turns.specs.Nights.{can_maintain, nights_in_turn, nights_in_turns}
-use Rattle.ground_turns.specs.Turns.{nights_waited, station_at}
+use Rattle.ground_turns.specs.Nights.{can_maintain, night_of_stay, nights_in_turn, nights_in_turns}
+use Rattle.ground_turns.specs.Turns.{nights_waited}
 use Rattle.ground_turns.specs.declared.nights.Night.TheVariants as night
 use Rattle.sums.proofs.Places.{list_below-more}
 use Rattle.sums.specs.Places.{list_below}
@@ -37,20 +37,20 @@ all_alike : {X Y : Type 0} (g : X → Y) (x : X) (n : ℕ) → replicate n (g x)
 all_alike g x zero = refl
 all_alike g x (suc n) = ap (λ ys. g x ∷ ys) (all_alike g x n)
 
--- the nights of a turn: those in the flight aren't for maintenance, those in the wait are where the station is
+-- the nights of a turn: those in the flight aren't for maintenance, those in the wait may be
 pub turn_nights : (t : Tables) (f aloft waited : ℕ) (turn : Connection) (flag : Bool) (old with_flight new : List Bool)
-    → aloft ≡ nights_of t (leg_on turn.arriving f) → waited ≡ nights_waited t f turn → flag ≡ (station_of t (station_at t turn)).maintenance
+    → aloft ≡ nights_of t (leg_on turn.arriving f) → waited ≡ nights_waited t f turn → flag ≡ can_maintain t (night_of_stay t f turn)
     → with_flight ≡ old ++ replicate aloft false → new ≡ with_flight ++ replicate waited flag → new ≡ old ++ map (can_maintain t) (nights_in_turn t f turn)
 turn_nights t f aloft waited turn flag old with_flight new flown stays there first second =
     second ∙ ap (λ nights. nights ++ replicate waited flag) first ∙ append_assoc old (replicate aloft false) (replicate waited flag)
     ∙ ap (λ nights. old ++ nights)
     (ap (λ nights. nights ++ replicate waited flag) (ap (λ n. replicate n false) flown ∙ all_alike (can_maintain t) night.Aloft (nights_of t (leg_on turn.arriving f)))
     ∙ ap (λ nights. map (can_maintain t) (replicate (nights_of t (leg_on turn.arriving f)) night.Aloft) ++ nights)
-    (ap (λ n. replicate n flag) stays ∙ ap (replicate (nights_waited t f turn)) there ∙ all_alike (can_maintain t) (night.At (station_at t turn)) (nights_waited t f turn))
-    ∙ sym (map-append (can_maintain t) (replicate (nights_of t (leg_on turn.arriving f)) night.Aloft) (replicate (nights_waited t f turn) (night.At (station_at t turn)))))
+    (ap (λ n. replicate n flag) stays ∙ ap (replicate (nights_waited t f turn)) there ∙ all_alike (can_maintain t) (night_of_stay t f turn) (nights_waited t f turn))
+    ∙ sym (map-append (can_maintain t) (replicate (nights_of t (leg_on turn.arriving f)) night.Aloft) (replicate (nights_waited t f turn) (night_of_stay t f turn))))
 
 pub turn_nights_of : {E : Type 0} (t : Tables) (f : ℕ) (tour : List ℕ) (place aloft waited : ℕ) (turn : Connection) (flag : Bool) (old with_flight new : List Bool) (result : Result (Unit {0}) E)
-    → turn ≡ turn_after tour place → aloft ≡ nights_of t (leg_on turn.arriving f) → waited ≡ nights_waited t f turn → flag ≡ (station_of t (station_at t turn)).maintenance
+    → turn ≡ turn_after tour place → aloft ≡ nights_of t (leg_on turn.arriving f) → waited ≡ nights_waited t f turn → flag ≡ can_maintain t (night_of_stay t f turn)
     → with_flight ≡ old ++ replicate aloft false → OnOk result (new ≡ with_flight ++ replicate waited flag)
     → OnOk result (new ≡ old ++ map (can_maintain t) (nights_in_turn t f (turn_after tour place)))
 turn_nights_of t f tour place aloft waited turn flag old with_flight new (Ok done) is flown stays there first second =

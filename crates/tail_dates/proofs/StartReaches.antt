@@ -1,7 +1,7 @@
 -- The reaches of a tour's starts, one after another.
 use Rattle.std.proofs.Common.{◌≡◌, ℕ, ◌+◌, ◌-◌, ◌*◌, ◌<◌, ◌≤◌, inl, inr, Bool, List, [], ◌∷◌, ◌++◌, length, slice_index, sym, ◌∙◌, ap, subst, arith}
 use Rattle.std.proofs.lemmas.Bool.{cases_lt}
-use Rattle.std.proofs.Math.Nat.{mul-le-mul_left}
+use Rattle.std.proofs.Math.Nat.{mul-le-mul_left, mul_comm}
 use Rattle.std.proofs.lemmas.List.{get_or_append_left, get_or_push, length-append}
 use Rattle.fleet_model.specs.declared.tables.Tables.{Tables}
 use Rattle.fleet_model.specs.Counts.{weights_of}
@@ -48,11 +48,8 @@ module _ (t : Tables) (a : List ℕ) (f : ℕ) (tour : List ℕ) (is : IsTour t 
 pub line_within : (start day used days : ℕ) → start < used → day < days → start * days + day < used * days
 line_within start day used days within inside =
     let room : days * (start + 1) ≤ days * used = mul-le-mul_left days (omega (arith, within)) in
-    omega (arith, room, turned start days, turned used days, more start days, inside)
+    omega (arith, room, mul_comm start days, mul_comm used days, more start days, inside)
   where
-    turned : (m n : ℕ) → m * n ≡ n * m
-    turned m n = grind arith
-
     more : (m n : ℕ) → n * (m + 1) ≡ n * m + n
     more m n = grind arith
 

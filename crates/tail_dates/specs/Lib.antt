@@ -1,6 +1,9 @@
 pub mod InTime
+pub mod Late
+pub mod Places
 pub mod Placing
 pub mod Ranked
 pub mod Reaches
 pub mod Rounds
 pub mod TailTable
+pub mod There

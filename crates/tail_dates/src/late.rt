@@ -1,14 +1,13 @@
 //! Whether more tails than starts come to maintenance within some nights.
-ghost use Rattle.std.specs.Prelude.{◌≡◌, length, MatchOption};
-ghost use Rattle.tail_dates.specs.Placing.{AreBytes, IsFirstLate, IsNeverLate, at_most};
+ghost use Rattle.std.specs.Prelude.{◌≡◌, MatchOption};
+ghost use Rattle.tail_dates.specs.Late.{AreLessThan, IsFirstLate, IsNeverLate, at_most};
 
 /// One more than the most nights that a tail may have left.
 const PAST_ALL: u64 = 256;
 
 /// The least number of nights within which more tails have to come to maintenance than starts do. Takes no memory.
 pub(crate) fn first_late(lefts: &[u64], reaches: &[u64]) -> Option<u64>
-    requires few { AreBytes lefts.now }
-    requires as_many { length lefts.now ≡ length reaches.now }
+    requires { AreLessThan 256 lefts.now }
     ensures { MatchOption result (IsNeverLate lefts.now reaches.now) (IsFirstLate lefts.now reaches.now) }
 {
     for within in 0..PAST_ALL {

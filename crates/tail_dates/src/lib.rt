@@ -3,12 +3,15 @@
 
 mod late;
 pub mod laws;
+mod place_numbers;
 pub mod placing;
 mod ranks;
 mod reaches;
 pub mod tail_table;
 pub mod tails;
+mod there;
+mod tour_places;
 
 pub use placing::{Placed, place};
 pub use tail_table::read_tails;
-pub use tails::TailState;
+pub use tails::{Place, TailState};

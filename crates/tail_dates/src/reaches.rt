@@ -7,12 +7,13 @@ ghost use Rattle.fleet_model.specs.Use.{used_of};
 ghost use Rattle.ground_turns.specs.Maps.{IsTour, turn_after};
 ghost use Rattle.ground_turns.specs.Nights.{IsKeptFor, can_maintain, nights_in_turn, nights_of_tour};
 ghost use Rattle.lines_of_flying.specs.Lines.{AreLegs, BeginsAfterStart};
+ghost use Rattle.tail_dates.specs.Late.{AreLessThan};
 ghost use Rattle.tail_dates.specs.Reaches.{AreReaches, IsReach, maintenance_nights, start_line};
 ghost use Rattle.tail_dates.specs.Rounds.{HasMaintenance};
 
 use entries::NoMemory;
 use fleet_model::{Assignment, Tables};
-use ground_turns::{flight, nights_waited};
+use ground_turns::{flight, is_maintained, nights_waited};
 use lines_of_flying::{first_day, turn_after};
 use std::alloc::Global;
 
@@ -33,7 +34,8 @@ pub(crate) fn reaches_of(
     requires kept { (days : ℕ) × (IsKeptFor tables.now (nights_of_tour tables.now fleet tour.now) days) }
     requires day { day < days_in tables.now }
     requires used { used ≡ used_of tables.now (weights_of plan.now) fleet }
-    ensures { IfOk result (λ reaches. AreReaches tables.now fleet tour.now day used reaches.items) }
+    ensures value { IfOk result (λ reaches. AreReaches tables.now fleet tour.now day used reaches.items) }
+    ensures few { IfOk result (λ reaches. AreLessThan (2 ^ 40) reaches.items) }
 {
     let nights = maintenance_nights(alloc, tables, fleet, tour)?;
     let first = nights.len() as u64 - u64::from(first_day(tables, fleet, tour));
@@ -60,7 +62,8 @@ fn reach(nights: &[bool], first: u64) -> u64
     requires some { HasMaintenance nights.now }
     requires few { length nights.now < 2 ^ 40 }
     requires first { first < 2 ^ 40 }
-    ensures { IsReach nights.now first result }
+    ensures value { IsReach nights.now first result }
+    ensures few { result ≤ length nights.now }
 {
     let count = nights.len() as u64;
     for after in 0..count {
@@ -105,11 +108,10 @@ fn push_nights(
     let turn = turn_after(tour, place);
     let aloft = tables.nights(flight(tables, turn.arriving, fleet));
     push_same(nights, aloft, false)?;
-    let station = tables.station(tables.leg(turn.arriving).to);
     push_same(
         nights,
         nights_waited(tables, fleet, turn),
-        station.maintenance,
+        is_maintained(tables, fleet, turn),
     )
 }
 

@@ -82,7 +82,7 @@ fn runs_without_a_budget(rt: HostRuntime) -> Result<(), Fail> {
     Ok(())
 }
 
-/// Schedules, and the pivots by which the prescribed run over their lines ends at a cheapest point.
+/// Schedules, and the pivots by which the proved run over their lines ends at a cheapest point.
 const SCHEDULES: &[(Files, u64)] = &[(OVERLAPPING_TRIPS, 31), (TWO_FLEETS, 13)];
 
 /// How many pivots a run makes over the lines of a schedule: with one too few, which it spends, and with no budget, where it

@@ -39,17 +39,17 @@ fn is_least_cost_paid_back<R: Abort + Alloc<A = Global>>(
     way: Way,
 ) -> Result<bool, Fail> {
     let kept = Kept::all(tables);
-    let Some(lifted) = lifted_by(rt.alloc(), tables, &kept, way)? else {
+    let Some(prices) = lifted_by(rt.alloc(), tables, &kept, way)? else {
         panic!(rt; "given up");
     };
-    assert_worth(rt, tables, &kept, &lifted.prices, LEAST_COST);
-    Ok(is_paid_back(&lifted.prices))
+    assert_worth(rt, tables, &kept, &prices, LEAST_COST);
+    Ok(is_paid_back(&prices))
 }
 
 #[test]
 fn prices_that_are_paid_back_are_worth_as_much(rt: HostRuntime) -> Result<(), Fail> {
     let tables = read(rt.alloc(), &NONE_TO_SPARE)?;
-    is_least_cost_paid_back(&rt, &tables, Way::Prescribed)?;
+    is_least_cost_paid_back(&rt, &tables, Way::ByRun)?;
     assert!(rt; is_least_cost_paid_back(&rt, &tables, Way::ByHint)?);
     Ok(())
 }

@@ -6,11 +6,12 @@ ghost use Rattle.row_store.specs.Problem.{IsProblem};
 
 use crate::assertions::assert_same;
 use crate::hint_lifts::{lifted_point, lifted_refusal};
+use dual_bound::Prices;
 use end_check::{PointHint, RefusalHint};
 use entries::{Entries, NoMemory};
 use fleet_model::{Kept, Tables};
 use lp_rows::Program;
-use price_lift::{LiftError, Lifted};
+use price_lift::LiftError;
 use std::alloc::Global;
 use std::process::Abort;
 use std::test::Fail;
@@ -245,7 +246,7 @@ const PARTED_RING_REFUSALS: &[Refusal] = &[
 ];
 
 /// What a lift comes to.
-fn becomes_of(lifted: &Result<Option<Lifted>, LiftError>) -> Result<Becomes, NoMemory> {
+fn becomes_of(lifted: &Result<Option<Prices>, LiftError>) -> Result<Becomes, NoMemory> {
     match lifted {
         Ok(Some(_)) => Ok(Becomes::Lifted),
         Ok(None) => Ok(Becomes::NoEnd),

@@ -8,30 +8,30 @@ use crate::lifting::lifted;
 use dual_bound::Prices;
 use dual_bound::worth::worth;
 use fleet_model::{Kept, Tables};
-use price_lift::{LiftError, Lifted};
+use price_lift::LiftError;
 use std::alloc::Global;
 use std::process::Abort;
 
 /// How prices are found.
 #[derive(Clone, Copy)]
 pub enum Way {
-    /// By the prescribed run.
-    Prescribed,
+    /// By the proved run.
+    ByRun,
     /// By a hint that is checked.
     ByHint,
 }
 
-/// What a run over a subproblem's lines gives; nothing where it gives up.
+/// The prices that a way gives over a subproblem's lines; nothing where it gives up.
 pub fn lifted_by(
     alloc: Global,
     tables: &Tables,
     kept: &Kept,
     way: Way,
-) -> Result<Option<Lifted>, LiftError>
-    ensures { IfOk result (λ found. IfSome found (λ lifted. ArePrices tables.now lifted.prices)) }
+) -> Result<Option<Prices>, LiftError>
+    ensures { IfOk result (λ found. IfSome found (ArePrices tables.now)) }
 {
     match way {
-        Way::Prescribed => Ok(lifted(alloc, tables, kept)?),
+        Way::ByRun => Ok(lifted(alloc, tables, kept)?),
         Way::ByHint => Ok(lifted_by_hint(alloc, tables, kept)?),
     }
 }

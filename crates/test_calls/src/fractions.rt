@@ -63,12 +63,15 @@ fn numbers_that_are_outgrown(rt: HostRuntime) -> Result<(), Fail> {
     let pivot_row = row(rt.alloc(), &[3, large, 1], 1)?;
     let other = row(rt.alloc(), &[5, 1, 2], 1)?;
     assert!(rt; is_row(&pivot_row) && is_row(&other));
-    let refused = combine(rt.alloc(), &other, &pivot_row, 0).err();
-    let grew = CombineError::Grew {
-        column: 1,
-        left: 5,
-        right: large,
-    };
-    assert_same(&rt, refused, Some(grew));
+    match combine(rt.alloc(), &other, &pivot_row, 0) {
+        Err(
+            CombineError::Grew {
+                column,
+                left,
+                right,
+            },
+        ) => assert_same(&rt, (column, left, right), (1, 5, large)),
+        _ => assert!(rt; false),
+    }
     Ok(())
 }

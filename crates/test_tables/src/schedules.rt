@@ -4,7 +4,7 @@ ghost use Rattle.fleet_model.specs.Limits.{AreSettings};
 ghost use Rattle.fleet_model.specs.Period.{minutes_of};
 ghost use Rattle.fleet_model.specs.declared.limits.TheConstants.{MAX_PERIOD};
 
-use fleet_model::{LoadError, Settings, Tables};
+use fleet_model::{LoadError, PLAIN_SETTINGS, Settings, Tables};
 use sched_read::load;
 use std::alloc::Global;
 
@@ -145,6 +145,7 @@ pub fn repeating(day_start: u16, period: u16) -> Settings
         day_start,
         through_max: 60,
         period,
+        ..PLAIN_SETTINGS
     }
 }
 

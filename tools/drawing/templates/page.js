@@ -92,7 +92,8 @@
     }
     for (const { stay, part, at } of chart.stays) {
       const station = stay.dataset.text;
-      const texts = stay.classList.contains("maintained") ? [`${station} maint.`, station] : [station];
+      const more = stay.classList.contains("maintained") ? " maint." : stay.dataset.stay ? ` ${stay.dataset.stay} min` : "";
+      const texts = [`${station}${more}`, station];
       const text = texts.find((it) => widthOf(it, size.small, 600) + 8 <= part * chart.minutes * per);
       const drawn = d3.select(stay).selectAll("text").data(text ? [text] : []);
       drawn.exit().remove();

@@ -30,8 +30,9 @@ def read_change(text: str) -> Change:
     return found
 
 
-def aircraft(words: Sequence[str]) -> Optional[Change]:
-    """Another number of aircraft."""
+def of_fleet(words: Sequence[str], column: int, most: int, has: str) -> Optional[Tuple[str, Step, Callable[[Tables], None]]]:
+    """Returns a fleet, a step, and what changes a number of its record by that, which has to stay within 0 and `most`; or None. `has` says what
+    the fleet has, with {} in the place of the number."""
     found = re.fullmatch(f"{NAME} ([+-]?)([0-9]{{1,3}})", " ".join(words))
     if not found:
         return None
@@ -39,32 +40,32 @@ def aircraft(words: Sequence[str]) -> Optional[Change]:
 
     def change(tables: Tables) -> None:
         row = record_of(tables, "fleets.csv", fleet)
-        count = step.of(int(row[1]))
-        if not 0 <= count <= MOST_AIRCRAFT:
-            raise Unread(f"fleets.csv gives {fleet} {row[1]} aircraft, and it may have 0 to {MOST_AIRCRAFT}")
-        row[1] = str(count)
+        number = step.of(int(row[column]))
+        if not 0 <= number <= most:
+            raise Unread(f"fleets.csv gives {fleet} {has.format(row[column])}, and it may have 0 to {most}")
+        row[column] = str(number)
 
+    return fleet, step, change
+
+
+def aircraft(words: Sequence[str]) -> Optional[Change]:
+    """Another number of aircraft."""
+    found = of_fleet(words, 1, MOST_AIRCRAFT, "{} aircraft")
+    if not found:
+        return None
+    fleet, step, change = found
     number = "one" if step.number == 1 else str(step.number)
     return Change(change, step.told(f"{number} {fleet} in all", f"{number} {fleet} more", f"{number} {fleet} less", f"as many {fleet}"))
 
 
 def turn(words: Sequence[str]) -> Optional[Change]:
     """Another number of minutes from landing to the next departure."""
-    found = re.fullmatch(f"{NAME} ([+-]?)([0-9]{{1,3}})", " ".join(words))
+    found = of_fleet(words, 2, MOST_TURN, "a turn of {} minutes")
     if not found:
         return None
-    fleet, step = found[1], Step(found[2], int(found[3]))
-
-    def change(tables: Tables) -> None:
-        row = record_of(tables, "fleets.csv", fleet)
-        minutes = step.of(int(row[2]))
-        if not 0 <= minutes <= MOST_TURN:
-            raise Unread(f"fleets.csv gives {fleet} a turn of {row[2]} minutes, and it may have 0 to {MOST_TURN}")
-        row[2] = str(minutes)
-
-    minutes_told = f"{step.number} minutes"
-    told = step.told(f"in {minutes_told}", f"{minutes_told} slower", f"{minutes_told} faster", "as fast")
-    return Change(change, f"{fleet} turns {told}")
+    fleet, step, change = found
+    minutes = f"{step.number} minutes"
+    return Change(change, f"{fleet} turns {step.told(f'in {minutes}', f'{minutes} slower', f'{minutes} faster', 'as fast')}")
 
 
 def block(words: Sequence[str]) -> Optional[Change]:

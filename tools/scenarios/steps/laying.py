@@ -7,7 +7,7 @@ import shutil
 from typing import Optional, Sequence
 
 from fleetplan.errors import Unread
-from fleetplan.files import remove, write
+from fleetplan.files import new_folder, remove, write
 from fleetplan.records import table_of, text_of
 from fleetplan.tables import HEADERS, LIMITED, headers_of
 from steps.changes import read_change
@@ -15,7 +15,6 @@ from steps.changing import Tables
 from steps.figures import FILES
 from steps.flagged import flags_of, tables_in
 from steps.running import Fault, Limits, run
-from steps.whole import folder
 
 # Either stands beside tables that can't be solved, and says why: since they are refused, or by a fault at the last try.
 REFUSED, FAULT = "refused.txt", "fault.txt"
@@ -26,7 +25,7 @@ REFUSALS = (2, 6)
 def lay(program: str, files: Sequence[str], texts: Sequence[str], period: str, place: str, limits: Limits, is_last: bool) -> None:
     """Makes the folder of the tables, from these files and with these changes. Before they are changed they repeat after `period` days,
     a word of the call."""
-    with folder(place) as beside:
+    with new_folder(place) as beside:
         for it in files:
             shutil.copyfile(it, os.path.join(beside, os.path.basename(it)))
         try:

@@ -10,7 +10,7 @@ import subprocess
 import sys
 from typing import Callable, Dict, Optional, Sequence
 
-from fleetplan.files import remove, write
+from fleetplan.files import new_folder, remove, write
 from fleetplan.program import TOP
 from fleetplan.tables import TABLES
 from fleetplan.words import Call
@@ -18,7 +18,6 @@ from steps.answers import ANSWER, CHECK, SIZES, Answer, Torn, answer_in, read_js
 from steps.flagged import FLAGGED, tables_in
 from steps.laying import FAULT, REFUSED
 from steps.running import Fault, Limits, run
-from steps.whole import folder
 
 # Beside the folder of the solution, as CHECK and SIZES are.
 DRAWN = "drawn"
@@ -34,7 +33,7 @@ def solve(program: str, tables: str, words: Sequence[str], place: str, limits: L
     written of an earlier solution goes, also where it isn't wanted any more."""
     for it in (CHECK, SIZES, DRAWN):
         remove(os.path.join(os.path.dirname(place), it))
-    with folder(place) as beside:
+    with new_folder(place) as beside:
         for name in tables_in(tables):
             shutil.copyfile(os.path.join(tables, name), os.path.join(beside, name))
         answer = refusal_of(tables) or answer_or_fault(lambda: answer_of(program, beside, words, limits), is_last)
@@ -123,7 +122,7 @@ def sum_of(path: str) -> str:
 
 def draw(solved: str, name: str, place: str, is_last: bool) -> None:
     """Makes the folder of the picture, which stays empty where there is no plan, and has the fault at the last try."""
-    with folder(place) as beside:
+    with new_folder(place) as beside:
         try:
             picture(solved, name, beside)
         except Fault as error:

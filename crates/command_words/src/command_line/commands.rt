@@ -19,9 +19,10 @@ const TABLE_OPTIONS: &[Argument<'static>] = &[
     Argument::Flag("optional"),
 ];
 
-/// `[--through-max M] [--days D] [--visits V]`: which rotations are looked for.
+/// `[--through-max M] [--least-night MINUTES] [--days D] [--visits V]`: which rotations are looked for.
 const ROTATION_OPTIONS: &[Argument<'static>] = &[
     Argument::Option("through-max"),
+    Argument::Option("least-night"),
     Argument::Option("days"),
     Argument::Option("visits"),
 ];

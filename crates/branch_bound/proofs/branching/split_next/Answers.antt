@@ -19,7 +19,7 @@ part-requires-clause-pair g c = step_known _ _ _ _ c.requires.search c.requires.
 
 pub part-requires-2-clause-waits : goal.part-requires-2-clause-waits
 part-requires-2-clause-waits g c =
-    subst (λ m. WaitsWith (λ f. AreGood c.args.tables.now f.prices) (at m.items c.args.rank.number).state) (sym (ap (λ s. s.made) c.in_ok-yes.ensures.search)) (good _ _ _ _ c.requires.search c.requires.next)
+    subst (λ m. WaitsWith (λ f. AreGood c.args.tables.now f.best.prices) (at m.items c.args.rank.number).state) (sym (ap (λ s. s.made) c.in_ok-yes.ensures.search)) (good _ _ _ _ c.requires.search c.requires.next)
 
 pub part-requires-2-clause-allowed : goal.part-requires-2-clause-allowed
 part-requires-2-clause-allowed g c =

@@ -5,5 +5,5 @@ use Rattle.cert_check.proofs.node_rules.reaches_cost.Goals as goal
 
 pub returns : goal.returns
 returns c =
-    reached _ _ _ _ _ _ c.requires.scale.some c.price_bound.ensures
-    (rw (to_z-of_z w128 c.price_bound.result (record { sfits = c.price_bound.type_inv })) at c.is_no_more.ensures)
+    reached _ _ _ _ _ _ c.requires.scale.some c.rounded_worth.ensures
+    (rw (to_z-of_z w128 c.rounded_worth.result (record { sfits = c.rounded_worth.type_inv })) at c.is_no_more.ensures)

@@ -16,3 +16,13 @@ push_begun-requires-clause-begun c =
     let day = c.requires.placed.0 in
     let is : IsPlaced t a f tour day tails (placed.Lines c.in-Lines.starts) = subst (IsPlaced t a f tour day tails) c.in-Lines.is c.requires.placed.2 in
     subst (AreBegun t (lines_by t a f tour) (names_of f tails)) (sym c.as_slice-starts.ensures) (placed_begin t f tails a tour day c.in-Lines.starts c.requires.placed.1 is)
+
+pub push_lacking-requires-clause-place : goal.push_lacking-requires-clause-place
+push_lacking-requires-clause-place c =
+    let is = subst (IsPlaced c.args.tables.now c.args.plan.now c.args.fleet c.args.tour.now c.requires.placed.0 c.args.tails.now) c.in-Lacks.is c.requires.placed.2 in
+    is.there.is_place
+
+pub push_late_at-requires-clause-place : goal.push_late_at-requires-clause-place
+push_late_at-requires-clause-place c =
+    let is = subst (IsPlaced c.args.tables.now c.args.plan.now c.args.fleet c.args.tour.now c.requires.placed.0 c.args.tails.now) c.in-LateAt.is c.requires.placed.2 in
+    is.there.is_place

@@ -2,7 +2,8 @@ use Rattle.std.proofs.Common.{◌≡◌, ◌<◌, ◌≤◌, nat_lt, ◌&&◌, B
 use Rattle.std.proofs.lemmas.Bool.Decides.{nat_tests}
 use Rattle.fleet_model.specs.Schedule.{leg_on}
 use Rattle.fleet_model.specs.Times.{nights_of}
-use Rattle.ground_turns.specs.Turns.{nights_waited, station_at}
+use Rattle.ground_turns.specs.Nights.{night_of_stay}
+use Rattle.ground_turns.specs.Turns.{nights_waited}
 use Rattle.euler_rotation.proofs.NightsSince.{some_in_turn}
 use Rattle.euler_rotation.proofs.nights.has_maintenance.Goals as goal
 
@@ -16,10 +17,10 @@ pub returns-then-nights_waited-gt0 : goal.returns-then-nights_waited-gt0
 returns-then-nights_waited-gt0 c =
     some_then c.nights_waited.result _ _ _ c.if-nights_waited-gt0.true c.nights_waited.ensures.value c.is_maintained.ensures
     ∙ sym (some_in_turn c.args.asked.now.tables.now (nights_of c.args.asked.now.tables.now (leg_on c.args.turn.arriving c.args.asked.now.fleet))
-    (nights_waited c.args.asked.now.tables.now c.args.asked.now.fleet c.args.turn) (station_at c.args.asked.now.tables.now c.args.turn))
+    (nights_waited c.args.asked.now.tables.now c.args.asked.now.fleet c.args.turn) (night_of_stay c.args.asked.now.tables.now c.args.asked.now.fleet c.args.turn))
 
 pub returns-else-nights_waited-gt0 : goal.returns-else-nights_waited-gt0
 returns-else-nights_waited-gt0 c =
     none_then c.nights_waited.result _ _ c.if-nights_waited-gt0.false c.nights_waited.ensures.value
     ∙ sym (some_in_turn c.args.asked.now.tables.now (nights_of c.args.asked.now.tables.now (leg_on c.args.turn.arriving c.args.asked.now.fleet))
-    (nights_waited c.args.asked.now.tables.now c.args.asked.now.fleet c.args.turn) (station_at c.args.asked.now.tables.now c.args.turn))
+    (nights_waited c.args.asked.now.tables.now c.args.asked.now.fleet c.args.turn) (night_of_stay c.args.asked.now.tables.now c.args.asked.now.fleet c.args.turn))

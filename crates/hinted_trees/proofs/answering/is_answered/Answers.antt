@@ -1,8 +1,15 @@
 use Rattle.std.proofs.Common.{ap}
 use Rattle.cert_check.specs.Nodes.{prices_at}
 use Rattle.cert_check.proofs.NodeRules.{prices_known}
+use Rattle.cert_check.proofs.SplitsAbove.{sound_but_priced}
 use Rattle.hinted_trees.proofs.Answered.{open_test, sole_test}
 use Rattle.hinted_trees.proofs.answering.is_answered.Goals as goal
+
+pub own_bound-requires-clause-sound : goal.own_bound-requires-clause-sound
+own_bound-requires-clause-sound c = sound_but_priced _ _ _ c.requires
+
+pub own_bound-requires-in-Open-clause-sound : goal.own_bound-requires-in-Open-clause-sound
+own_bound-requires-in-Open-clause-sound c = sound_but_priced _ _ _ c.requires
 
 pub returns-in-Sole : goal.returns-in-Sole
 returns-in-Sole c = sole_test _ _ _ _ _ _ c.in-Sole.is c.own_bound.ensures c.is_covered.ensures

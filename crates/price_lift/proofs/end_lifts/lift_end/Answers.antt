@@ -3,7 +3,7 @@ use Rattle.price_lift.proofs.LiftResults.{fails_by, fails_so, fits_by, well_fits
 use Rattle.price_lift.proofs.end_lifts.lift_end.Goals as goal
 
 pub returns-clause-lifted : goal.returns-clause-lifted
-returns-clause-lifted c = well_lifted _ _ c.lifted_end.result c.lifted_end.ensures.lifted _ (λ lifted is. is.end)
+returns-clause-lifted c = well_lifted _ _ c.lifted_end.result c.lifted_end.ensures.lifted _ (λ lifted is. is.best)
 
 pub returns-clause-prices : goal.returns-clause-prices
 returns-clause-prices c = well_lifted _ _ c.lifted_end.result c.lifted_end.ensures.lifted _ (λ lifted is. is.prices)

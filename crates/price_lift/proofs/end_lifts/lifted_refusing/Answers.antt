@@ -5,11 +5,12 @@ use Rattle.fleet_model.specs.Kept.{kept_by}
 use Rattle.fleet_model.specs.Schedule.{legs_in}
 use Rattle.lp_rows.specs.Layout.{starts_in}
 use Rattle.dual_lift.specs.TooLarge.{IsLiftError, IsWantedBehind}
-use Rattle.dual_lift.proofs.Excesses.{first_fails, wanted_behind}
+use Rattle.dual_lift.proofs.Excesses.{first_fails}
 use Rattle.price_lift.specs.EndLifts.{refusing_duals, refusing_excess, priced_values}
 use Rattle.price_lift.specs.Steps.{prices_by}
 use Rattle.price_lift.specs.TooLarge.{prices_excess}
-use Rattle.price_lift.proofs.EndLifts.{priced_is_row, refusing_fails, refusing_lifted, refusing_priced, values_long}
+use Rattle.price_lift.proofs.EndLifts.{priced_is_row, refusing_paid, refusing_priced, values_long}
+use Rattle.price_lift.proofs.LiftResults.{behind}
 use Rattle.price_lift.proofs.end_lifts.lifted_refusing.Goals as goal
 
 pub end_prices-requires-clause-long : goal.end_prices-requires-clause-long
@@ -30,20 +31,12 @@ paid_back-requires-clause-within c =
     × (c.in_ok-before.before ≡ prices_by c.args.tables.now (starts_in c.args.outline.now.network) (reduced (priced_values c.args.tables.now values (pos 1))))) c.as_slice.ensures c.in_ok-before.ensures.prices in
     (refusing_priced c.args.tables.now (kept_by c.args.kept.now) c.requires.ends.0 c.requires.ends.1 c.args.hint.now c.requires.ends.2 c.args.outline.now c.requires.outline c.in_ok-before.before priced row).limits
 
-pub returns-in_err-prices-clause-lifted : goal.returns-in_err-prices-clause-lifted
-returns-in_err-prices-clause-lifted c =
-    let row : IsRow (refusing_duals c.args.tables.now c.args.hint.now) = priced_is_row c.args.tables.now c.args.hint.now.multipliers (pos 1) c.requires.ends.2.multipliers.within (omega arith) c.requires.ends.2.values.some in
-    let priced = subst (λ values. (prices_excess (legs_in c.args.tables.now) (priced_values c.args.tables.now values (pos 1)) ≡ None)
-    × (c.in_ok-before.before ≡ prices_by c.args.tables.now (starts_in c.args.outline.now.network) (reduced (priced_values c.args.tables.now values (pos 1))))) c.as_slice.ensures c.in_ok-before.ensures.prices in
-    let p = err_from_is_err_and c.from_residual-in_err-prices.result c.from_residual-in_err-prices.ensures.1 in
-    rw (p.1, p.2) (refusing_fails c.args.tables.now (kept_by c.args.kept.now) c.requires.ends.0 c.requires.ends.1 c.args.hint.now c.requires.ends.2 c.args.outline.now c.requires.outline c.in_ok-before.before priced row c.in_err-prices.field-0.0 c.in_err-prices.ensures)
-
 pub returns-clause-lifted : goal.returns-clause-lifted
 returns-clause-lifted c =
     let row : IsRow (refusing_duals c.args.tables.now c.args.hint.now) = priced_is_row c.args.tables.now c.args.hint.now.multipliers (pos 1) c.requires.ends.2.multipliers.within (omega arith) c.requires.ends.2.values.some in
     let priced = subst (λ values. (prices_excess (legs_in c.args.tables.now) (priced_values c.args.tables.now values (pos 1)) ≡ None)
     × (c.in_ok-before.before ≡ prices_by c.args.tables.now (starts_in c.args.outline.now.network) (reduced (priced_values c.args.tables.now values (pos 1))))) c.as_slice.ensures c.in_ok-before.ensures.prices in
-    refusing_lifted c.args.tables.now (kept_by c.args.kept.now) c.requires.ends.0 c.requires.ends.1 c.args.hint.now c.requires.ends.2 c.args.outline.now c.requires.outline c.in_ok-before.before priced row c.in_ok-prices.prices c.in_ok-prices.ensures
+    refusing_paid c.args.tables.now (kept_by c.args.kept.now) c.requires.ends.0 c.requires.ends.1 c.args.hint.now c.requires.ends.2 c.args.outline.now c.requires.outline c.in_ok-before.before priced row c.paid_back.result c.paid_back.ensures
 
 -- ---- where memory is wanting
 pub returns-in_err-before-clause-memory : goal.returns-in_err-before-clause-memory
@@ -52,8 +45,5 @@ returns-in_err-before-clause-memory c =
     rw (p.1, p.2)
     (subst (λ values. IsWantedBehind (prices_excess (legs_in c.args.tables.now) (priced_values c.args.tables.now values (pos 1))) c.in_err-before.field-0.0) c.as_slice.ensures c.in_err-before.ensures.memory)
 
-pub returns-in_err-prices-clause-memory : goal.returns-in_err-prices-clause-memory
-returns-in_err-prices-clause-memory c =
-    let well = subst (λ values. prices_excess (legs_in c.args.tables.now) (priced_values c.args.tables.now values (pos 1)) ≡ None) c.as_slice.ensures c.in_ok-before.ensures.prices.0 in
-    let p = err_from_is_err_and c.from_residual-in_err-prices.result c.from_residual-in_err-prices.ensures.1 in
-    rw (p.1, p.2) (wanted_behind _ c.in_err-prices.field-0.0 well)
+pub returns-clause-memory : goal.returns-clause-memory
+returns-clause-memory c = behind _ c.paid_back.result (subst (λ values. prices_excess (legs_in c.args.tables.now) (priced_values c.args.tables.now values (pos 1)) ≡ None) c.as_slice.ensures c.in_ok-before.ensures.prices.0)

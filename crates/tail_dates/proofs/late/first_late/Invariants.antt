@@ -1,5 +1,5 @@
 use Rattle.std.proofs.Common.{ℕ, ◌<◌}
-use Rattle.tail_dates.specs.Placing.{IsLateAt}
+use Rattle.tail_dates.specs.Late.{IsLateAt}
 use Rattle.tail_dates.proofs.late.first_late.Given as goal
 
 abbrev pub invariant-loop-within : goal.invariant-loop-within

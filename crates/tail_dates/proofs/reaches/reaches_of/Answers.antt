@@ -1,9 +1,11 @@
-use Rattle.std.proofs.Common.{◌≡◌, ◌-◌, ◌+◌, ◌*◌, ◌<◌, length, rules, sym, ◌∙◌, ap, subst, arith}
+use Rattle.std.proofs.Common.{◌≡◌, ◌-◌, ◌+◌, ◌*◌, ◌^◌, ◌<◌, length, rules, sym, ◌∙◌, ap, subst, arith}
 use Rattle.lines_of_flying.proofs.TourLines.{known_legs}
 use Rattle.lines_of_flying.specs.Lines.{first_day}
 use Rattle.fleet_model.specs.Schedule.{days_in}
+use Rattle.tail_dates.specs.Late.{AreLessThan}
 use Rattle.tail_dates.specs.Reaches.{maintenance_nights, night_ending, start_line}
 use Rattle.tail_dates.specs.Rounds.{HasMaintenance}
+use Rattle.tail_dates.proofs.AtPlaces.{below_pushed}
 use Rattle.tail_dates.proofs.Nights.{all_nights}
 use Rattle.tail_dates.proofs.Rounds.{kept_has}
 use Rattle.tail_dates.proofs.StartReaches.{first_day_fits, first_few, nights_few, reach_is, reaches_more}
@@ -51,5 +53,10 @@ loop-start-preserved c =
     let line : c.start_line-line.result ≡ start_line c.args.tables.now c.args.day c.loop-start.start = c.start_line-line.ensures.value ∙ ap (start_line c.args.tables.now c.args.day) c.from-in-loop-start.ensures in
     let first : c.len.result - c.from.result + c.start_line-line.result ≡ night_ending c.args.tables.now c.args.fleet c.args.tour.now (start_line c.args.tables.now c.args.day c.loop-start.start) =
     omega (arith, nights, early, line) in
-    reaches_more c.args.tables.now c.args.fleet c.args.tour.now c.args.day c.loop-start.reaches.items c.push.new.self.items c.loop-start.start c.reach.result c.loop-start.invariant c.in_ok-push.ensures.items
-    (reach_is c.args.tables.now c.args.fleet c.args.tour.now c.deref.result.now (start_line c.args.tables.now c.args.day c.loop-start.start) _ c.reach.result same first c.reach.ensures)
+    let few = nights_few c.args.tables.now c.args.plan.now c.args.fleet c.args.tour.now c.requires.tour (omega (arith, c.requires.used)) in
+    record {
+      value = reaches_more c.args.tables.now c.args.fleet c.args.tour.now c.args.day c.loop-start.reaches.items c.push.new.self.items c.loop-start.start c.reach.result c.loop-start.invariant.value c.in_ok-push.ensures.items
+          (reach_is c.args.tables.now c.args.fleet c.args.tour.now c.deref.result.now (start_line c.args.tables.now c.args.day c.loop-start.start) _ c.reach.result same first c.reach.ensures.value);
+      few = subst (AreLessThan (2 ^ 40)) (sym c.in_ok-push.ensures.items)
+          (below_pushed (2 ^ 40) c.loop-start.reaches.items c.reach.result c.loop-start.invariant.few (omega (arith, c.reach.ensures.few, ap length same, few)));
+    }

@@ -1,0 +1,1 @@
+"""Tests of the documents that ask what the sources of crates define."""
