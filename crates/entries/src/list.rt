@@ -3,7 +3,7 @@ ghost use Rattle.std.specs.Prelude.{◌≡◌, ◌<◌, ◌↔◌, [], IsTrue, l
 use std::marker::Model;
 
 /// A list in a public type. Contracts see its entries and nothing of how they lie in memory.
-#[derive(Debug, Drop)]
+#[derive(Drop)]
 pub struct Entries<T> {
     items: Vec<T>,
 }
