@@ -7,7 +7,7 @@ use Rattle.bound_cert.specs.declared.reading.Proof.{Proof}
 use Rattle.dual_bound.proofs.TablesBy.{Fits, tables_by}
 use Rattle.dual_bound.specs.declared.nodes.Node.{Node}
 use Rattle.fleet_model.proofs.PeriodMinutes.{days_are_period}
-use Rattle.fleet_model.specs.Schedule.{days_in, last_of}
+use Rattle.fleet_model.specs.Schedule.{days_in, fleet_names, last_of}
 use Rattle.fleet_model.specs.declared.parts.Departure.{Departure}
 use Rattle.fleet_model.specs.declared.parts.Fleet.{Fleet}
 use Rattle.fleet_model.specs.declared.parts.Leg.{Leg}
@@ -16,7 +16,7 @@ use Rattle.fleet_model.specs.declared.parts.Station.{Station}
 use Rattle.fleet_model.specs.declared.parts.Through.{Through}
 use Rattle.fleet_model.specs.declared.tables.Tables.{Tables}
 use Rattle.proof_lines.specs.Choices.{choice_told}
-use Rattle.proof_lines.specs.Known.{codes_of, fleet_names, flights_of}
+use Rattle.proof_lines.specs.Known.{codes_of, flights_of}
 use Rattle.std.proofs.Common.{◌≡◌, ◌∙◌, Bool, List, None, Option, Some, ap, arith, drop, refl, sym, ℕ, ℤ}
 
 module _ (s : List Station) (f : List Fleet) (l : List Leg) (c : List PairCost) (h : List Through) (d : List Departure) (windows optional : Bool) (a b : Fits s f l c h d windows optional) where

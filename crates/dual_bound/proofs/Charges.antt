@@ -11,11 +11,11 @@ use Rattle.sums.proofs.WholeTerms.{*ℤ-where_true}
 use Rattle.fleet_model.specs.Period.{day_end, days_ended, ends_day, minute_of_day, minutes_of}
 use Rattle.fleet_model.specs.declared.parts.Pair.{Pair}
 use Rattle.fleet_model.specs.declared.tables.Tables.{Tables}
-use Rattle.fleet_model.specs.Schedule.{IsPair, days_in, fleet_by, fleets_in, leg_of, period_of, stations_in}
+use Rattle.fleet_model.specs.Schedule.{IsPair, days_in, fleet_by, fleets_in, leg_of, parking_limit, period_of, stations_in}
 use Rattle.fleet_model.specs.Times.{departure, laps_of, ready_minute}
 use Rattle.fleet_model.proofs.PeriodMinutes.{days_are_period}
 use Rattle.dual_bound.specs.Prices.{AreCharges, charge_of, price_of, rent_of, with_charge}
-use Rattle.dual_bound.specs.Worth.{charges_of, cost_units, less_charges, limit_of, pair_worth, where_flown}
+use Rattle.dual_bound.specs.Worth.{charges_of, cost_units, less_charges, pair_worth, where_flown}
 use Rattle.dual_bound.specs.declared.prices.Prices.{Prices}
 
 -- ---- flown pairs
@@ -72,7 +72,7 @@ no_rise t prices charges s m there within before after le = omega (arith, ints, 
 
 -- what a station is charged by the end of a minute for as many as may stand there
 unfoldable pub charges_at : Tables → Prices → ℕ → ℤ
-charges_at t prices s = sum_below_ℤ (λ m. pos (limit_of t s) *ℤ charge_after prices s m) (period_of t)
+charges_at t prices s = sum_below_ℤ (λ m. pos (parking_limit t s) *ℤ charge_after prices s m) (period_of t)
 
 -- of the minutes of a day the last alone ends it
 ends_last : (d i : ℕ) → i < minutes_of 1 → ends_day (minutes_of d + i) ≡ (day_end 1 == i)
@@ -97,11 +97,11 @@ over_days f n =
 charges_by_minutes : (t : Tables) (prices : Prices) (s : ℕ) → charges_of t prices s ≡ charges_at t prices s
 unfolding charges_at charge_after
 charges_by_minutes t prices s =
-    sym (over_days (λ d. charge_of prices s d *ℤ pos (limit_of t s)) (days_in t))
-    ∙ ap (sum_below_ℤ (λ m. where_true (ends_day m) (charge_of prices s (days_ended m) *ℤ pos (limit_of t s)))) (sym (days_are_period t))
-    ∙ sum_below_ℤ-same _ (λ m. pos (limit_of t s) *ℤ where_true (ends_day m) (charge_of prices s (days_ended m))) (period_of t) (λ m below.
-    ap (where_true (ends_day m)) (*ℤ_comm (charge_of prices s (days_ended m)) (pos (limit_of t s)))
-    ∙ sym (*ℤ-where_true (pos (limit_of t s)) (ends_day m) (charge_of prices s (days_ended m))))
+    sym (over_days (λ d. charge_of prices s d *ℤ pos (parking_limit t s)) (days_in t))
+    ∙ ap (sum_below_ℤ (λ m. where_true (ends_day m) (charge_of prices s (days_ended m) *ℤ pos (parking_limit t s)))) (sym (days_are_period t))
+    ∙ sum_below_ℤ-same _ (λ m. pos (parking_limit t s) *ℤ where_true (ends_day m) (charge_of prices s (days_ended m))) (period_of t) (λ m below.
+    ap (where_true (ends_day m)) (*ℤ_comm (charge_of prices s (days_ended m)) (pos (parking_limit t s)))
+    ∙ sym (*ℤ-where_true (pos (parking_limit t s)) (ends_day m) (charge_of prices s (days_ended m))))
 
 pub less_charges_is : (t : Tables) (prices : Prices) (z : ℤ) → less_charges t prices z ≡ z -ℤ sum_below_ℤ (charges_at t prices) (stations_in t)
 unfolding less_charges

@@ -8,9 +8,9 @@ use Rattle.sums.proofs.WholeSums.{sum_below_ℤ-same}
 use Rattle.sums.proofs.WholeSwaps.{sum_below_ℤ-zero}
 use Rattle.sums.proofs.WholeTerms.{at_least_0}
 use Rattle.fleet_model.specs.declared.tables.Tables.{Tables}
-use Rattle.fleet_model.specs.Schedule.{days_in, stations_in}
+use Rattle.fleet_model.specs.Schedule.{days_in, parking_limit, stations_in}
 use Rattle.dual_bound.specs.Prices.{AreCharges, charge_of, last_charge}
-use Rattle.dual_bound.specs.Worth.{charges_of, less_charges, limit_of}
+use Rattle.dual_bound.specs.Worth.{charges_of, less_charges}
 use Rattle.dual_bound.specs.WrittenOrder.{AreChargesInOrder, IsChargeInOrder}
 use Rattle.dual_bound.specs.declared.prices.Prices.{Prices}
 
@@ -35,8 +35,8 @@ none_in_order t prices none = subst (AreChargesInOrder t) (sym none) (record { e
 pub no_charges : (t : Tables) (prices : Prices) (z : ℤ) → prices.charges ≡ [] → less_charges t prices z ≡ z
 unfolding less_charges
 no_charges t prices z none =
-    let station = λ (s : ℕ). sum_below_ℤ-same (λ d. charge_of prices s (d + 1) *ℤ pos (limit_of t s)) (λ d. pos 0) (days_in t)
-    (λ d below. ap (λ x. x *ℤ pos (limit_of t s)) (none_charged prices none s (d + 1)) ∙ zero-*ℤ (pos (limit_of t s))) ∙ sum_below_ℤ-zero (days_in t) in
+    let station = λ (s : ℕ). sum_below_ℤ-same (λ d. charge_of prices s (d + 1) *ℤ pos (parking_limit t s)) (λ d. pos 0) (days_in t)
+    (λ d below. ap (λ x. x *ℤ pos (parking_limit t s)) (none_charged prices none s (d + 1)) ∙ zero-*ℤ (pos (parking_limit t s))) ∙ sum_below_ℤ-zero (days_in t) in
     let all = sum_below_ℤ-same (charges_of t prices) (λ s. pos 0) (stations_in t) (λ s below. station s) ∙ sum_below_ℤ-zero (stations_in t) in
     omega (arith, ints, all)
 
@@ -44,8 +44,8 @@ no_charges t prices z none =
 pub charged_less : (t : Tables) (prices : Prices) (z : ℤ) → AreCharges t prices → less_charges t prices z ≤ℤ z
 unfolding less_charges
 charged_less t prices z charges =
-    let all = at_least_0 (charges_of t prices) (stations_in t) (λ s there. at_least_0 (λ d. charge_of prices s (d + 1) *ℤ pos (limit_of t s)) (days_in t)
-    (λ d below. some (limit_of t s) (charge_of prices s (d + 1)) (charges s (d + 1) there (omega arith) (omega (arith, below))).some)) in
+    let all = at_least_0 (charges_of t prices) (stations_in t) (λ s there. at_least_0 (λ d. charge_of prices s (d + 1) *ℤ pos (parking_limit t s)) (days_in t)
+    (λ d below. some (parking_limit t s) (charge_of prices s (d + 1)) (charges s (d + 1) there (omega arith) (omega (arith, below))).some)) in
     omega (arith, ints, all)
   where
     some : (n : ℕ) (charge : ℤ) → pos 0 ≤ℤ charge → pos 0 ≤ℤ (charge *ℤ pos n)

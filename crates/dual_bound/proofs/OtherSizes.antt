@@ -17,12 +17,12 @@ use Rattle.fleet_model.specs.Kept.{Domains}
 use Rattle.fleet_model.specs.OtherSizes.{IsOtherSize}
 use Rattle.fleet_model.specs.Sizes.{HoldsBy}
 use Rattle.fleet_model.specs.declared.sizes.Sizes.{Sizes}
-use Rattle.fleet_model.specs.Schedule.{choices_in, days_in, fleets_in, leg_on, legs_in, no_leg, period_of, stations_in}
+use Rattle.fleet_model.specs.Schedule.{choices_in, days_in, fleets_in, leg_on, legs_in, no_leg, parking_limit, period_of, stations_in}
 use Rattle.fleet_model.proofs.BySizes.{holds_too}
 use Rattle.fleet_model.proofs.OtherSizes.{aircraft_elsewhere, aircraft_there, choices_same, cost_same, days_same, departure_same, fleet_by_same, fleets_same, laps_same, legs_same, parking_same, period_same, ready_same, stations_same}
 use Rattle.dual_bound.specs.Prices.{ArePrices, charge_of, price_of, rent_of, with_charge}
 use Rattle.dual_bound.specs.Sizes.{IsUpTo}
-use Rattle.dual_bound.specs.Worth.{charges_of, least_below, leg_worth, less_charges, limit_of, pair_worth, rents_of, worth_of}
+use Rattle.dual_bound.specs.Worth.{charges_of, least_below, leg_worth, less_charges, pair_worth, rents_of, worth_of}
 use Rattle.dual_bound.specs.declared.prices.Prices.{Prices}
 use Rattle.dual_bound.proofs.Numbers.{held, is_held, many, taken}
 
@@ -107,7 +107,7 @@ module _ (t : Tables) (fleet count : ℕ) (u : Tables) (is : IsOtherSize t fleet
         station : (s : ℕ) → charges_of u prices s ≡ charges_of t prices s
         station s =
             ap (λ o. sum_below_ℤ (λ d. charge_of prices s (d + 1) *ℤ pos (unwrap_or o 0)) (days_in u)) (parking_same t fleet count u is s)
-            ∙ ap (sum_below_ℤ (λ d. charge_of prices s (d + 1) *ℤ pos (limit_of t s))) (days_same t fleet count u is)
+            ∙ ap (sum_below_ℤ (λ d. charge_of prices s (d + 1) *ℤ pos (parking_limit t s))) (days_same t fleet count u is)
 
     -- the fleet's rents are for so many aircraft in the place of its own
     pub worth_other : fleet < fleets_in t → worth_of u keeps prices k ≡ (worth_of t keeps prices k +ℤ rents_of t prices fleet) -ℤ (rent_of prices fleet *ℤ pos count)

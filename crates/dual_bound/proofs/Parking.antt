@@ -14,10 +14,9 @@ use Rattle.fleet_model.specs.Period.{days_ended, ends_day, minute_of_day}
 use Rattle.fleet_model.specs.declared.tables.Tables.{Tables}
 use Rattle.fleet_model.specs.Counts.{Weights}
 use Rattle.fleet_model.specs.Legal.{HasRoom}
-use Rattle.fleet_model.specs.Schedule.{day_end, fleets_in, parking_of, period_of, stations_in}
+use Rattle.fleet_model.specs.Schedule.{day_end, fleets_in, parking_limit, parking_of, period_of, stations_in}
 use Rattle.fleet_model.specs.Use.{parked, stand_of}
 use Rattle.dual_bound.specs.Prices.{AreCharges, IsCharge, charge_of}
-use Rattle.dual_bound.specs.Worth.{limit_of}
 use Rattle.dual_bound.specs.declared.prices.Prices.{Prices}
 use Rattle.dual_bound.proofs.Charges.{charge_after, charges_at, day_within, some_day}
 use Rattle.dual_bound.proofs.Flows.{charges_for}
@@ -35,16 +34,16 @@ module _ (t : Tables) (prices : Prices) (charges : AreCharges t prices) (q : ℕ
   unfolding all_stand parked
   standing_then s m ends = ap (λ n. sum_below (λ f. stand_of t w f s n) (fleets_in t)) (last_of_day m ends)
 
-  at_minute : (s m : ℕ) → s < stations_in t → m < period_of t → (pos (all_stand s m) *ℤ charge_after prices s m) ≤ℤ (pos q *ℤ (pos (limit_of t s) *ℤ charge_after prices s m))
+  at_minute : (s m : ℕ) → s < stations_in t → m < period_of t → (pos (all_stand s m) *ℤ charge_after prices s m) ≤ℤ (pos q *ℤ (pos (parking_limit t s) *ℤ charge_after prices s m))
   unfolding charge_after
   at_minute s m there below = by_test (ends_day m) (λ e. at_end e) (λ e. none e)
     where
       none : (ends_day m) ≡ false → (pos (all_stand s m) *ℤ where_true (ends_day m) (charge_of prices s (days_ended m)))
-          ≤ℤ (pos q *ℤ (pos (limit_of t s) *ℤ where_true (ends_day m) (charge_of prices s (days_ended m))))
-      none e = rw e (omega (arith, ints, *ℤ-zero (pos (all_stand s m)), *ℤ-zero (pos (limit_of t s)), *ℤ-zero (pos q), ap (λ x. pos q *ℤ x) (*ℤ-zero (pos (limit_of t s)))))
+          ≤ℤ (pos q *ℤ (pos (parking_limit t s) *ℤ where_true (ends_day m) (charge_of prices s (days_ended m))))
+      none e = rw e (omega (arith, ints, *ℤ-zero (pos (all_stand s m)), *ℤ-zero (pos (parking_limit t s)), *ℤ-zero (pos q), ap (λ x. pos q *ℤ x) (*ℤ-zero (pos (parking_limit t s)))))
 
       at_end : (ends_day m) ≡ true → (pos (all_stand s m) *ℤ where_true (ends_day m) (charge_of prices s (days_ended m)))
-          ≤ℤ (pos q *ℤ (pos (limit_of t s) *ℤ where_true (ends_day m) (charge_of prices s (days_ended m))))
+          ≤ℤ (pos q *ℤ (pos (parking_limit t s) *ℤ where_true (ends_day m) (charge_of prices s (days_ended m))))
       at_end e = rw e (by_limit (parking_of t s) refl)
         where
           d : ℕ
@@ -53,11 +52,11 @@ module _ (t : Tables) (prices : Prices) (charges : AreCharges t prices) (q : ℕ
           charge : IsCharge t prices s (days_ended m)
           charge = charges s (days_ended m) there (some_day m (eqb-true _ _ e)) (day_within t m below (eqb-true _ _ e))
 
-          by_limit : (o : Option ℕ) → parking_of t s ≡ o → (pos (all_stand s m) *ℤ charge_of prices s (days_ended m)) ≤ℤ (pos q *ℤ (pos (limit_of t s) *ℤ charge_of prices s (days_ended m)))
+          by_limit : (o : Option ℕ) → parking_of t s ≡ o → (pos (all_stand s m) *ℤ charge_of prices s (days_ended m)) ≤ℤ (pos q *ℤ (pos (parking_limit t s) *ℤ charge_of prices s (days_ended m)))
           by_limit None is =
               let free : charge_of prices s (days_ended m) ≡ pos 0 = charge.only_limited is in
               let left = ap (λ z. pos (all_stand s m) *ℤ z) free ∙ *ℤ-zero (pos (all_stand s m)) in
-              let right = ap (λ z. pos q *ℤ (pos (limit_of t s) *ℤ z)) free ∙ ap (λ z. pos q *ℤ z) (*ℤ-zero (pos (limit_of t s))) ∙ *ℤ-zero (pos q) in
+              let right = ap (λ z. pos q *ℤ (pos (parking_limit t s) *ℤ z)) free ∙ ap (λ z. pos q *ℤ z) (*ℤ-zero (pos (parking_limit t s))) ∙ *ℤ-zero (pos q) in
               omega (arith, ints, left, right)
           by_limit (Some limit) is =
               let few = room.each s d limit there (some_day m (eqb-true _ _ e)) (day_within t m below (eqb-true _ _ e)) is in
@@ -66,15 +65,15 @@ module _ (t : Tables) (prices : Prices) (charges : AreCharges t prices) (q : ℕ
               let same = ap (λ n. pos q *ℤ (pos n *ℤ charge_of prices s d)) (limit_is is) ∙ sym (*ℤ_assoc (pos q) (pos limit) (charge_of prices s d)) in
               omega (arith, ints, more, same)
             where
-              limit_is : parking_of t s ≡ Some limit → limit_of t s ≡ limit
+              limit_is : parking_of t s ≡ Some limit → parking_limit t s ≡ limit
               limit_is is = ap (λ o. unwrap_or o 0) is
 
   at_station : (s : ℕ) → s < stations_in t → sum_below_ℤ (λ m. pos (all_stand s m) *ℤ charge_after prices s m) (period_of t) ≤ℤ (pos q *ℤ charges_at t prices s)
   unfolding charges_at
   at_station s there =
-      let each = sum_below_ℤ-le (λ m. pos (all_stand s m) *ℤ charge_after prices s m) (λ m. pos q *ℤ (pos (limit_of t s) *ℤ charge_after prices s m)) (period_of t) (λ m below. at_minute s m there below) in
+      let each = sum_below_ℤ-le (λ m. pos (all_stand s m) *ℤ charge_after prices s m) (λ m. pos q *ℤ (pos (parking_limit t s) *ℤ charge_after prices s m)) (period_of t) (λ m below. at_minute s m there below) in
       subst (λ z. sum_below_ℤ (λ m. pos (all_stand s m) *ℤ charge_after prices s m) (period_of t) ≤ℤ z)
-      (sym (*ℤ-sum_below_ℤ (pos q) (λ m. pos (limit_of t s) *ℤ charge_after prices s m) (period_of t))) each
+      (sym (*ℤ-sum_below_ℤ (pos q) (λ m. pos (parking_limit t s) *ℤ charge_after prices s m) (period_of t))) each
 
   -- fleet by fleet or station by station
   by_station : sum_below_ℤ (charges_for t prices w) (fleets_in t) ≡ sum_below_ℤ (λ s. sum_below_ℤ (λ m. pos (all_stand s m) *ℤ charge_after prices s m) (period_of t)) (stations_in t)

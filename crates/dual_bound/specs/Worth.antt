@@ -4,7 +4,7 @@ use Rattle.std.specs.Prelude.{ℕ, zero, suc, ◌+◌, Bool, if◌then◌else◌
 use Rattle.sums.specs.Below.{sum_below_ℤ}
 use Rattle.fleet_model.specs.Kept.{Domains}
 use Rattle.fleet_model.specs.Legal.{cost_of}
-use Rattle.fleet_model.specs.Schedule.{choices_in, days_in, fleet_by, fleet_of, fleets_in, leg_of, leg_on, legs_in, parking_of, stations_in}
+use Rattle.fleet_model.specs.Schedule.{choices_in, days_in, fleet_by, fleet_of, fleets_in, leg_of, leg_on, legs_in, parking_limit, stations_in}
 use Rattle.fleet_model.specs.Times.{departure, laps_of, ready_minute}
 use Rattle.fleet_model.specs.declared.parts.Pair.{Pair}
 use Rattle.fleet_model.specs.declared.tables.Tables.{Tables}
@@ -45,13 +45,9 @@ leg_worth t keeps prices k l = unwrap_or (least_below (λ c. keeps (leg_on l c))
 abbrev pub rents_of : Tables → Prices → ℕ → ℤ
 rents_of t prices f = rent_of prices f *ℤ pos (fleet_of t f).aircraft
 
--- how many aircraft may stand at a station at the end of a day, and 0 where there is no limit and so no charge
-abbrev pub limit_of : Tables → ℕ → ℕ
-limit_of t s = unwrap_or (parking_of t s) 0
-
 -- the charges of a station at the ends of all days, each for as many aircraft as may stand there
 abbrev pub charges_of : Tables → Prices → ℕ → ℤ
-charges_of t prices s = sum_below_ℤ (λ d. charge_of prices s (d + 1) *ℤ pos (limit_of t s)) (days_in t)
+charges_of t prices s = sum_below_ℤ (λ d. charge_of prices s (d + 1) *ℤ pos (parking_limit t s)) (days_in t)
 
 -- what is left of worth when the charges of all stations are taken off
 unfoldable pub less_charges : Tables → Prices → ℤ → ℤ

@@ -1,10 +1,10 @@
 //! What charges take off the worth of prices.
 ghost use Rattle.std.specs.Prelude.{◌≡◌, ◌<◌, ◌≤◌, ◌+◌, ◌*◌, ◌*ℤ◌, pos};
 ghost use Rattle.sums.specs.Below.{sum_below_ℤ};
-ghost use Rattle.fleet_model.specs.Schedule.{days_in, stations_in};
+ghost use Rattle.fleet_model.specs.Schedule.{days_in, parking_limit, stations_in};
 ghost use Rattle.dual_bound.specs.Prices.{AreWithin, charge_of};
 ghost use Rattle.dual_bound.specs.Sizes.{IsUpTo};
-ghost use Rattle.dual_bound.specs.Worth.{charges_of, limit_of};
+ghost use Rattle.dual_bound.specs.Worth.{charges_of};
 
 use crate::price_finder::PriceFinder;
 use fleet_model::Tables;
@@ -42,7 +42,7 @@ fn day_charges(tables: &Tables, prices: &PriceFinder<'_>, station: u32, day: u32
     requires station { station < stations_in tables.now }
     requires first { 1 ≤ day }
     requires day { day ≤ days_in tables.now }
-    ensures value { result ≡ charge_of prices.now station day *ℤ pos (limit_of tables.now station) }
+    ensures value { result ≡ charge_of prices.now station day *ℤ pos (parking_limit tables.now station) }
     ensures size { IsUpTo 10000 result }
 {
     charge(tables, prices, station, day) * i128::from(limit(tables, station))
@@ -51,7 +51,7 @@ fn day_charges(tables: &Tables, prices: &PriceFinder<'_>, station: u32, day: u32
 // How many aircraft may stand at a station at the end of a day, and 0 where there is no limit.
 fn limit(tables: &Tables, station: u32) -> u32
     requires { station < stations_in tables.now }
-    ensures value { result ≡ limit_of tables.now station }
+    ensures value { result ≡ parking_limit tables.now station }
     ensures few { result ≤ 10000 }
 {
     tables.parking(station).unwrap_or(0)

@@ -11,9 +11,8 @@ ghost use Rattle.fleet_cli.specs.Texts.{unknown_fleet_text};
 ghost use Rattle.fleet_cli.specs.declared.status.TheConstants.{REFUSED};
 ghost use Rattle.fleet_model.specs.Kept.{all_pairs};
 ghost use Rattle.fleet_model.specs.Limits.{AreSettings};
-ghost use Rattle.fleet_model.specs.Schedule.{fleets_in};
+ghost use Rattle.fleet_model.specs.Schedule.{fleet_names, fleets_in};
 ghost use Rattle.fleet_model.specs.declared.limits.TheConstants.{MAX_AIRCRAFT};
-ghost use Rattle.plan_text.specs.Reading.{fleet_names};
 
 use crate::answer::Answer;
 use crate::checking::{answered, open_proof};

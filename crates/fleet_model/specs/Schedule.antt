@@ -1,5 +1,5 @@
 -- The parts of tables by their numbers, the period, and the words in which a leg's choices and departures are told.
-use Rattle.std.specs.Prelude.{ℕ, ◌+◌, ◌-◌, ◌*◌, ◌/◌, ◌%◌, ◌<◌, [], length, slice_index_or, false, if◌then◌else◌, Option, None}
+use Rattle.std.specs.Prelude.{ℕ, ◌+◌, ◌-◌, ◌*◌, ◌/◌, ◌%◌, ◌<◌, List, [], length, map, slice_index_or, false, if◌then◌else◌, Option, None, unwrap_or}
 use Rattle.fleet_model.specs.Period.{minutes_of}
 use Rattle.fleet_model.specs.declared.parts.Station.{Station}
 use Rattle.fleet_model.specs.declared.parts.Fleet.{Fleet}
@@ -36,6 +36,10 @@ fleets_in t = length t.fleets
 abbrev pub legs_in : Tables → ℕ
 legs_in t = length t.legs
 
+-- the names of the fleets, by their numbers
+abbrev pub fleet_names : Tables → List (List ℕ)
+fleet_names t = map (λ fleet. fleet.name) t.fleets
+
 -- ---- the period
 -- how many days the period has
 unfoldable pub days_in : Tables → ℕ
@@ -51,6 +55,10 @@ last_of t = period_of t - 1
 -- how many aircraft may stand at a station at the end of a day, where there is a limit
 unfoldable pub parking_of : Tables → ℕ → Option ℕ
 parking_of t s = (station_of t s).parking
+
+-- that limit, and 0 where there is none
+abbrev pub parking_limit : Tables → ℕ → ℕ
+parking_limit t s = unwrap_or (parking_of t s) 0
 
 -- ---- choices: what an assignment chooses of for each leg
 -- how many times a leg has

@@ -17,7 +17,8 @@ use Rattle.ground_turns.proofs.Rounds.{bit}
 pub key_by : ℕ → (ℕ → ℕ) → ℕ → ℕ
 key_by n minute q = minute q * n + q
 
-lower_row : (m m' n q : ℕ) → m < m' → q < n → m * n + q < m' * n
+-- a place of a row lies before the end of all rows
+pub lower_row : (m m' n q : ℕ) → m < m' → q < n → m * n + q < m' * n
 lower_row m m' n q less within =
     let rows : n * suc m ≤ n * m' = mul-le-mul_left n less in
     let first : n * suc m ≡ m * n + n = one_more n m in

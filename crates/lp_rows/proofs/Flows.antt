@@ -10,7 +10,7 @@ use Rattle.fleet_model.specs.declared.tables.Tables.{Tables}
 use Rattle.fleet_model.specs.Counts.{Weights, arrived, departed}
 use Rattle.fleet_model.specs.Kept.{Domains}
 use Rattle.fleet_model.specs.Mixed.{IsMixedPlan, weight_on}
-use Rattle.fleet_model.specs.Schedule.{day_end, days_in, departures_in, fleet_of, fleets_in, last_of, legs_in, stations_in}
+use Rattle.fleet_model.specs.Schedule.{day_end, days_in, departures_in, fleet_of, fleets_in, last_of, legs_in, parking_limit, stations_in}
 use Rattle.fleet_model.specs.Legal.{HasRoom}
 use Rattle.fleet_model.specs.Use.{excess, laps_flown, need_of, parked, stand_of, used_of}
 use Rattle.node_aggregate.specs.Laws.{WeighKept, excess_at_end}
@@ -21,7 +21,7 @@ use Rattle.lp_rows.specs.declared.kinds.Node.{Node}
 use Rattle.lp_rows.specs.declared.kinds.Park.{Park}
 use Rattle.lp_rows.specs.declared.kinds.Column.{Column}
 use Rattle.lp_rows.specs.declared.kinds.Column.TheVariants.{Flight, Ground, Room, Slack}
-use Rattle.lp_rows.specs.Entries.{IsNode, IsPark, limit_of}
+use Rattle.lp_rows.specs.Entries.{IsNode, IsPark}
 use Rattle.lp_rows.specs.Layout.{IsNetwork, Starts, node_at, parking_days}
 use Rattle.lp_rows.proofs.LineSums.{coming_to, last_arc, leaving_from, night_arc}
 use Rattle.lp_rows.proofs.NightArcs.{night_arc_is, night_node}
@@ -39,7 +39,7 @@ pub record IsFlow (t : Tables) (starts : Starts) (q : ℕ) (v : Column → ℕ) 
       → sum_below (coming_to t starts (flown v) n) (departures_in t) + v (Ground (node_at n.fleet n.station (place_before (length (starts n.fleet n.station)) n.place)))
       ≡ sum_below (leaving_from t starts (flown v) n) (departures_in t) + v (Ground n)
   pub count : (f : ℕ) → f < fleets_in t → laps_flown t (flown v) f + sum_below (last_arc starts v f) (stations_in t) + v (Slack f) ≡ q * (fleet_of t f).aircraft
-  pub room : (p : Park) → IsPark t p → sum_below (night_arc t starts v p.station p.day) (fleets_in t) + v (Room p) ≡ q * limit_of t p.station
+  pub room : (p : Park) → IsPark t p → sum_below (night_arc t starts v p.station p.day) (fleets_in t) + v (Room p) ≡ q * parking_limit t p.station
 
 -- the last arc, where there is a node, and where there is none
 pub last_is : (starts : Starts) (v : Column → ℕ) (f s : ℕ) → 0 < length (starts f s) → last_arc starts v f s ≡ v (Ground (node_at f s (length (starts f s) - 1)))

@@ -16,7 +16,7 @@ use Rattle.fleet_model.specs.declared.tables.Tables.{Tables}
 use Rattle.fleet_model.specs.Counts.{Weights, arrived, departed}
 use Rattle.fleet_model.specs.Kept.{Domains}
 use Rattle.fleet_model.specs.Mixed.{IsMixedPlan, weight_on}
-use Rattle.fleet_model.specs.Schedule.{IsPair, choices_in, day_end, days_in, departures_in, fleet_of, fleets_in, last_of, leg_on, legs_in, parking_of, period_of, stations_in}
+use Rattle.fleet_model.specs.Schedule.{IsPair, choices_in, day_end, days_in, departures_in, fleet_of, fleets_in, last_of, leg_on, legs_in, parking_limit, parking_of, period_of, stations_in}
 use Rattle.fleet_model.specs.Use.{laps_flown, need_of, parked, stand_of, used_of}
 use Rattle.fleet_model.proofs.PeriodMinutes.{last_in}
 use Rattle.fleet_model.proofs.UseLaws.{need_suffices}
@@ -29,7 +29,7 @@ use Rattle.lp_rows.specs.declared.kinds.Column.{Column}
 use Rattle.lp_rows.specs.declared.kinds.Column.TheVariants.{Flight, Ground, Room, Slack}
 use Rattle.lp_rows.specs.declared.kinds.Line.{Line}
 use Rattle.lp_rows.specs.declared.kinds.Line.TheVariants.{Cover, Balance, Count, Parking}
-use Rattle.lp_rows.specs.Entries.{IsLine, IsPark, entry_of, limit_of, right_side_of}
+use Rattle.lp_rows.specs.Entries.{IsLine, IsPark, entry_of, right_side_of}
 use Rattle.lp_rows.specs.Layout.{IsNetwork, Starts, arc_stays, columns_of, lines_of, moment_at, node_at, parking_days}
 use Rattle.lp_rows.specs.Points.{PlansArePoints, column_at, same_column, value_of}
 use Rattle.lp_rows.proofs.Flows.{IsFlow, before_next, flown, last_is, no_last}
@@ -46,7 +46,7 @@ abbrev pub plan_value : Tables → Starts → ℕ → Weights → Column → ℕ
 plan_value t starts q w (Flight p) = w p
 plan_value t starts q w (Ground n) = stand_of t w n.fleet n.station (end_in t (starts n.fleet n.station) n.place)
 plan_value t starts q w (Slack f) = q * (fleet_of t f).aircraft - used_of t w f
-plan_value t starts q w (Room p) = q * limit_of t p.station - parked t w p.station p.day
+plan_value t starts q w (Room p) = q * parking_limit t p.station - parked t w p.station p.day
 
 module _ (t : Tables) (keeps : Domains) (starts : Starts) (q : ℕ) (w : Weights) (network : IsNetwork t keeps starts) (plan : IsMixedPlan t keeps q w) where
   weighs_kept : WeighKept t keeps w
@@ -127,14 +127,14 @@ module _ (t : Tables) (keeps : Domains) (starts : Starts) (q : ℕ) (w : Weights
   has_limit (Some limit) n d first inside = refl
   has_limit None n d first inside = absurd (omega (arith, first, inside))
 
-  roomed : (p : Park) → IsPark t p → sum_below (night_arc t starts (plan_value t starts q w) p.station p.day) (fleets_in t) + plan_value t starts q w (Room p) ≡ q * limit_of t p.station
+  roomed : (p : Park) → IsPark t p → sum_below (night_arc t starts (plan_value t starts q w) p.station p.day) (fleets_in t) + plan_value t starts q w (Room p) ≡ q * parking_limit t p.station
   unfolding parked
   roomed p known =
       omega (
         arith,
         sum_below-agree (night_arc t starts (plan_value t starts q w) p.station p.day) (λ f. stand_of t w f p.station (day_end p.day)) (fleets_in t)
             (record { each = λ f less. arc_is_stand f p.station p.day less known.station known.some known.day }),
-        plan.room.each p.station p.day (limit_of t p.station) known.station known.some (within_days t p.station p.day known.day) (has_limit (parking_of t p.station) (days_in t) p.day known.some known.day),
+        plan.room.each p.station p.day (parking_limit t p.station) known.station known.some (within_days t p.station p.day known.day) (has_limit (parking_of t p.station) (days_in t) p.day known.some known.day),
       )
 
   plan_is_flow : IsFlow t starts q (plan_value t starts q w)
@@ -179,7 +179,7 @@ flow_meets t keeps starts q v weigh stand flow (Count f) known =
     count_sum t keeps starts v weigh stand f known
     ∙ to_product (laps_flown t (flown v) f + sum_below (last_arc starts v f) (stations_in t) + v (Slack f)) (fleet_of t f).aircraft q (flow.count f known)
 flow_meets t keeps starts q v weigh stand flow (Parking p) known =
-    parking_sum t keeps starts v weigh stand p known ∙ to_product (sum_below (night_arc t starts v p.station p.day) (fleets_in t) + v (Room p)) (limit_of t p.station) q (flow.room p known)
+    parking_sum t keeps starts v weigh stand p known ∙ to_product (sum_below (night_arc t starts v p.station p.day) (fleets_in t) + v (Room p)) (parking_limit t p.station) q (flow.room p known)
 
 masked_tests : (k a b : Bool) (y : ℕ) → where_true k (pos (if a && b then y else 0)) ≡ where_true a (where_true b (where_true k (pos y)))
 masked_tests true true true y = refl

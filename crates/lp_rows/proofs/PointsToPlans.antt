@@ -10,14 +10,14 @@ use Rattle.fleet_model.specs.declared.tables.Tables.{Tables}
 use Rattle.fleet_model.specs.Kept.{Domains}
 use Rattle.fleet_model.specs.Legal.{cost_of}
 use Rattle.fleet_model.specs.Mixed.{mixed_cost, weight_on, weighted_cost}
-use Rattle.fleet_model.specs.Schedule.{departures_in, fleet_of, fleets_in, stations_in}
+use Rattle.fleet_model.specs.Schedule.{departures_in, fleet_of, fleets_in, parking_limit, stations_in}
 use Rattle.fleet_model.specs.Use.{laps_flown}
 use Rattle.node_aggregate.specs.Laws.{WeighKept}
 use Rattle.lp_rows.specs.declared.kinds.Column.{Column}
 use Rattle.lp_rows.specs.declared.kinds.Column.TheVariants.{Ground, Room, Slack}
 use Rattle.lp_rows.specs.declared.kinds.Line.{Line}
 use Rattle.lp_rows.specs.declared.kinds.Line.TheVariants.{Cover, Balance, Count, Parking}
-use Rattle.lp_rows.specs.Entries.{IsLine, column_cost, entry_of, limit_of, right_side_of}
+use Rattle.lp_rows.specs.Entries.{IsLine, column_cost, entry_of, right_side_of}
 use Rattle.lp_rows.specs.Layout.{Starts, columns_of, node_at}
 use Rattle.lp_rows.specs.Points.{PointsArePlans, PointsCostAsPlans, value_of}
 use Rattle.lp_rows.proofs.Flows.{IsFlow, flow_is_plan, flown}
@@ -47,7 +47,7 @@ lines_are_flow t keeps starts q v weigh stand meets = record {
       (sym (balance_sum t keeps starts v weigh stand n node) ∙ meets.each (Balance n) node);
   count = λ f known. as_product (laps_flown t (flown v) f + sum_below (last_arc starts v f) (stations_in t) + v (Slack f)) (fleet_of t f).aircraft q
       (sym (count_sum t keeps starts v weigh stand f known) ∙ meets.each (Count f) known);
-  room = λ p known. as_product (sum_below (night_arc t starts v p.station p.day) (fleets_in t) + v (Room p)) (limit_of t p.station) q
+  room = λ p known. as_product (sum_below (night_arc t starts v p.station p.day) (fleets_in t) + v (Room p)) (parking_limit t p.station) q
       (sym (parking_sum t keeps starts v weigh stand p known) ∙ meets.each (Parking p) known);
 }
 

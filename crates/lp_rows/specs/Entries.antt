@@ -3,7 +3,7 @@ use Rattle.std.specs.Prelude.{ℕ, ◌+◌, ◌<◌, ◌≤◌, Bool, ◌==◌, 
 use Rattle.fleet_model.specs.declared.parts.Pair.{Pair}
 use Rattle.fleet_model.specs.declared.tables.Tables.{Tables}
 use Rattle.fleet_model.specs.Legal.{cost_of}
-use Rattle.fleet_model.specs.Schedule.{IsPair, day_end, fleet_by, fleet_of, fleets_in, leg_of, legs_in, parking_of, stations_in}
+use Rattle.fleet_model.specs.Schedule.{IsPair, day_end, fleet_by, fleet_of, fleets_in, leg_of, legs_in, parking_limit, stations_in}
 use Rattle.fleet_model.specs.Times.{departure, laps_of, ready_minute}
 use Rattle.node_aggregate.specs.Nodes.{end_in}
 use Rattle.lp_rows.specs.declared.kinds.Node.{Node}
@@ -112,16 +112,12 @@ entry_of t starts (Balance n) column = balance_entry t starts n column
 entry_of t starts (Count f) column = count_entry t starts f column
 entry_of t starts (Parking p) column = parking_entry t starts p column
 
--- the limit of a station that has one
-abbrev pub limit_of : Tables → ℕ → ℕ
-limit_of t s = unwrap_or (parking_of t s) 0
-
 -- what a line is to come to
 abbrev pub right_side_of : Tables → Line → ℤ
 right_side_of t (Cover l) = pos 1
 right_side_of t (Balance n) = pos 0
 right_side_of t (Count f) = pos (fleet_of t f).aircraft
-right_side_of t (Parking p) = pos (limit_of t p.station)
+right_side_of t (Parking p) = pos (parking_limit t p.station)
 
 -- what a column costs: the pair's cost, and 0 on the ground
 abbrev pub column_cost : Tables → Column → ℤ

@@ -11,7 +11,7 @@ use Rattle.sums.proofs.Places.{all_nothing, first_found, nothing_at}
 use Rattle.sums.proofs.Tests.{none_some, parts_true, some_is, unlike}
 use Rattle.entries.specs.Names.{IsName}
 use Rattle.fleet_model.specs.Limits.{IsShift}
-use Rattle.fleet_model.specs.Schedule.{choices_in, fleet_by, fleet_of, fleets_in, left_out, leg_of, leg_on, legs_in, no_fleet, no_leg, own_shift, shift_by, shifts_in, slot_by}
+use Rattle.fleet_model.specs.Schedule.{choices_in, fleet_by, fleet_names, fleet_of, fleets_in, left_out, leg_of, leg_on, legs_in, no_fleet, no_leg, own_shift, shift_by, shifts_in, slot_by}
 use Rattle.fleet_model.specs.declared.parts.Pair.{Pair}
 use Rattle.fleet_model.specs.declared.shifts.Shift.{Shift}
 use Rattle.fleet_model.specs.declared.tables.Tables.{Tables}
@@ -20,7 +20,7 @@ use Rattle.fleet_model.proofs.FewChoices.{few_choices}
 use Rattle.fleet_model.proofs.LeftOut.{last_choice}
 use Rattle.table_rows.specs.Names.{number_of}
 use Rattle.table_rows.proofs.FrontReading.{bytes_eq-self}
-use Rattle.plan_text.specs.Reading.{choice_with, fleet_names, has_minutes, has_texts, slot_with}
+use Rattle.plan_text.specs.Reading.{choice_with, has_minutes, has_texts, slot_with}
 use Rattle.plan_text.specs.Text.{fleet_text, minutes_by, shift_text}
 use Rattle.plan_text.proofs.FleetNames.{named, numbered}
 

@@ -6,12 +6,11 @@ use Rattle.std.proofs.lemmas.Bool.{cases_Bool, lt-ltb, ltb-true}
 use Rattle.std.proofs.lemmas.List.{get_or-map, length-map}
 use Rattle.std.proofs.lemmas.List.Sums.{passes_at_first, position_or_len_is}
 use Rattle.std.proofs.lemmas.Slice.Eq.{bytes_eq-Decides}
-use Rattle.fleet_model.specs.Schedule.{fleet_of, fleets_in, no_fleet}
+use Rattle.fleet_model.specs.Schedule.{fleet_names, fleet_of, fleets_in, no_fleet}
 use Rattle.fleet_model.specs.declared.tables.Tables.{Tables}
 use Rattle.table_rows.specs.Names.{number_of}
 use Rattle.table_rows.proofs.FrontReading.{bytes_eq-self}
 use Rattle.table_rows.proofs.Numbered.{bytes_eq-differ}
-use Rattle.plan_text.specs.Reading.{fleet_names}
 
 -- the name of a fleet, among the names
 name_at : (t : Tables) (f : ℕ) (d : List ℕ) → f < fleets_in t → slice_index_or (fleet_names t) f d ≡ (fleet_of t f).name

@@ -15,7 +15,7 @@ use Rattle.fleet_model.specs.declared.tables.Tables.{Tables}
 use Rattle.table_rows.specs.Rows.{Fields}
 use Rattle.plan_text.specs.CsvText.{csv_text}
 use Rattle.plan_text.specs.Reading.{PlanReads}
-use Rattle.plan_text.specs.Text.{fleet_text, leg_record, leg_records, line_of, lines_of, plan_header, plan_records, plan_text, record_of, shift_text}
+use Rattle.plan_text.specs.Text.{fleet_text, leg_record, leg_records, lines_of, plan_header, plan_records, plan_text, record_line, record_of, shift_text}
 use Rattle.plan_text.proofs.FieldTexts.{fleet_is_plain, shift_is_plain}
 use Rattle.plan_text.proofs.NameText.{name_is_plain}
 
@@ -25,37 +25,37 @@ IsPlainText text = list_any (needs_byte default_writer) text ≡ false
 
 -- the line of fields in which nothing calls for quotes is the text that `csv` writes
 line_is_text : (windows : Bool) (x y z : List ℕ) → IsPlainText x → IsPlainText y → IsPlainText z
-    → line_of (record_of windows x y z) ≡ row_text default_writer (record_of windows x y z)
+    → record_line (record_of windows x y z) ≡ row_text default_writer (record_of windows x y z)
 unfolding fields_text is_blank
 line_is_text true x y z plain_x plain_y plain_z = rw (plain_x, plain_y, plain_z, append-nil z) refl
 line_is_text false x y z plain_x plain_y plain_z = rw (plain_x, plain_y, append-nil y) refl
 
 -- such a line reads back
 line_back : (windows : Bool) (x y z tail : List ℕ) → IsPlainText x → IsPlainText y → IsPlainText z
-    → next_record default_config st.StartRecord [] [] (line_of (record_of windows x y z) ++ tail) ≡ Some (record_of windows x y z, st.StartRecord, tail)
+    → next_record default_config st.StartRecord [] [] (record_line (record_of windows x y z) ++ tail) ≡ Some (record_of windows x y z, st.StartRecord, tail)
 line_back true x y z tail plain_x plain_y plain_z = rw (line_is_text true x y z plain_x plain_y plain_z) (read-write-many x y (z ∷ []) tail)
 line_back false x y z tail plain_x plain_y plain_z = rw (line_is_text false x y z plain_x plain_y plain_z) (read-write-many x y [] tail)
 
 flight_is_plain : (t : Tables) (l : ℕ) → l < legs_in t → IsPlainText (leg_of t l).flight
 flight_is_plain t l leg = name_is_plain (leg_of t l).flight (t.in_range.legs_fit.each l no_leg leg).flight
 
-leg_is_text : (t : Tables) (a : List ℕ) (l : ℕ) → l < legs_in t → line_of (leg_record t a l) ≡ row_text default_writer (leg_record t a l)
+leg_is_text : (t : Tables) (a : List ℕ) (l : ℕ) → l < legs_in t → record_line (leg_record t a l) ≡ row_text default_writer (leg_record t a l)
 leg_is_text t a l leg =
     line_is_text t.windows (leg_of t l).flight (fleet_text t (pair_at a l)) (shift_text t (pair_at a l)) (flight_is_plain t l leg) (fleet_is_plain t (pair_at a l)) (shift_is_plain t l (choice_at a l) leg)
 
 leg_back : (t : Tables) (a : List ℕ) (l : ℕ) (tail : List ℕ) → l < legs_in t
-    → next_record default_config st.StartRecord [] [] (line_of (leg_record t a l) ++ tail) ≡ Some (leg_record t a l, st.StartRecord, tail)
+    → next_record default_config st.StartRecord [] [] (record_line (leg_record t a l) ++ tail) ≡ Some (leg_record t a l, st.StartRecord, tail)
 leg_back t a l tail leg =
     line_back t.windows (leg_of t l).flight (fleet_text t (pair_at a l)) (shift_text t (pair_at a l)) tail (flight_is_plain t l leg) (fleet_is_plain t (pair_at a l)) (shift_is_plain t l (choice_at a l) leg)
 
-header_is_text : (t : Tables) → line_of (plan_header t) ≡ row_text default_writer (plan_header t)
+header_is_text : (t : Tables) → record_line (plan_header t) ≡ row_text default_writer (plan_header t)
 header_is_text t = line_is_text t.windows (codes "flight") (codes "fleet") (codes "shift") refl refl refl
 
-header_back : (t : Tables) (tail : List ℕ) → next_record default_config st.StartRecord [] [] (line_of (plan_header t) ++ tail) ≡ Some (plan_header t, st.StartRecord, tail)
+header_back : (t : Tables) (tail : List ℕ) → next_record default_config st.StartRecord [] [] (record_line (plan_header t) ++ tail) ≡ Some (plan_header t, st.StartRecord, tail)
 header_back t tail = line_back t.windows (codes "flight") (codes "fleet") (codes "shift") tail refl refl refl
 
 -- a line has a byte
-line_length : (fields : Fields) → 1 ≤ length (line_of fields)
+line_length : (fields : Fields) → 1 ≤ length (record_line fields)
 line_length fields = omega (arith, length-append (join_with_byte comma fields) (line_feed ∷ []))
 
 -- the records of legs, from some leg on
@@ -76,7 +76,7 @@ lines_length : (t : Tables) (a : List ℕ) (n first : ℕ) → n ≤ length (lin
 lines_length t a zero first = omega arith
 lines_length t a (suc n) first =
     let more = lines_length t a n (first + 1) in
-    omega (arith, length-append (line_of (leg_record t a first)) (lines_of (records_past t a (first + 1) n)), line_length (leg_record t a first), more)
+    omega (arith, length-append (record_line (leg_record t a first)) (lines_of (records_past t a (first + 1) n)), line_length (leg_record t a first), more)
 
 text_back : (t : Tables) (a : List ℕ) (turns : ℕ) → IsAssignment t a → legs_in t < turns
     → records_from default_config turns st.StartRecord (lines_of (plan_records t a)) ≡ plan_records t a
@@ -87,8 +87,8 @@ text_back t a (suc turns) is enough =
     (ap (λ rows. plan_header t ∷ rows) (lines_back t a is (legs_in t) 0 turns (omega arith) (omega arith)))
 
 -- no mark of a byte order begins the header
-unmarked : (windows : Bool) (tail : List ℕ) → strip_bom (line_of (record_of windows (codes "flight") (codes "fleet") (codes "shift")) ++ tail)
-    ≡ line_of (record_of windows (codes "flight") (codes "fleet") (codes "shift")) ++ tail
+unmarked : (windows : Bool) (tail : List ℕ) → strip_bom (record_line (record_of windows (codes "flight") (codes "fleet") (codes "shift")) ++ tail)
+    ≡ record_line (record_of windows (codes "flight") (codes "fleet") (codes "shift")) ++ tail
 unfolding strip_bom
 unmarked true tail = refl
 unmarked false tail = refl
@@ -101,7 +101,7 @@ reads_what_was_written t a is = record {
       let long = lines_length t a (legs_in t) 0 in
       let turns = length (lines_of (plan_records t a)) + 1 in
       rw (unmarked t.windows (lines_of (leg_records t a (legs_in t))))
-      (text_back t a turns is (omega (arith, length-append (line_of (plan_header t)) (lines_of (leg_records t a (legs_in t))), long)));
+      (text_back t a turns is (omega (arith, length-append (record_line (plan_header t)) (lines_of (leg_records t a (legs_in t))), long)));
 }
 
 legs_as_csv : (t : Tables) (a : List ℕ) → IsAssignment t a → (n first : ℕ) → first + n ≤ legs_in t

@@ -1,5 +1,5 @@
 -- What a plan's text reads as.
-use Rattle.std.specs.Prelude.{◌≡◌, ◌⊎◌, ◌+◌, ◌<◌, ◌&&◌, Bool, true, false, not, nat_le, nat_lt, ℕ, List, bytes_eq, codes, length, map, slice_get, slice_index_or, Option, Some, None, option_map, Result, Ok, Err, ⊤, if◌then◌else◌}
+use Rattle.std.specs.Prelude.{◌≡◌, ◌⊎◌, ◌+◌, ◌<◌, ◌&&◌, Bool, true, false, not, nat_le, nat_lt, ℕ, List, bytes_eq, codes, length, slice_get, slice_index_or, Option, Some, None, option_map, Result, Ok, Err, ⊤, if◌then◌else◌}
 use Rattle.std.specs.Fmt.{signed_decimal}
 use Rattle.std.specs.Result.{result_err}
 use Rattle.std.specs.Str.{is_utf8}
@@ -16,10 +16,6 @@ use Rattle.table_rows.specs.Fields.{refused_where, three_of, two_of}
 use Rattle.table_rows.specs.Rows.{Fields, IsUnder, LacksHeader}
 use Rattle.table_rows.specs.declared.faults.RecordError.{RecordError}
 use Rattle.table_rows.specs.declared.faults.RecordError.TheVariants as refused
-
--- the names of the fleets, by their numbers
-abbrev pub fleet_names : Tables → List (List ℕ)
-fleet_names t = map (λ fleet. fleet.name) t.fleets
 
 -- three fields, where they are UTF-8
 abbrev pub where_texts : Option (List ℕ × List ℕ × List ℕ) → Option (List ℕ × List ℕ × List ℕ)

@@ -47,12 +47,12 @@ abbrev pub plan_records : Tables → List ℕ → List Fields
 plan_records t a = plan_header t ∷ leg_records t a (legs_in t)
 
 -- the line of a record: its fields with commas between them, and a line feed
-abbrev pub line_of : Fields → List ℕ
-line_of fields = join_with_byte comma fields ++ line_feed ∷ []
+abbrev pub record_line : Fields → List ℕ
+record_line fields = join_with_byte comma fields ++ line_feed ∷ []
 
 -- the lines of records
 abbrev pub lines_of : List Fields → List ℕ
-lines_of = flat_map line_of
+lines_of = flat_map record_line
 
 -- the text of a plan
 unfoldable pub plan_text : Tables → List ℕ → List ℕ

@@ -1,9 +1,9 @@
 //! The choices of legs by the texts that records have of them.
 ghost use Rattle.std.specs.Prelude.{◌≡◌, ◌<◌, ◌≤◌, IfOk, bytes_eq, codes, length};
 ghost use Rattle.std.specs.Fmt.{signed_decimal};
-ghost use Rattle.fleet_model.specs.Schedule.{legs_in};
+ghost use Rattle.fleet_model.specs.Schedule.{fleet_names, legs_in};
 ghost use Rattle.fleet_model.specs.declared.limits.TheConstants.{MAX_SHIFTS};
-ghost use Rattle.plan_text.specs.Reading.{choice_with, fleet_names, slot_with};
+ghost use Rattle.plan_text.specs.Reading.{choice_with, slot_with};
 
 use crate::writing::{LEFT_OUT, OWN_TIME};
 use entries::NoMemory;

@@ -1,8 +1,8 @@
 ghost use Rattle.std.specs.Prelude.{◌≡◌, ◌⊎◌, ◌+◌, ◌^◌, ◌<◌, ℕ, List, IfOk, MatchOption, MatchResult, Ok, Err, codes, option_map};
 ghost use Rattle.csv_fields.specs.Record.{records_of};
 ghost use Rattle.fleet_model.specs.Legal.{IsAssignment};
-ghost use Rattle.fleet_model.specs.Schedule.{legs_in};
-ghost use Rattle.plan_text.specs.Reading.{IsFirstPlanFault, IsFirstRowFault, PlanReads, choice_read, fleet_names, refusal_at, texts_in};
+ghost use Rattle.fleet_model.specs.Schedule.{fleet_names, legs_in};
+ghost use Rattle.plan_text.specs.Reading.{IsFirstPlanFault, IsFirstRowFault, PlanReads, choice_read, refusal_at, texts_in};
 ghost use Rattle.plan_text.specs.Text.{leg_records, record_of};
 ghost use Rattle.plan_text.specs.declared.faults.PlanError.TheVariants as plan;
 ghost use Rattle.table_rows.specs.Outcome.{IsFaultOf};

@@ -9,14 +9,14 @@ use Rattle.sums.proofs.WholeSums.{sum_below_ℤ-same, sum_below_ℤ--ℤ}
 use Rattle.sums.proofs.WholeSwaps.{sum_below_ℤ-one, where_true}
 use Rattle.fleet_model.specs.declared.parts.Pair.{Pair}
 use Rattle.fleet_model.specs.declared.tables.Tables.{Tables}
-use Rattle.fleet_model.specs.Schedule.{IsFlown, IsPair, fleet_by, fleet_of, fleets_in, leg_of, legs_in, stations_in}
+use Rattle.fleet_model.specs.Schedule.{IsFlown, IsPair, fleet_by, fleet_of, fleets_in, leg_of, legs_in, parking_limit, stations_in}
 use Rattle.fleet_model.specs.Times.{departure, laps_of, ready_minute}
 use Rattle.lp_rows.specs.declared.kinds.Node.{Node}
 use Rattle.lp_rows.specs.declared.kinds.Park.{Park}
 use Rattle.lp_rows.specs.declared.kinds.Column.TheVariants.{Flight, Ground, Room, Slack}
 use Rattle.lp_rows.specs.declared.kinds.Line.{Line}
 use Rattle.lp_rows.specs.declared.kinds.Line.TheVariants.{Balance, Count, Cover, Parking}
-use Rattle.lp_rows.specs.Entries.{IsNode, IsPark, balance_entry, comes_to_node, count_entry, cover_entry, entry_of, gets_arc, is_in, leaves_node, limit_of, one_if, passes_day_end, passes_start, place_after, right_side_of, same_node, same_park}
+use Rattle.lp_rows.specs.Entries.{IsNode, IsPark, balance_entry, comes_to_node, count_entry, cover_entry, entry_of, gets_arc, is_in, leaves_node, one_if, passes_day_end, passes_start, place_after, right_side_of, same_node, same_park}
 use Rattle.lp_rows.specs.Layout.{Starts, node_at, line_at, park_of_number}
 use Rattle.lp_rows.specs.Points.{node_count, park_count, priced_count}
 use Rattle.lp_rows.proofs.ListSums.{all_zero}
@@ -236,7 +236,7 @@ module _ (t : Tables) (starts : Starts) (y : ℕ → ℤ) where
 
   -- ---- the right sides
   pub down_sides : down (λ line. right_side_of t line)
-      ≡ sum_below_ℤ y (legs_in t) +ℤ sum_below_ℤ (λ f. of_fleet f *ℤ pos (fleet_of t f).aircraft) (fleets_in t) +ℤ sum_below_ℤ (λ k. of_park k *ℤ pos (limit_of t (park_of_number t k).station)) (park_count t)
+      ≡ sum_below_ℤ y (legs_in t) +ℤ sum_below_ℤ (λ f. of_fleet f *ℤ pos (fleet_of t f).aircraft) (fleets_in t) +ℤ sum_below_ℤ (λ k. of_park k *ℤ pos (parking_limit t (park_of_number t k).station)) (park_count t)
   down_sides =
       let covers = sum_below_ℤ-same (λ l. y l *ℤ pos 1) y (legs_in t) (λ l below. times_one (y l)) in
       by_kinds (λ line. right_side_of t line) ∙ omega (arith, ints, covers, no_balances (λ line. right_side_of t line) (λ n. refl))

@@ -12,12 +12,12 @@ use Rattle.sums.proofs.WholeSums.{*ℤ-sum_below_ℤ, sum_below_ℤ-same}
 use Rattle.sums.proofs.WholeSwaps.{where_true}
 use Rattle.fleet_model.specs.Period.{days_ended, ends_day, minute_of_day}
 use Rattle.fleet_model.specs.declared.tables.Tables.{Tables}
-use Rattle.fleet_model.specs.Schedule.{day_end, days_in, fleets_in, legs_in, parking_of, period_of, stations_in}
+use Rattle.fleet_model.specs.Schedule.{day_end, days_in, fleets_in, legs_in, parking_limit, parking_of, period_of, stations_in}
 use Rattle.node_aggregate.specs.Nodes.{end_in}
 use Rattle.lp_rows.specs.declared.kinds.Line.TheVariants.{Parking}
 use Rattle.lp_rows.specs.declared.kinds.Node.{Node}
 use Rattle.lp_rows.specs.declared.kinds.Park.{Park}
-use Rattle.lp_rows.specs.Entries.{IsPark, limit_of, passes_day_end}
+use Rattle.lp_rows.specs.Entries.{IsPark, passes_day_end}
 use Rattle.lp_rows.specs.Layout.{Starts, park_of_number, parking_days}
 use Rattle.lp_rows.specs.Points.{node_count, park_count, priced_count}
 use Rattle.lp_rows.proofs.LinePlaces.{parking_there}
@@ -119,26 +119,26 @@ module _ (t : Tables) (starts : Starts) (prices : Prices) (value : ℕ → ℤ) 
 
   -- ---- what the limits of all days are charged
   abbrev for_limit : ℕ → ℕ → ℤ
-  for_limit s d = neg_ℤ (h *ℤ charge_of prices s d) *ℤ pos (limit_of t s)
+  for_limit s d = neg_ℤ (h *ℤ charge_of prices s d) *ℤ pos (parking_limit t s)
 
   at_station : (s : ℕ) → s < stations_in t → sum_below_ℤ (λ k. for_limit s (k + 1)) (parking_days t s) ≡ neg_ℤ h *ℤ charges_of t prices s
   at_station s within = elim (cases_lt 0 (parking_days t s)) [
     | inl limited ↦ ap (sum_below_ℤ (λ k. for_limit s (k + 1))) (limited_days t s limited) ∙ in_days
     | inr free ↦
         let none : parking_days t s ≡ 0 = omega arith in
-        let nothing = all_zero (λ k. for_limit s (k + 1)) (days_in t) (λ k below. ap (λ z. neg_ℤ (h *ℤ z) *ℤ pos (limit_of t s)) (by.uncharged s (k + 1) (λ known. omega (arith, known.day, none))) ∙ ap (λ z. neg_ℤ z *ℤ pos (limit_of t s)) (*ℤ-zero h) ∙ zero-*ℤ (pos (limit_of t s))) in
+        let nothing = all_zero (λ k. for_limit s (k + 1)) (days_in t) (λ k below. ap (λ z. neg_ℤ (h *ℤ z) *ℤ pos (parking_limit t s)) (by.uncharged s (k + 1) (λ known. omega (arith, known.day, none))) ∙ ap (λ z. neg_ℤ z *ℤ pos (parking_limit t s)) (*ℤ-zero h) ∙ zero-*ℤ (pos (parking_limit t s))) in
         ap (sum_below_ℤ (λ k. for_limit s (k + 1))) none ∙ sym nothing ∙ in_days
   ]
     where
       in_days : sum_below_ℤ (λ k. for_limit s (k + 1)) (days_in t) ≡ neg_ℤ h *ℤ charges_of t prices s
       in_days =
-          sum_below_ℤ-same (λ k. for_limit s (k + 1)) (λ k. neg_ℤ h *ℤ (charge_of prices s (k + 1) *ℤ pos (limit_of t s))) (days_in t) (λ k below. factor_out h (charge_of prices s (k + 1)) (pos (limit_of t s)))
-          ∙ sym (*ℤ-sum_below_ℤ (neg_ℤ h) (λ k. charge_of prices s (k + 1) *ℤ pos (limit_of t s)) (days_in t))
+          sum_below_ℤ-same (λ k. for_limit s (k + 1)) (λ k. neg_ℤ h *ℤ (charge_of prices s (k + 1) *ℤ pos (parking_limit t s))) (days_in t) (λ k below. factor_out h (charge_of prices s (k + 1)) (pos (parking_limit t s)))
+          ∙ sym (*ℤ-sum_below_ℤ (neg_ℤ h) (λ k. charge_of prices s (k + 1) *ℤ pos (parking_limit t s)) (days_in t))
 
-  pub limits_charged : sum_below_ℤ (λ k. of_park t starts y k *ℤ pos (limit_of t (park_of_number t k).station)) (park_count t) ≡ neg_ℤ h *ℤ sum_below_ℤ (charges_of t prices) (stations_in t)
+  pub limits_charged : sum_below_ℤ (λ k. of_park t starts y k *ℤ pos (parking_limit t (park_of_number t k).station)) (park_count t) ≡ neg_ℤ h *ℤ sum_below_ℤ (charges_of t prices) (stations_in t)
   limits_charged =
-      sum_below_ℤ-same (λ k. of_park t starts y k *ℤ pos (limit_of t (park_of_number t k).station)) (λ k. for_limit (park_of_number t k).station (park_of_number t k).day) (park_count t)
-      (λ k below. ap (λ z. z *ℤ pos (limit_of t (park_of_number t k).station)) (number_there k below))
+      sum_below_ℤ-same (λ k. of_park t starts y k *ℤ pos (parking_limit t (park_of_number t k).station)) (λ k. for_limit (park_of_number t k).station (park_of_number t k).day) (park_count t)
+      (λ k below. ap (λ z. z *ℤ pos (parking_limit t (park_of_number t k).station)) (number_there k below))
       ∙ over_parks t (λ p. for_limit p.station p.day)
       ∙ sum_below_ℤ-same (λ s. sum_below_ℤ (λ k. for_limit s (k + 1)) (parking_days t s)) (λ s. neg_ℤ h *ℤ charges_of t prices s) (stations_in t) (λ s within. at_station s within)
       ∙ sym (*ℤ-sum_below_ℤ (neg_ℤ h) (charges_of t prices) (stations_in t))

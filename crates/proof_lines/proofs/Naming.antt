@@ -7,7 +7,7 @@ use Rattle.std.proofs.lemmas.Bool.Decides.{nat_tests}
 use Rattle.std.proofs.lemmas.List.{get_or-map, length-map}
 use Rattle.std.proofs.lemmas.List.Quantifiers.{position-Some}
 use Rattle.entries.specs.Names.{IsName, IsNameByte}
-use Rattle.fleet_model.specs.Schedule.{IsPair, fleet_by, fleets_in, leg_on, legs_in, no_fleet, no_leg, no_station, stations_in}
+use Rattle.fleet_model.specs.Schedule.{IsPair, fleet_by, fleet_names, fleets_in, leg_on, legs_in, no_fleet, no_leg, no_station, stations_in}
 use Rattle.fleet_model.specs.declared.parts.Pair.{Pair}
 use Rattle.fleet_model.specs.declared.tables.Tables.{Tables}
 use Rattle.sums.proofs.Tests.{both_true}
@@ -15,7 +15,7 @@ use Rattle.table_rows.specs.Names.{number_of}
 use Rattle.table_rows.proofs.Numbered.{bytes_eq-differ}
 use Rattle.proof_lines.specs.Choices.{choice_told}
 use Rattle.proof_lines.specs.Figures.{figure, signed_in}
-use Rattle.proof_lines.specs.Known.{a_fleet, codes_of, fleet_in, fleet_names, flier_in, flights_of, leg_in, minutes_in, named, names_in, pair_in, pair_of, paired, station_in}
+use Rattle.proof_lines.specs.Known.{a_fleet, codes_of, fleet_in, flier_in, flights_of, leg_in, minutes_in, named, names_in, pair_in, pair_of, paired, station_in}
 use Rattle.proof_lines.specs.Flaws.{both}
 use Rattle.proof_lines.specs.LineText.{fleet_word, flier_word, is_flown, leg_word, minutes_by, shift_words, station_word}
 use Rattle.proof_lines.specs.Words.{Word, word_at}

@@ -1,6 +1,6 @@
 -- The names of tables, by their numbers, and the pairs that they tell.
 use Rattle.std.specs.Prelude.{ℕ, ◌&&◌, Bool, true, false, if◌then◌else◌, List, bytes_eq, codes, ℤ, pos, Option, Some, None, Result, Ok, Err, map}
-use Rattle.fleet_model.specs.Schedule.{days_in, last_of, leg_on}
+use Rattle.fleet_model.specs.Schedule.{days_in, fleet_names, last_of, leg_on}
 use Rattle.fleet_model.specs.declared.parts.Pair.{Pair}
 use Rattle.fleet_model.specs.declared.tables.Tables.{Tables}
 use Rattle.table_rows.specs.Names.{number_of}
@@ -12,12 +12,9 @@ use Rattle.proof_lines.specs.declared.flaws.Flaw.TheVariants as flaw
 use Rattle.proof_lines.specs.declared.grammar.Grammar.{Grammar}
 use Rattle.proof_lines.specs.declared.line.Version.{Version}
 
--- the names of legs, fleets and stations, by their numbers
+-- the names of legs and stations, by their numbers
 abbrev pub flights_of : Tables → List (List ℕ)
 flights_of t = map (λ leg. leg.flight) t.legs
-
-abbrev pub fleet_names : Tables → List (List ℕ)
-fleet_names t = map (λ fleet. fleet.name) t.fleets
 
 abbrev pub codes_of : Tables → List (List ℕ)
 codes_of t = map (λ station. station.code) t.stations

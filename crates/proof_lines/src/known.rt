@@ -1,8 +1,8 @@
 //! The names of tables, found by their bytes, and the pairs that they tell.
 ghost use Rattle.std.specs.Prelude.{◌≡◌, ◌<◌, ◌^◌, length, IfOk, IfSome};
-ghost use Rattle.fleet_model.specs.Schedule.{days_in, fleets_in, last_of, legs_in, stations_in};
+ghost use Rattle.fleet_model.specs.Schedule.{days_in, fleet_names, fleets_in, last_of, legs_in, stations_in};
 ghost use Rattle.proof_lines.specs.Choices.{choice_told};
-ghost use Rattle.proof_lines.specs.Known.{codes_of, fleet_in, fleet_names, flier_in, flights_of, leg_in, minutes_in, named, names_in, naming, pair_in, paired, station_in};
+ghost use Rattle.proof_lines.specs.Known.{codes_of, fleet_in, flier_in, flights_of, leg_in, minutes_in, named, names_in, naming, pair_in, paired, station_in};
 
 use crate::choices::choice_told;
 use crate::figures::number;

@@ -1,7 +1,7 @@
 -- On a date fly the legs of its day of the period, each once.
 use Rattle.std.proofs.Common.{◌≡◌, ℕ, zero, suc, ◌+◌, ◌-◌, ◌*◌, ◌/◌, ◌%◌, ◌<◌, ◌≤◌, ◌==◌, Bool, true, false, if◌then◌else◌, IsPermutation, List, [], ◌∷◌, ◌++◌, length, slice_index, get_or, refl, sym, ◌∙◌, ap, subst, subst₂, inl, inr, arith, mod-eq_of_lt}
 use Rattle.std.specs.List.{concat, filter}
-use Rattle.std.proofs.Math.Nat.{mod-lt, mul-le-mul_left, mul_comm}
+use Rattle.std.proofs.Math.Nat.{mod-lt}
 use Rattle.std.proofs.lemmas.Bool.{cases_Bool, cases_lt, eqb-true}
 use Rattle.std.proofs.lemmas.List.Elements.{filter-append}
 use Rattle.std.proofs.lemmas.Nat.{div-add-mod', mod-mul-add}
@@ -18,6 +18,7 @@ use Rattle.ground_turns.specs.Maps.{IsTour, no_turn, periods_in_turn, turn_after
 use Rattle.ground_turns.specs.Nights.{nights_in}
 use Rattle.ground_turns.specs.Turns.{departs_at}
 use Rattle.ground_turns.proofs.TourNights.{nights_by_days}
+use Rattle.ground_turns.proofs.Places.{lower_row}
 use Rattle.lines_of_flying.specs.Lines.{BeginsAfterStart, day_of, days_of_tour, legs_on_day, lines_of, nights_after, periods_after}
 use Rattle.lines_of_flying.proofs.TourLines.{days_are_use, known_legs}
 use Rattle.lines_of_flying.proofs.WholeTours.{joined_all, joined_more, lines_are_tour}
@@ -89,19 +90,13 @@ filter-joined q g (suc n) =
     ap (filter q) (joined_more g n) ∙ filter-append q (concat (list_below g n)) (g n)
     ∙ ap (λ xs. xs ++ filter q (g n)) (filter-joined q g n) ∙ sym (joined_more (λ k. filter q (g k)) n)
 
--- a place of a block lies within all blocks
-in_blocks : (block blocks size place : ℕ) → block < blocks → place < size → block * size + place < blocks * size
-in_blocks block blocks size place less within =
-    let room : size * suc block ≤ size * blocks = mul-le-mul_left size less in
-    omega (arith, room, within, mul_comm block size, mul_comm (suc block) size, mul_comm blocks size, one_block_more block size)
-
 -- so many blocks further, going round
 turned_block : (blocks size place x : ℕ) → place < size → 0 < blocks → (x * size + place) % (blocks * size) ≡ (x % blocks) * size + place
 turned_block blocks size place x within some =
     let rounds = x / blocks in
     let rest = x % blocks in
     let less : rest < blocks = mod-lt x some in
-    let small : rest * size + place < blocks * size = in_blocks rest blocks size place less within in
+    let small : rest * size + place < blocks * size = lower_row rest blocks size place less within in
     ap (λ n. n % (blocks * size)) (ap (λ y. y * size + place) (sym (div-add-mod' x blocks)) ∙ apart rounds rest blocks size place)
     ∙ mod-mul-add rounds (blocks * size) (rest * size + place) small
   where
@@ -233,7 +228,7 @@ module _ (t : Tables) (a : List ℕ) (f : ℕ) (tour : List ℕ) (is : IsTour t 
           let least : block < used = mod-lt (k + d / days) some_used in
           let place : (k * days_in t + d) % (used * days) ≡ block * days + day =
           ap (λ n. n % (used * days)) (split k d days) ∙ turned_block used days day (k + d / days) within some_used in
-          let inside : block * days + day < days_of_tour t f tour = subst (λ n. block * days + day < n) (sym all_days) (in_blocks block used days day least within) in
+          let inside : block * days + day < days_of_tour t f tour = subst (λ n. block * days + day < n) (sym all_days) (lower_row block used days day least within) in
           ap (λ n. get_or (lines_of t f tour) n []) place
           ∙ get_or-list_below line (days_of_tour t f tour) (block * days + day) [] inside
           ∙ sym (get_or-list_below (λ m. line (m * days + day)) used block [] least)

@@ -23,10 +23,11 @@ use Rattle.ground_turns.specs.declared.nights.Night.TheVariants as night
 use Rattle.lines_of_flying.specs.Lines.{AreLegs}
 use Rattle.plan_text.proofs.NameText.{name_is_plain}
 use Rattle.plan_text.specs.CsvText.{csv_text}
-use Rattle.rotation_report.specs.RotationRecords.{Fields, Row, fleet_records, fleets_records, flight_of, leg_row, line_of_record, listed_row, night_row, pair_row, rotation_header, rotation_records, rotation_rows, rotation_text, round_records, second_round, short_no, tour_rows, yes_no}
+use Rattle.rotation_report.specs.RotationRecords.{Fields, Row, fleet_records, fleets_records, flight_of, leg_row, listed_row, night_row, pair_row, rotation_header, rotation_records, rotation_rows, rotation_text, round_records, second_round, short_no, tour_rows, yes_no}
 use Rattle.euler_rotation.specs.FleetRotations.{AreConnections, AreRotations, IsFleetRotation, IsOfLegs, rotation_of}
 use Rattle.euler_rotation.specs.declared.fleet_rotation.FleetRotation.{FleetRotation}
 use Rattle.plan_text.proofs.CsvWriting.{csv_text-append}
+use Rattle.plan_text.specs.Text.{record_line}
 
 abbrev needs : List ℕ → Bool
 needs field = list_any (needs_byte default_writer) field
@@ -145,17 +146,17 @@ module _ (t : Tables) where
 
 -- the lines of records are what `csv` writes
 five_plain : (n k x a b : List ℕ) → needs n ≡ false → needs k ≡ false → needs x ≡ false → needs a ≡ false → needs b ≡ false
-    → line_of_record (n ∷ k ∷ x ∷ a ∷ b ∷ []) ≡ row_text default_writer (n ∷ k ∷ x ∷ a ∷ b ∷ [])
+    → record_line (n ∷ k ∷ x ∷ a ∷ b ∷ []) ≡ row_text default_writer (n ∷ k ∷ x ∷ a ∷ b ∷ [])
 unfolding fields_text is_blank
 five_plain n k x a b plain_n plain_k plain_x plain_a plain_b = rw (plain_n, plain_k, plain_x, plain_a, plain_b, append-nil b) refl
 
 -- the text of records is what `csv` writes
 record IsCsv (records : List Fields) : Type 0 where
-  same : flat_map line_of_record records ≡ csv_text records
+  same : flat_map record_line records ≡ csv_text records
 
 csv-append : (xs ys : List Fields) → IsCsv xs → IsCsv ys → IsCsv (xs ++ ys)
 csv-append xs ys front rest = record {
-  same = flat_map-append line_of_record xs ys ∙ ap (λ t. t ++ flat_map line_of_record ys) front.same ∙ ap (λ t. csv_text xs ++ t) rest.same ∙ sym (csv_text-append xs ys);
+  same = flat_map-append record_line xs ys ∙ ap (λ t. t ++ flat_map record_line ys) front.same ∙ ap (λ t. csv_text xs ++ t) rest.same ∙ sym (csv_text-append xs ys);
 }
 
 csv-none : IsCsv []
@@ -167,7 +168,7 @@ unfolding csv_text
 round_csv name number [] plain_name plain_number plain = record { same = refl }
 round_csv name number (row ∷ rows) plain_name plain_number plain = record {
   same =
-      ap (λ t. t ++ flat_map line_of_record (round_records name number rows)) (five_plain name number row.kind row.a row.b plain_name plain_number plain.0.kind plain.0.a plain.0.b)
+      ap (λ t. t ++ flat_map record_line (round_records name number rows)) (five_plain name number row.kind row.a row.b plain_name plain_number plain.0.kind plain.0.a plain.0.b)
       ∙ ap (λ t. row_text default_writer (name ∷ number ∷ row.kind ∷ row.a ∷ row.b ∷ []) ++ t) (round_csv name number rows plain_name plain_number plain.1).same;
 }
 

@@ -1,9 +1,8 @@
 -- The records of rotations, as `rotation.csv` holds them.
 use Rattle.std.specs.Prelude.{ℕ, zero, suc, Bool, true, false, List, [], ◌∷◌, ◌++◌, codes, length, map, slice_index, Option, Some, None}
 use Rattle.std.specs.Fmt.{decimal}
-use Rattle.std.specs.List.{flat_map, join_with_byte}
-use Rattle.csv.specs.Machine.{line_feed}
-use Rattle.csv.specs.Writing.{comma}
+use Rattle.std.specs.List.{flat_map}
+use Rattle.plan_text.specs.Text.{record_line}
 use Rattle.euler_rotation.specs.declared.rotation.Rotation.{Rotation}
 use Rattle.euler_rotation.specs.declared.rotation.Rotation.TheVariants as rotation
 use Rattle.fleet_model.specs.declared.parts.Connection.{Connection}
@@ -119,10 +118,6 @@ fleets_records t visits rotations (suc n) = fleets_records t visits rotations n 
 abbrev pub rotation_records : Tables → List FleetRotation → ℕ → List Fields
 rotation_records t rotations visits = rotation_header ∷ fleets_records t visits rotations (length rotations)
 
--- the line of a record: its fields with commas between them, and a line feed
-abbrev pub line_of_record : Fields → List ℕ
-line_of_record fields = join_with_byte comma fields ++ line_feed ∷ []
-
 -- the text of rotations, found in so many visits of the search at most
 unfoldable pub rotation_text : Tables → List FleetRotation → ℕ → List ℕ
-rotation_text t rotations visits = flat_map line_of_record (rotation_records t rotations visits)
+rotation_text t rotations visits = flat_map record_line (rotation_records t rotations visits)

@@ -10,12 +10,12 @@ use Rattle.fleet_model.specs.declared.parts.Settings.{Settings}
 use Rattle.fleet_model.specs.declared.parts.Station.{Station}
 use Rattle.fleet_model.specs.declared.parts.Through.{Through}
 use Rattle.fleet_model.specs.declared.refusals.TableFile.TheVariants as file
-use Rattle.fleet_tables.specs.Costs.{cost_header, cost_read, pair_of}
+use Rattle.fleet_tables.specs.Costs.{cost_header, cost_read, flight_of, pair_of}
 use Rattle.fleet_tables.specs.Fleets.{fleet_header, fleet_name_of, fleet_read}
 use Rattle.fleet_tables.proofs.CostsFit.{costs_keep}
 use Rattle.fleet_tables.proofs.FleetsFit.{fleets_keep}
 use Rattle.sched_read.specs.Laws.{HaveFirstFault, ReadAsTables}
-use Rattle.sched_read.specs.Legs.{flight_of, leg_headers, leg_read}
+use Rattle.sched_read.specs.Legs.{leg_headers, leg_read}
 use Rattle.sched_read.specs.Reading.{ReadCosts, TableBytes}
 use Rattle.sched_read.specs.Throughs.{ThroughsBad, ThroughsRead, connection_of, through_header, through_read}
 use Rattle.sched_read.proofs.LegsFit.{headers_differ, legs_keep, legs_plain}

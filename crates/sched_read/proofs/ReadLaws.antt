@@ -12,10 +12,10 @@ use Rattle.fleet_model.specs.declared.parts.Through.{Through}
 use Rattle.fleet_model.specs.declared.refusals.TableFile.{TableFile}
 use Rattle.fleet_model.specs.declared.refusals.TableFile.TheVariants as file
 use Rattle.fleet_model.specs.declared.tables.Tables.{Tables}
-use Rattle.fleet_tables.specs.Costs.{CostsBad, CostsRead, cost_header, cost_read, pair_of}
+use Rattle.fleet_tables.specs.Costs.{CostsBad, CostsRead, cost_header, cost_read, flight_of, pair_of}
 use Rattle.fleet_tables.specs.Fleets.{FleetsBad, FleetsRead, fleet_header, fleet_name_of, fleet_read}
 use Rattle.sched_read.specs.Laws.{SameFault}
-use Rattle.sched_read.specs.Legs.{LegsBad, LegsRead, flight_of, leg_headers, leg_read}
+use Rattle.sched_read.specs.Legs.{LegsBad, LegsRead, leg_headers, leg_read}
 use Rattle.sched_read.specs.Reading.{BadAt, ReadCosts, ReadFleets, ReadLegs, Reads, TableBytes}
 use Rattle.sched_read.specs.Throughs.{ThroughTableBad, ThroughTableReads, ThroughsBad, ThroughsRead, connection_of, through_header, through_read}
 use Rattle.sched_read.proofs.LegsFit.{headers_differ}

@@ -5,9 +5,9 @@ use Rattle.fleet_model.specs.Limits.{IsCostUpTo}
 use Rattle.fleet_model.specs.declared.tables.Tables.{Tables}
 use Rattle.fleet_tables.proofs.CostsFit.{costs_named}
 use Rattle.fleet_tables.specs.Fleets.{fleet_name_of}
+use Rattle.fleet_tables.specs.Costs.{flight_of}
 use Rattle.optional_legs.specs.Adding.{ReadsOptional}
 use Rattle.retime_windows.specs.Times.{ReadsWindows}
-use Rattle.sched_read.specs.Legs.{flight_of}
 use Rattle.sched_read.specs.FileLaws.{PlansSettle}
 use Rattle.sched_read.proofs.Steps.{kept_by_step}
 

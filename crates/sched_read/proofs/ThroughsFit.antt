@@ -2,6 +2,7 @@
 use Rattle.std.proofs.Common.{◌≡◌, ◌<◌, ◌&&◌, ℕ, pos, false, not, nat_le, List, [], ◌∷◌, length, map, slice_index_or, Ok, refl, subst, inl, inr, arith}
 use Rattle.std.proofs.lemmas.List.{length-map}
 use Rattle.std.specs.Str.{is_utf8}
+use Rattle.fleet_tables.specs.Costs.{flight_of}
 use Rattle.csv_fields.specs.Name.{name_of}
 use Rattle.csv_fields.specs.Number.{whole_of}
 use Rattle.csv_fields.specs.Record.{records_of}
@@ -15,7 +16,6 @@ use Rattle.table_rows.specs.Names.{is_among, number_of}
 use Rattle.table_rows.specs.Rows.{Fields}
 use Rattle.table_rows.proofs.Kept.{front_differ, front_each, front_few}
 use Rattle.table_rows.proofs.ReadParts.{form_ok, known_ok, not_refused, number_within, room_left, same_answer, whole_within, width_ok}
-use Rattle.sched_read.specs.Legs.{flight_of}
 use Rattle.sched_read.specs.Throughs.{ThroughTableReads, ThroughsRead, connection_of, through_read}
 
 -- what a record that reads as a through pair below others shows

@@ -2,6 +2,7 @@
 use Rattle.std.specs.Prelude.{ℕ, pos, ◌+◌, ◌-◌, ◌*◌, ◌%◌, not, ◌==◌, nat_le, List, ◌∷◌, [], length, codes, Option, None, option_map, Result, Ok}
 use Rattle.std.specs.List.{list_all}
 use Rattle.std.specs.Str.{is_utf8}
+use Rattle.fleet_tables.specs.Costs.{flight_of}
 use Rattle.csv_fields.specs.declared.fault.FieldFault.{FieldFault}
 use Rattle.csv_fields.specs.Name.{name_of, station_code_of}
 use Rattle.csv_fields.specs.Number.{whole_of}
@@ -37,10 +38,6 @@ abbrev pub leg_fields : Form → Fields → Option (List ℕ × List ℕ × List
 leg_fields form.Old fields = option_map (λ f. (f.0, codes "1", f.1, f.2, f.3, f.4)) (five_of fields)
 leg_fields form.New [] = None
 leg_fields form.New (flight ∷ rest) = option_map (λ f. (flight, f.0, f.1, f.2, f.3, f.4)) (five_of rest)
-
--- the flight of a leg, which no other has
-abbrev pub flight_of : Leg → List ℕ
-flight_of leg = leg.flight
 
 -- minutes from a clock minute to the next time that the clock shows another
 abbrev pub block_between : ℕ → ℕ → ℕ

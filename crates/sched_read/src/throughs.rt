@@ -1,9 +1,9 @@
 ghost use Rattle.std.specs.Prelude.{◌≡◌, ◌≢◌, ◌≤◌, [], AllPairs, IfOk, MatchResult, length, map};
+ghost use Rattle.fleet_tables.specs.Costs.{flight_of};
 ghost use Rattle.csv_fields.specs.Record.{records_of};
 ghost use Rattle.fleet_model.specs.Limits.{AreThroughs};
 ghost use Rattle.fleet_model.specs.declared.limits.TheConstants.{MAX_LEGS};
 ghost use Rattle.fleet_model.specs.declared.refusals.TableFile.TheVariants as file;
-ghost use Rattle.sched_read.specs.Legs.{flight_of};
 ghost use Rattle.sched_read.specs.Throughs.{ThroughTableBad, ThroughTableReads, ThroughsBad, ThroughsRead, connection_of, through_read};
 ghost use Rattle.table_rows.specs.Outcome.{IsFirstFault};
 

@@ -11,9 +11,9 @@ use Rattle.fleet_model.specs.declared.parts.PairCost.{PairCost}
 use Rattle.fleet_model.specs.declared.parts.Settings.{Settings}
 use Rattle.fleet_model.specs.declared.parts.Station.{Station}
 use Rattle.fleet_model.specs.declared.parts.Through.{Through}
-use Rattle.fleet_tables.specs.Costs.{cost_read, pair_of}
+use Rattle.fleet_tables.specs.Costs.{cost_read, flight_of, pair_of}
 use Rattle.fleet_tables.specs.Fleets.{fleet_name_of, fleet_read}
-use Rattle.sched_read.specs.Legs.{block_between, flight_of, from_day_start, leg_between, leg_read}
+use Rattle.sched_read.specs.Legs.{block_between, from_day_start, leg_between, leg_read}
 use Rattle.sched_read.specs.Throughs.{connection_of, through_read}
 use Rattle.station_table.specs.Stations.{code_of, station_read}
 use Rattle.sums.specs.Places.{list_below}

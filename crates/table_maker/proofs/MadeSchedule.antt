@@ -10,11 +10,11 @@ use Rattle.fleet_model.specs.declared.parts.Settings.{Settings}
 use Rattle.fleet_model.specs.declared.parts.Station.{Station}
 use Rattle.fleet_model.specs.declared.parts.Through.{Through}
 use Rattle.fleet_model.specs.declared.tables.Tables.{Tables}
-use Rattle.fleet_tables.specs.Costs.{CostsRead}
+use Rattle.fleet_tables.specs.Costs.{CostsRead, flight_of}
 use Rattle.fleet_tables.specs.Fleets.{fleet_name_of}
 use Rattle.fleet_tables.proofs.CostsFit.{costs_keep}
 use Rattle.fleet_tables.proofs.FleetsFit.{fleets_keep}
-use Rattle.sched_read.specs.Legs.{LegsRead, flight_of}
+use Rattle.sched_read.specs.Legs.{LegsRead}
 use Rattle.sched_read.specs.Reading.{Reads, TableBytes}
 use Rattle.sched_read.specs.Throughs.{ThroughsRead}
 use Rattle.sched_read.proofs.LegsFit.{legs_keep, legs_plain}

@@ -5,9 +5,9 @@ use Rattle.std.specs.Fmt.{decimal}
 use Rattle.csv.specs.Reading.{strip_bom}
 use Rattle.csv_fields.specs.Record.{records_of}
 use Rattle.fleet_model.specs.declared.parts.Settings.{Settings}
-use Rattle.fleet_tables.specs.Costs.{CostsRead, cost_header, cost_read, pair_of}
+use Rattle.fleet_tables.specs.Costs.{CostsRead, cost_header, cost_read, flight_of, pair_of}
 use Rattle.fleet_tables.specs.Fleets.{FleetsRead, fleet_header, fleet_name_of, fleet_read}
-use Rattle.sched_read.specs.Legs.{LegsRead, flight_of, leg_header, leg_read}
+use Rattle.sched_read.specs.Legs.{LegsRead, leg_header, leg_read}
 use Rattle.sched_read.specs.Throughs.{ThroughsRead, connection_of, through_header, through_read}
 use Rattle.station_table.specs.Stations.{StationsRead, code_of, station_header, station_read}
 use Rattle.sums.specs.Places.{list_below}

@@ -9,7 +9,7 @@ use Rattle.csv.specs.Writing.{default_writer, fields_text, is_blank, needs_byte,
 use Rattle.csv.specs.declared.parser.State.TheVariants as st
 use Rattle.csv.proofs.RoundTrip.{read-write-many}
 use Rattle.csv_fields.specs.Record.{records_of}
-use Rattle.plan_text.specs.Text.{line_of, lines_of}
+use Rattle.plan_text.specs.Text.{lines_of, record_line}
 use Rattle.sums.specs.Places.{list_below}
 use Rattle.table_rows.specs.Rows.{Fields}
 use Rattle.table_maker.specs.Records.{table_text}
@@ -35,11 +35,11 @@ fields_are_text [] plain = refl
 fields_are_text (field ∷ fields) (plain, rest) = rw (plain, fields_are_text fields rest) refl
 
 -- the line of such a row is the text that `csv` writes
-line_is_text : (x y : List ℕ) (rest : Fields) → ArePlain (x ∷ y ∷ rest) → line_of (x ∷ y ∷ rest) ≡ row_text default_writer (x ∷ y ∷ rest)
+line_is_text : (x y : List ℕ) (rest : Fields) → ArePlain (x ∷ y ∷ rest) → record_line (x ∷ y ∷ rest) ≡ row_text default_writer (x ∷ y ∷ rest)
 unfolding is_blank
 line_is_text x y rest (plain, others) = rw (joined x (y ∷ rest), plain, fields_are_text (y ∷ rest) others) refl
 
-line_back : (row : Fields) (tail : List ℕ) → IsPlainRow row → next_record default_config st.StartRecord [] [] (line_of row ++ tail) ≡ Some (row, st.StartRecord, tail)
+line_back : (row : Fields) (tail : List ℕ) → IsPlainRow row → next_record default_config st.StartRecord [] [] (record_line row ++ tail) ≡ Some (row, st.StartRecord, tail)
 line_back [] tail plain = absurd plain
 line_back (x ∷ []) tail plain = absurd plain
 line_back (x ∷ y ∷ rest) tail plain = rw (line_is_text x y rest plain) (read-write-many x y rest tail)
@@ -64,7 +64,7 @@ module _ (fields_at : ℕ → Fields) where
   lines_length zero first = omega arith
   lines_length (suc n) first =
       let more = lines_length n (first + 1) in
-      omega (arith, length-append (line_of (fields_at first)) (lines_of (rows_past (first + 1) n)), length-append {A = ℕ}, more)
+      omega (arith, length-append (record_line (fields_at first)) (lines_of (rows_past (first + 1) n)), length-append {A = ℕ}, more)
 
   text_back : (header : Fields) (n turns : ℕ) → IsPlainRow header → ((k : ℕ) → k < n → IsPlainRow (fields_at k)) → n < turns
       → records_from default_config turns st.StartRecord (table_text header fields_at n) ≡ header ∷ list_below fields_at n
@@ -81,4 +81,4 @@ module _ (fields_at : ℕ → Fields) where
   table_back header n no_mark first plain =
       let long = lines_length n 0 in
       rw no_mark (text_back header n (length (table_text header fields_at n) + 1) first plain
-      (omega (arith, length-append (line_of header) (lines_of (list_below fields_at n)), long)))
+      (omega (arith, length-append (record_line header) (lines_of (list_below fields_at n)), long)))

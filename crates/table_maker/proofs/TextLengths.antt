@@ -8,7 +8,7 @@ use Rattle.csv.specs.Machine.{line_feed}
 use Rattle.csv_fields.specs.Flag.{flag_text}
 use Rattle.fleet_tables.specs.Costs.{cost_header}
 use Rattle.fleet_tables.specs.Fleets.{fleet_header}
-use Rattle.plan_text.specs.Text.{line_of, lines_of}
+use Rattle.plan_text.specs.Text.{lines_of, record_line}
 use Rattle.sched_read.specs.Legs.{leg_header}
 use Rattle.sched_read.specs.Throughs.{through_header}
 use Rattle.station_table.specs.Stations.{station_header}
@@ -30,7 +30,7 @@ pub record IsBrief (field : List ℕ) : Type 0 where
 
 -- a line of few bytes
 pub record IsShortLine (row : Fields) : Type 0 where
-  pub short : length (line_of row) ≤ 60
+  pub short : length (record_line row) ≤ 60
 
 three_fields : (a b c : List ℕ) → IsBrief a → IsBrief b → IsBrief c → IsShortLine (a ∷ b ∷ c ∷ [])
 three_fields a b c p q r = record {
@@ -104,13 +104,13 @@ module _ (fields_at : ℕ → Fields) where
   lines_short (suc n) first each =
       let here = (each first (omega arith)).short in
       let more = lines_short n (first + 1) (λ k below. each k (omega arith)) in
-      omega (arith, length-append (line_of (fields_at first)) (lines_of (map fields_at (range_with_len (first + 1) n))), here, more)
+      omega (arith, length-append (record_line (fields_at first)) (lines_of (map fields_at (range_with_len (first + 1) n))), here, more)
 
   text_short : (header : Fields) (n : ℕ) → IsShortLine header → ((k : ℕ) → k < n → IsShortLine (fields_at k)) → length (table_text header fields_at n) ≤ 60 * (n + 1)
   unfolding table_text
   text_short header n first each =
       let more = lines_short n 0 (λ k below. each k (omega arith)) in
-      omega (arith, length-append (line_of header) (lines_of (map fields_at (range_with_len 0 n))), first.short, more)
+      omega (arith, length-append (record_line header) (lines_of (map fields_at (range_with_len 0 n))), first.short, more)
 
 trips_short : (trips : List RoundTrip) → AreTrips trips → AreShort (tables_of trips)
 unfolding tables_of

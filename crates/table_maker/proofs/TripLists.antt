@@ -2,7 +2,7 @@
 use Rattle.std.proofs.Common.{◌≡◌, ◌==◌, ℕ, suc, ◌+◌, ◌/◌, ◌%◌, List, [], ◌∷◌, ◌++◌, length, codes, refl, sym, ap, ◌∙◌, add-one, arith}
 use Rattle.std.proofs.lemmas.List.FromFn.{length-map-range_with_len, map-range_with_len_more}
 use Rattle.csv_fields.specs.Flag.{flag_text}
-use Rattle.plan_text.specs.Text.{line_of}
+use Rattle.plan_text.specs.Text.{record_line}
 use Rattle.station_table.specs.Stations.{station_header}
 use Rattle.sums.specs.Places.{list_below}
 use Rattle.table_maker.specs.Draws.{state_after}
@@ -34,9 +34,9 @@ made_of_drawn number legs spokes trips made drawn are is =
 
 -- one spoke's station more
 pub spoke_grown : (spoke : ℕ) (text grown code : List ℕ) → text ≡ table_text station_header station_fields (1 + spoke) → code ≡ spoke_code spoke
-    → grown ≡ text ++ line_of (code ∷ codes "0" ∷ flag_text (spoke % 3 == 0) ∷ []) → grown ≡ table_text station_header station_fields (1 + (spoke + 1))
+    → grown ≡ text ++ record_line (code ∷ codes "0" ∷ flag_text (spoke % 3 == 0) ∷ []) → grown ≡ table_text station_header station_fields (1 + (spoke + 1))
 spoke_grown spoke text grown code so_far is added =
     let next : 1 + spoke ≡ suc spoke = omega arith in
     let fields : code ∷ codes "0" ∷ flag_text (spoke % 3 == 0) ∷ [] ≡ station_fields (1 + spoke) = rw (next, is) refl in
     let last : 1 + spoke + 1 ≡ 1 + (spoke + 1) = omega arith in
-    text_grown station_header station_fields (1 + spoke) text grown so_far (added ∙ ap (λ row. text ++ line_of row) fields) ∙ ap (table_text station_header station_fields) last
+    text_grown station_header station_fields (1 + spoke) text grown so_far (added ∙ ap (λ row. text ++ record_line row) fields) ∙ ap (table_text station_header station_fields) last

@@ -1,7 +1,7 @@
 use Rattle.std.proofs.Common.{◌≡◌, None, Some, arith, rules}
-use Rattle.fleet_model.specs.Schedule.{leg_of}
+use Rattle.fleet_model.specs.Schedule.{fleet_names, leg_of}
 use Rattle.table_rows.specs.Names.{number_of}
-use Rattle.plan_text.specs.Reading.{fleet_names, slot_with}
+use Rattle.plan_text.specs.Reading.{slot_with}
 use Rattle.plan_text.proofs.ChoiceTexts.{flown_at_none, flown_by_none, flown_found, small_choice}
 use Rattle.plan_text.proofs.choices.choice_with.Goals as goal
 
