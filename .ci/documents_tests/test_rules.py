@@ -109,7 +109,7 @@ def printing() -> Iterator[Named]:
 def test_each_source() -> None:
     """Each such law and definition is named by one section, and the checker's rules are."""
     found = [it for section in SECTIONS.values() for it in section.sources if section.kind != "Names"]
-    wanted = [*printing(), Named("number_of", "cert_check/specs/Rules.antt")]
+    wanted = [*printing(), Named("rule_number", "cert_check/specs/Rules.antt")]
     assert sorted(found) == sorted(wanted)
 
 

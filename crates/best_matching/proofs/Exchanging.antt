@@ -1,7 +1,7 @@
 -- Two rows that exchange their columns.
 use Rattle.std.proofs.Common.{◌≡◌, ◌≢◌, ℕ, ◌<◌, ◌⊎◌, List, length, slice_index, slice_set, sym, ◌∙◌, ap, subst, inl, inr, length-set, get_or-set_same, get_or-set_other}
 use Rattle.std.proofs.lemmas.Bool.{cases_eq}
-use Rattle.best_matching.specs.Drafts.{AreExchanged, IsPairing, column_of, row_of}
+use Rattle.best_matching.specs.Drafts.{AreColumnsExchanged, IsPairing, column_of, row_of}
 use Rattle.best_matching.specs.declared.draft.Draft.{Draft}
 
 -- places of a list in which two were written
@@ -23,7 +23,7 @@ pub record HaveExchanged (size : ℕ) (old new : Draft) (one other : ℕ) : Type
   pub at_other : column_of new other ≡ column_of old one
   pub others : (row : ℕ) → row ≢ one → row ≢ other → column_of new row ≡ column_of old row
 
-pub exchanged_columns : (size : ℕ) (old new : Draft) (one other : ℕ) → IsPairing size old → one < size → other < size → AreExchanged old new one other
+pub exchanged_columns : (size : ℕ) (old new : Draft) (one other : ℕ) → IsPairing size old → one < size → other < size → AreColumnsExchanged old new one other
     → HaveExchanged size old new one other
 exchanged_columns size old new one other p one_lt other_lt e = record {
   at_one = elim (cases_eq one other) [
@@ -38,7 +38,7 @@ exchanged_columns size old new one other p one_lt other_lt e = record {
     wide : (k : ℕ) → k < size → k < length old.columns
     wide k lt = subst (λ n. k < n) (sym p.columns) lt
 
-pub exchanged_pairing : (size : ℕ) (old new : Draft) (one other : ℕ) → IsPairing size old → one < size → other < size → AreExchanged old new one other → IsPairing size new
+pub exchanged_pairing : (size : ℕ) (old new : Draft) (one other : ℕ) → IsPairing size old → one < size → other < size → AreColumnsExchanged old new one other → IsPairing size new
 exchanged_pairing size old new one other p one_lt other_lt e = record {
   row_duals = ap length e.row_duals ∙ p.row_duals;
   column_duals = ap length e.column_duals ∙ p.column_duals;

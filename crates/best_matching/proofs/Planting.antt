@@ -5,7 +5,7 @@ use Rattle.sums.proofs.Places.{get_or-list_below, length-list_below}
 use Rattle.sums.proofs.Counts.{count_below-none}
 use Rattle.best_matching.specs.Worths.{worth_at}
 use Rattle.best_matching.specs.Drafts.{HasDuals, IsMatched, IsPairing, column_dual, column_of, row_dual}
-use Rattle.best_matching.specs.Trees.{HasSize, IsSearch, from_at, gap_at, is_in, turn_at}
+use Rattle.best_matching.specs.Trees.{HasSize, IsRowSearch, from_at, gap_at, is_in_tree, turn_of_column}
 use Rattle.best_matching.specs.declared.draft.Draft.{Draft}
 use Rattle.best_matching.specs.declared.tree.Tree.{Tree}
 use Rattle.best_matching.proofs.WideningSteps.{in_or_out}
@@ -13,7 +13,7 @@ use Rattle.best_matching.proofs.WideningSteps.{in_or_out}
 pub planted : (worths : List (List ℕ)) (draft : Draft) (tree : Tree) (root : ℕ) → IsPairing (length worths) draft → HasDuals worths draft
     → IsMatched worths draft root (length worths) → root < length worths → length tree.gaps ≡ length worths
     → ((column : ℕ) → column < length worths → gap_at tree column + worth_at worths root column ≡ row_dual draft root + column_dual draft column)
-    → tree.from ≡ list_below (λ _. root) (length worths) → tree.turns ≡ list_below (λ _. length worths) (length worths) → IsSearch worths draft tree root 0
+    → tree.from ≡ list_below (λ _. root) (length worths) → tree.turns ≡ list_below (λ _. length worths) (length worths) → IsRowSearch worths draft tree root 0
 planted worths draft tree root pairing duals matched root_lt gaps gap from turns = record {
   pairing = pairing;
   duals = duals;
@@ -33,7 +33,7 @@ planted worths draft tree root pairing duals matched root_lt gaps gap from turns
   };
   turns = record {
     earlier = λ column lt joined. absurd (outside column lt joined);
-    count = count_below-none (is_in tree.turns) (length worths) (λ column lt. elim (in_or_out (length worths) column tree size) [
+    count = count_below-none (is_in_tree tree.turns) (length worths) (λ column lt. elim (in_or_out (length worths) column tree size) [
       | inl is ↦ absurd (outside column lt is.1)
       | inr not ↦ not.0
     ]);
@@ -50,14 +50,14 @@ planted worths draft tree root pairing duals matched root_lt gaps gap from turns
     from_root : (column : ℕ) → column < length worths → from_at tree column ≡ root
     from_root column lt = ap (λ xs. slice_index xs column) from ∙ get_or-list_below (λ _. root) (length worths) column 0 lt
 
-    turn_is : (column : ℕ) → column < length worths → turn_at tree column ≡ length worths
+    turn_is : (column : ℕ) → column < length worths → turn_of_column tree column ≡ length worths
     turn_is column lt = ap (λ xs. slice_index xs column) turns ∙ get_or-list_below (λ _. length worths) (length worths) column 0 lt
 
     at_most : (a b : ℕ) → a ≡ b → a ≤ b
     at_most a b e = omega arith
 
-    out : (column : ℕ) → column < length worths → length worths ≤ turn_at tree column
+    out : (column : ℕ) → column < length worths → length worths ≤ turn_of_column tree column
     out column lt = at_most _ _ (sym (turn_is column lt))
 
-    outside : (column : ℕ) → column < length worths → turn_at tree column < length worths → ⊥
+    outside : (column : ℕ) → column < length worths → turn_of_column tree column < length worths → ⊥
     outside column lt joined = not-le_of_lt joined (out column lt)

@@ -4,12 +4,12 @@ use Rattle.std.proofs.lemmas.Bool.{cases_eq}
 use Rattle.sums.proofs.Naturals.{less_alike}
 use Rattle.best_matching.specs.Worths.{worth_at}
 use Rattle.best_matching.specs.Drafts.{column_dual, column_of, row_dual}
-use Rattle.best_matching.specs.Trees.{HasGaps, IsRelaxed, IsStem, gap_at, turn_at}
+use Rattle.best_matching.specs.Trees.{HasGaps, IsStem, IsTreeRelaxed, gap_at, turn_of_column}
 use Rattle.best_matching.specs.declared.draft.Draft.{Draft}
 use Rattle.best_matching.specs.declared.tree.Tree.{Tree}
 
 pub relaxed_stem : (worths : List (List ℕ)) (draft : Draft) (tree relaxed : Tree) (root free tip : ℕ) → IsStem worths draft tree root free → tip < length worths
-    → IsRelaxed worths draft tree relaxed tip → IsStem worths draft relaxed root free
+    → IsTreeRelaxed worths draft tree relaxed tip → IsStem worths draft relaxed root free
 relaxed_stem worths draft tree relaxed root free tip s tip_lt r = record {
   within = λ column lt. elim (r.either column lt) [
     | inl same ↦ subst (λ k. k < length worths) (sym same.1) (s.within column lt)
@@ -20,7 +20,7 @@ relaxed_stem worths draft tree relaxed root free tip s tip_lt r = record {
       subst (λ k. row_dual draft k + column_dual draft column ≡ worth_at worths k column) (sym (r.kept column lt joined_before)) (s.meet column lt joined_before);
   before = λ column lt joined.
       let joined_before = was column joined in
-      subst (λ k. (k ≡ root) ⊎ (turn_at relaxed (column_of draft k) < turn_at relaxed column)) (sym (r.kept column lt joined_before))
+      subst (λ k. (k ≡ root) ⊎ (turn_of_column relaxed (column_of draft k) < turn_of_column relaxed column)) (sym (r.kept column lt joined_before))
       (elim (s.before column lt joined_before) [
         | inl is_root ↦ inl is_root
         | inr less ↦ inr (less_alike _ _ _ _ (turn _) (turn column) less)
@@ -28,14 +28,14 @@ relaxed_stem worths draft tree relaxed root free tip s tip_lt r = record {
   outside = λ row lt after other. subst (λ k. length worths ≤ k) (sym (turn (column_of draft row))) (s.outside row lt after other);
 }
   where
-    turn : (column : ℕ) → turn_at relaxed column ≡ turn_at tree column
+    turn : (column : ℕ) → turn_of_column relaxed column ≡ turn_of_column tree column
     turn column = ap (λ xs. slice_index xs column) r.turns
 
-    was : (column : ℕ) → turn_at relaxed column < length worths → turn_at tree column < length worths
+    was : (column : ℕ) → turn_of_column relaxed column < length worths → turn_of_column tree column < length worths
     was column joined = subst (λ k. k < length worths) (turn column) joined
 
 pub relaxed_gaps : (worths : List (List ℕ)) (draft : Draft) (tree relaxed : Tree) (root tip : ℕ) → HasGaps worths draft tree root tip → tip < length worths
-    → turn_at tree (column_of draft tip) < length worths → IsRelaxed worths draft tree relaxed tip → HasGaps worths draft relaxed root (length worths)
+    → turn_of_column tree (column_of draft tip) < length worths → IsTreeRelaxed worths draft tree relaxed tip → HasGaps worths draft relaxed root (length worths)
 relaxed_gaps worths draft tree relaxed root tip g tip_lt tip_in r = record {
   least_root = λ column lt out. no_more _ _ _ _ (r.less column lt) (g.least_root column lt (was column out));
   least = λ row column row_lt lt _ joined out. elim (cases_eq row tip) [
@@ -49,16 +49,16 @@ relaxed_gaps worths draft tree relaxed root tip g tip_lt tip_in r = record {
     | inr new ↦ subst (λ k. gap_at relaxed column + worth_at worths k column ≡ row_dual draft k + column_dual draft column) (sym new.1) new.0
   ];
   reached = λ column lt out. elim (r.either column lt) [
-    | inl same ↦ subst (λ k. (k ≡ root) ⊎ (turn_at relaxed (column_of draft k) < length worths)) (sym same.1)
+    | inl same ↦ subst (λ k. (k ≡ root) ⊎ (turn_of_column relaxed (column_of draft k) < length worths)) (sym same.1)
         (elim (g.reached column lt (was column out)) [ inl is_root ↦ inl is_root | inr joined ↦ inr (subst (λ k. k < length worths) (sym (turn _)) joined) ])
-    | inr new ↦ subst (λ k. (k ≡ root) ⊎ (turn_at relaxed (column_of draft k) < length worths)) (sym new.1) (inr (subst (λ k. k < length worths) (sym (turn _)) tip_in))
+    | inr new ↦ subst (λ k. (k ≡ root) ⊎ (turn_of_column relaxed (column_of draft k) < length worths)) (sym new.1) (inr (subst (λ k. k < length worths) (sym (turn _)) tip_in))
   ];
 }
   where
-    turn : (column : ℕ) → turn_at relaxed column ≡ turn_at tree column
+    turn : (column : ℕ) → turn_of_column relaxed column ≡ turn_of_column tree column
     turn column = ap (λ xs. slice_index xs column) r.turns
 
-    was : (column : ℕ) → length worths ≤ turn_at relaxed column → length worths ≤ turn_at tree column
+    was : (column : ℕ) → length worths ≤ turn_of_column relaxed column → length worths ≤ turn_of_column tree column
     was column out = subst (λ k. length worths ≤ k) (turn column) out
 
     no_more : (gap gap' worth duals : ℕ) → gap' ≤ gap → gap + worth ≤ duals → gap' + worth ≤ duals

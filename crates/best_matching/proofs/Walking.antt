@@ -3,7 +3,7 @@ use Rattle.std.proofs.Common.{◌≡◌, ◌≢◌, ℕ, ◌<◌, ◌≤◌, sym
 use Rattle.std.proofs.lemmas.Bool.{cases_eq}
 use Rattle.sums.proofs.Naturals.{past_is_other}
 use Rattle.best_matching.specs.Drafts.{IsPairing, column_of}
-use Rattle.best_matching.specs.Trees.{IsOnTree, IsTurned, IsWay, from_at, turn_at}
+use Rattle.best_matching.specs.Trees.{IsOnTree, IsTurned, IsWay, from_at, turn_of_column}
 use Rattle.best_matching.specs.declared.draft.Draft.{Draft}
 use Rattle.best_matching.specs.declared.tree.Tree.{Tree}
 use Rattle.best_matching.proofs.Exchanging.{HaveExchanged}
@@ -19,7 +19,7 @@ turned_more size old now new tree root free before turned way from e = record {
         elim (turned.each row lt other) [
           | inl was ↦ inl (kept ∙ was)
           | inr on ↦ inr (record {
-            joined = subst (λ k. turn_at tree k < size) (sym kept) on.joined;
+            joined = subst (λ k. turn_of_column tree k < size) (sym kept) on.joined;
             from = ap (from_at tree) kept ∙ on.from;
           })
         ]
@@ -29,39 +29,39 @@ turned_more size old now new tree root free before turned way from e = record {
     on_tree_after : (size : ℕ) (now new : Draft) (tree : Tree) (root free before : ℕ) → IsWay size now tree root free → before ≡ from_at tree (column_of now free)
         → HaveExchanged size now new free before → IsOnTree size new tree before
     on_tree_after size now new tree root free before way from e = record {
-      joined = subst (λ k. turn_at tree k < size) (sym e.at_other) way.joined;
+      joined = subst (λ k. turn_of_column tree k < size) (sym e.at_other) way.joined;
       from = ap (from_at tree) e.at_other ∙ sym from;
     }
 
 pub root_on_tree : (size : ℕ) (now new : Draft) (tree : Tree) (root free before : ℕ) → IsWay size now tree root free → before ≡ from_at tree (column_of now free)
     → before ≡ root → HaveExchanged size now new free root → IsOnTree size new tree root
 root_on_tree size now new tree root free before way from same e = record {
-  joined = subst (λ k. turn_at tree k < size) (sym e.at_other) way.joined;
+  joined = subst (λ k. turn_of_column tree k < size) (sym e.at_other) way.joined;
   from = ap (from_at tree) e.at_other ∙ sym from ∙ same;
 }
 
 -- the row before stands at a column that joined before
 pub earlier_column : (size : ℕ) (now : Draft) (tree : Tree) (root free before : ℕ) → IsWay size now tree root free → column_of now free < size
-    → before ≡ from_at tree (column_of now free) → before ≢ root → turn_at tree (column_of now before) < turn_at tree (column_of now free)
+    → before ≡ from_at tree (column_of now free) → before ≢ root → turn_of_column tree (column_of now before) < turn_of_column tree (column_of now free)
 earlier_column size now tree root free before way lt from ne = elim (way.before (column_of now free) lt (omega arith)) [
   | inl same ↦ absurd (ne (from ∙ same))
-  | inr less ↦ subst (λ k. turn_at tree (column_of now k) < turn_at tree (column_of now free)) (sym from) less
+  | inr less ↦ subst (λ k. turn_of_column tree (column_of now k) < turn_of_column tree (column_of now free)) (sym from) less
 ]
 
 pub way_more : (size : ℕ) (now new : Draft) (tree : Tree) (root free before : ℕ) → IsWay size now tree root free → column_of now free < size
     → before ≡ from_at tree (column_of now free) → before ≢ root → HaveExchanged size now new free before → IsWay size new tree root free
 way_more size now new tree root free before way lt from ne e = record {
   within = way.within;
-  joined = subst (λ k. turn_at tree k < size) (sym e.at_one) (lt_trans less way.joined);
+  joined = subst (λ k. turn_of_column tree k < size) (sym e.at_one) (lt_trans less way.joined);
   before = λ column column_lt le.
-      let le_before : turn_at tree column ≤ turn_at tree (column_of now before) = subst (λ k. turn_at tree column ≤ turn_at tree k) e.at_one le in
+      let le_before : turn_of_column tree column ≤ turn_of_column tree (column_of now before) = subst (λ k. turn_of_column tree column ≤ turn_of_column tree k) e.at_one le in
       elim (way.before column column_lt (weaken _ _ _ le_before less)) [
         | inl same ↦ inl same
-        | inr earlier ↦ inr (subst (λ k. turn_at tree k < turn_at tree column) (sym (kept column le_before earlier)) earlier)
+        | inr earlier ↦ inr (subst (λ k. turn_of_column tree k < turn_of_column tree column) (sym (kept column le_before earlier)) earlier)
       ];
 }
   where
-    less : turn_at tree (column_of now before) < turn_at tree (column_of now free)
+    less : turn_of_column tree (column_of now before) < turn_of_column tree (column_of now free)
     less = earlier_column size now tree root free before way lt from ne
 
     weaken : (a b c : ℕ) → a ≤ b → b < c → a ≤ c
@@ -70,11 +70,11 @@ way_more size now new tree root free before way lt from ne e = record {
     clash_more : (a b c d : ℕ) → a ≤ b → b < d → c < a → d ≡ c → ⊥
     clash_more a b c d p r q e = omega arith
 
-    kept : (column : ℕ) → turn_at tree column ≤ turn_at tree (column_of now before) → turn_at tree (column_of now (from_at tree column)) < turn_at tree column
+    kept : (column : ℕ) → turn_of_column tree column ≤ turn_of_column tree (column_of now before) → turn_of_column tree (column_of now (from_at tree column)) < turn_of_column tree column
         → column_of new (from_at tree column) ≡ column_of now (from_at tree column)
     kept column le earlier = e.others (from_at tree column)
-        (λ same. clash_more _ _ _ _ le less earlier (ap (λ k. turn_at tree (column_of now k)) (sym same)))
-        (λ same. past_is_other _ _ _ le earlier (ap (λ k. turn_at tree (column_of now k)) (sym same)))
+        (λ same. clash_more _ _ _ _ le less earlier (ap (λ k. turn_of_column tree (column_of now k)) (sym same)))
+        (λ same. past_is_other _ _ _ le earlier (ap (λ k. turn_of_column tree (column_of now k)) (sym same)))
 
 pub before_within : (size : ℕ) (now : Draft) (tree : Tree) (root free before : ℕ) → IsPairing size now → IsWay size now tree root free → free < size
     → before ≡ from_at tree (column_of now free) → before < size

@@ -3,20 +3,20 @@ use Rattle.std.proofs.Common.{◌≡◌, ◌≢◌, ℕ, ◌+◌, ◌<◌, ◌�
 use Rattle.std.proofs.lemmas.Bool.{cases_lt, cases_order}
 use Rattle.best_matching.specs.Worths.{AreWorths, worth_at}
 use Rattle.best_matching.specs.Drafts.{HasDuals, IsMatched, IsPairing, column_dual, column_of, row_dual, row_of}
-use Rattle.best_matching.specs.Trees.{IsSearch, IsStem, gap_at, turn_at}
+use Rattle.best_matching.specs.Trees.{IsRowSearch, IsStem, gap_at, turn_of_column}
 use Rattle.best_matching.specs.declared.matching.TheConstants.{MAX_WORTH}
 use Rattle.best_matching.specs.declared.draft.Draft.{Draft}
 use Rattle.best_matching.specs.declared.tree.Tree.{Tree}
 use Rattle.best_matching.proofs.WideningSteps.{AreNumbers, still_meets}
 
 -- the root's column is outside, and its dual is 0
-pub root_outside : (worths : List (List ℕ)) (draft : Draft) (tree : Tree) (root turn : ℕ) → IsSearch worths draft tree root turn → root < length worths
-    → length worths ≤ turn_at tree (column_of draft root)
+pub root_outside : (worths : List (List ℕ)) (draft : Draft) (tree : Tree) (root turn : ℕ) → IsRowSearch worths draft tree root turn → root < length worths
+    → length worths ≤ turn_of_column tree (column_of draft root)
 root_outside worths draft tree root turn s lt = s.stem.outside root lt (omega arith) (omega arith)
 
 -- the gap there is no more than the dual of any reached row
-pub enough : (worths : List (List ℕ)) (draft : Draft) (tree : Tree) (root turn : ℕ) → IsSearch worths draft tree root turn → root < length worths
-    → (row : ℕ) → row < length worths → (row ≡ root) ⊎ (turn_at tree (column_of draft row) < length worths) → gap_at tree (column_of draft root) ≤ row_dual draft row
+pub enough : (worths : List (List ℕ)) (draft : Draft) (tree : Tree) (root turn : ℕ) → IsRowSearch worths draft tree root turn → root < length worths
+    → (row : ℕ) → row < length worths → (row ≡ root) ⊎ (turn_of_column tree (column_of draft row) < length worths) → gap_at tree (column_of draft root) ≤ row_dual draft row
 enough worths draft tree root turn s root_lt row lt reached =
     let out = root_outside worths draft tree root turn s root_lt in
     let within : column_of draft root < length worths = s.pairing.column_within root root_lt in
@@ -31,26 +31,26 @@ enough worths draft tree root turn s root_lt row lt reached =
 
 -- a column in the tree is that of a matched row
 pub joined_matched : (worths : List (List ℕ)) (draft : Draft) (tree : Tree) (root : ℕ) → IsPairing (length worths) draft → IsStem worths draft tree root (length worths)
-    → (column : ℕ) → column < length worths → turn_at tree column < length worths → row_of draft column < root
+    → (column : ℕ) → column < length worths → turn_of_column tree column < length worths → row_of draft column < root
 joined_matched worths draft tree root pairing stem column lt joined =
     elim (cases_lt (row_of draft column) root) [
       | inl before ↦ before
       | inr after ↦
           let row_lt : row_of draft column < length worths = pairing.row_within column lt in
           let out = stem.outside (row_of draft column) row_lt after (omega arith) in
-          let out_here : length worths ≤ turn_at tree column = subst (λ k. length worths ≤ turn_at tree k) (pairing.column_again column lt) out in
+          let out_here : length worths ≤ turn_of_column tree column = subst (λ k. length worths ≤ turn_of_column tree k) (pairing.column_again column lt) out in
           absurd (omega arith)
     ]
 
 -- its dual has room for that gap
-pub room : (worths : List (List ℕ)) (draft : Draft) (tree : Tree) (root turn : ℕ) → AreWorths worths → IsSearch worths draft tree root turn → root < length worths
-    → (column : ℕ) → column < length worths → turn_at tree column < length worths → column_dual draft column + gap_at tree (column_of draft root) ≤ MAX_WORTH
+pub room : (worths : List (List ℕ)) (draft : Draft) (tree : Tree) (root turn : ℕ) → AreWorths worths → IsRowSearch worths draft tree root turn → root < length worths
+    → (column : ℕ) → column < length worths → turn_of_column tree column < length worths → column_dual draft column + gap_at tree (column_of draft root) ≤ MAX_WORTH
 room worths draft tree root turn w s root_lt column lt joined =
     let row = row_of draft column in
     let before : row < root = joined_matched worths draft tree root s.pairing s.stem column lt joined in
     let row_lt : row < length worths = s.pairing.row_within column lt in
     let back : column_of draft row ≡ column = s.pairing.column_again column lt in
-    let joined_row : turn_at tree (column_of draft row) < length worths = subst (λ k. turn_at tree k < length worths) (sym back) joined in
+    let joined_row : turn_of_column tree (column_of draft row) < length worths = subst (λ k. turn_of_column tree k < length worths) (sym back) joined in
     let le = enough worths draft tree root turn s root_lt row row_lt (inr joined_row) in
     let meets = subst (λ k. row_dual draft row + column_dual draft k ≡ worth_at worths row k) back (s.matched.meet row before) in
     fits _ _ _ _ _ meets le (w.small row column row_lt lt)
@@ -58,16 +58,16 @@ room worths draft tree root turn w s root_lt column lt joined =
     fits : (row column worth gap most : ℕ) → row + column ≡ worth → gap ≤ row → worth ≤ most → column + gap ≤ most
     fits row column worth gap most e le small = omega arith
 
-pub widened_duals : (worths : List (List ℕ)) (old new : Draft) (tree wider : Tree) (root turn next : ℕ) → AreWorths worths → IsSearch worths old tree root turn → root < length worths
-    → ((column : ℕ) → column < length worths → length worths ≤ turn_at tree column → gap_at tree next ≤ gap_at tree column)
+pub widened_duals : (worths : List (List ℕ)) (old new : Draft) (tree wider : Tree) (root turn next : ℕ) → AreWorths worths → IsRowSearch worths old tree root turn → root < length worths
+    → ((column : ℕ) → column < length worths → length worths ≤ turn_of_column tree column → gap_at tree next ≤ gap_at tree column)
     → AreNumbers (length worths) old new tree wider root turn next (gap_at tree next) → HasDuals worths new
 widened_duals worths old new tree wider root turn next w s root_lt least a = record {
   reach = λ row column row_lt column_lt. elim (row_cases row) [
-    | inl reached ↦ elim (cases_lt (turn_at tree column) (length worths)) [
+    | inl reached ↦ elim (cases_lt (turn_of_column tree column) (length worths)) [
       | inl joined ↦ both _ _ _ _ _ _ (a.lowered row row_lt reached) (a.raised column column_lt joined) (s.duals.reach row column row_lt column_lt)
       | inr out ↦ row_alone _ _ _ _ _ _ _ (a.lowered row row_lt reached) (a.same column column_lt out) (least column column_lt out) (gap_le row column row_lt column_lt reached out)
     ]
-    | inr not ↦ elim (cases_lt (turn_at tree column) (length worths)) [
+    | inr not ↦ elim (cases_lt (turn_of_column tree column) (length worths)) [
       | inl joined ↦ column_alone _ _ _ _ _ _ (a.kept row row_lt not.0 not.1) (a.raised column column_lt joined) (s.duals.reach row column row_lt column_lt)
       | inr out ↦ neither _ _ _ _ _ (a.kept row row_lt not.0 not.1) (a.same column column_lt out) (s.duals.reach row column row_lt column_lt)
     ]
@@ -76,7 +76,7 @@ widened_duals worths old new tree wider root turn next w s root_lt least a = rec
     | inl reached ↦ lower _ _ _ _ (a.lowered row row_lt reached) (s.duals.small row row_lt)
     | inr not ↦ rw (a.kept row row_lt not.0 not.1) (s.duals.small row row_lt)
   ];
-  column_small = λ column column_lt. elim (cases_lt (turn_at tree column) (length worths)) [
+  column_small = λ column column_lt. elim (cases_lt (turn_of_column tree column) (length worths)) [
     | inl joined ↦
         raise _ _ _ _ _ (a.raised column column_lt joined)
         (least (column_of old root) (s.pairing.column_within root root_lt) (root_outside worths old tree root turn s root_lt))
@@ -85,8 +85,8 @@ widened_duals worths old new tree wider root turn next w s root_lt least a = rec
   ];
 }
   where
-    row_cases : (row : ℕ) → ((row ≡ root) ⊎ (turn_at tree (column_of old row) < length worths)) ⊎ ((row ≢ root) × (length worths ≤ turn_at tree (column_of old row)))
-    row_cases row = elim (cases_lt (turn_at tree (column_of old row)) (length worths)) [
+    row_cases : (row : ℕ) → ((row ≡ root) ⊎ (turn_of_column tree (column_of old row) < length worths)) ⊎ ((row ≢ root) × (length worths ≤ turn_of_column tree (column_of old row)))
+    row_cases row = elim (cases_lt (turn_of_column tree (column_of old row)) (length worths)) [
       | inl joined ↦ inl (inr joined)
       | inr out ↦ elim (cases_order row root) [
         | inl same ↦ inl (inl same)
@@ -94,8 +94,8 @@ widened_duals worths old new tree wider root turn next w s root_lt least a = rec
       ]
     ]
 
-    gap_le : (row column : ℕ) → row < length worths → column < length worths → (row ≡ root) ⊎ (turn_at tree (column_of old row) < length worths)
-        → length worths ≤ turn_at tree column → gap_at tree column + worth_at worths row column ≤ row_dual old row + column_dual old column
+    gap_le : (row column : ℕ) → row < length worths → column < length worths → (row ≡ root) ⊎ (turn_of_column tree (column_of old row) < length worths)
+        → length worths ≤ turn_of_column tree column → gap_at tree column + worth_at worths row column ≤ row_dual old row + column_dual old column
     gap_le row column row_lt column_lt reached out = elim reached [
       | inl same ↦ subst (λ r. gap_at tree column + worth_at worths r column ≤ row_dual old r + column_dual old column) (sym same) (s.gaps.least_root column column_lt out)
       | inr joined ↦ s.gaps.least row column row_lt column_lt (omega arith) joined out
@@ -132,13 +132,13 @@ widened_pairing size old new tree wider root turn next by p row_duals column_dua
   column_again = λ column lt. ap (λ xs. slice_index xs (slice_index new.rows column)) columns ∙ ap (λ xs. slice_index old.columns (slice_index xs column)) rows ∙ p.column_again column lt;
 }
 
-pub widened_matched : (worths : List (List ℕ)) (old new : Draft) (tree wider : Tree) (root turn next : ℕ) → IsSearch worths old tree root turn → root < length worths
+pub widened_matched : (worths : List (List ℕ)) (old new : Draft) (tree wider : Tree) (root turn next : ℕ) → IsRowSearch worths old tree root turn → root < length worths
     → AreNumbers (length worths) old new tree wider root turn next (gap_at tree next) → IsMatched worths new root (length worths)
 widened_matched worths old new tree wider root turn next s root_lt a = record {
   meet = λ row before.
       let row_lt : row < length worths = omega arith in
       subst (λ k. row_dual new row + column_dual new k ≡ worth_at worths row k) (sym (a.column_of row))
-      (elim (cases_lt (turn_at tree (column_of old row)) (length worths)) [
+      (elim (cases_lt (turn_of_column tree (column_of old row)) (length worths)) [
         | inl joined ↦ still_meets _ _ _ _ _ _ (a.lowered row row_lt (inr joined)) (a.raised (column_of old row) (s.pairing.column_within row row_lt) joined) (s.matched.meet row before)
         | inr out ↦ neither _ _ _ _ _ (a.kept row row_lt (omega arith) out) (a.same (column_of old row) (s.pairing.column_within row row_lt) out) (s.matched.meet row before)
       ]);

@@ -40,7 +40,7 @@ pub record IsMatched (worths : List (List ℕ)) (draft : Draft) (matched free : 
   pub unused : (row : ℕ) → row < length worths → matched ≤ row → row ≢ free → column_dual draft (column_of draft row) ≡ 0
 
 -- one draft is another in which two rows have exchanged their columns
-pub record AreExchanged (old new : Draft) (one other : ℕ) : Type 0 where
+pub record AreColumnsExchanged (old new : Draft) (one other : ℕ) : Type 0 where
   pub columns : new.columns ≡ slice_set (slice_set old.columns one (column_of old other)) other (column_of old one)
   pub rows : new.rows ≡ slice_set (slice_set old.rows (column_of old other) one) (column_of old one) other
   pub row_duals : new.row_duals ≡ old.row_duals

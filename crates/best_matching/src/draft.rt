@@ -2,7 +2,7 @@
 ghost use Rattle.std.specs.Prelude.{◌≡◌, ◌<◌, ◌≤◌, ℕ, length, slice_set, slice_index, slice_index_or, [], IfOk};
 ghost use Rattle.sums.specs.Places.{list_below};
 ghost use Rattle.best_matching.specs.Worths.{AreWorths, worth_at};
-ghost use Rattle.best_matching.specs.Drafts.{AreExchanged, HasDuals, IsMatched, IsPairing, column_of};
+ghost use Rattle.best_matching.specs.Drafts.{AreColumnsExchanged, HasDuals, IsMatched, IsPairing, column_of};
 ghost use Rattle.best_matching.specs.declared.matching.TheConstants.{MAX_WORTH};
 
 use entries::{Entries, NoMemory};
@@ -104,7 +104,7 @@ pub fn exchange(draft: &mut Draft, one: usize, other: usize)
     requires other { other < length draft.old.columns }
     requires column { column_of draft.old one < length draft.old.rows }
     requires other_column { column_of draft.old other < length draft.old.rows }
-    ensures { AreExchanged draft.old draft.new one other }
+    ensures { AreColumnsExchanged draft.old draft.new one other }
 {
     let column = draft.columns.as_slice()[one];
     let other_column = draft.columns.as_slice()[other];

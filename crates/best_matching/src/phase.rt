@@ -3,7 +3,7 @@ ghost use Rattle.std.specs.Prelude.{◌≡◌, ◌<◌, ◌≤◌, ◌+◌, ℕ,
 ghost use Rattle.sums.specs.Places.{list_below};
 ghost use Rattle.best_matching.specs.Worths.{AreWorths, worth_at};
 ghost use Rattle.best_matching.specs.Drafts.{HasDuals, IsMatched, IsPairing, column_dual, row_dual};
-ghost use Rattle.best_matching.specs.Trees.{IsGrown, IsSearch};
+ghost use Rattle.best_matching.specs.Trees.{IsRowSearch, IsTreeGrown};
 
 use crate::draft::Draft;
 use crate::tree::{Tree, gap_of, relax, widen};
@@ -45,7 +45,7 @@ fn plant(
     requires duals { HasDuals worths.now draft.now }
     requires matched { IsMatched worths.now draft.now root (length worths.now) }
     requires root { root < length worths.now }
-    ensures { IfOk result (λ tree. IsSearch worths.now draft.now tree root 0) }
+    ensures { IfOk result (λ tree. IsRowSearch worths.now draft.now tree root 0) }
 {
     Ok(Tree {
         gaps: first_gaps(alloc, worths, draft, root)?,
@@ -90,9 +90,9 @@ fn repeated(alloc: Global, number: usize, times: usize) -> Result<Entries<usize>
 /// Grows the tree until it has the column of a row that isn't matched, and answers that row.
 fn grow(worths: &[Entries<u64>], draft: &mut Draft, tree: &mut Tree, root: usize) -> usize
     requires worths { AreWorths worths.now }
-    requires search { IsSearch worths.now draft.old tree.old root 0 }
+    requires search { IsRowSearch worths.now draft.old tree.old root 0 }
     requires root { root < length worths.now }
-    ensures { IsGrown worths.now draft.new tree.new root result }
+    ensures { IsTreeGrown worths.now draft.new tree.new root result }
 {
     for turn in 0..worths.len() {
         let next = widen(draft, tree, root, turn);

@@ -3,7 +3,7 @@ ghost use Rattle.std.specs.Prelude.{◌≡◌, ◌<◌, ◌≤◌, ◌+◌, ◌-
 ghost use Rattle.sums.specs.Places.{list_below};
 ghost use Rattle.best_matching.specs.Worths.{AreWorths, worth_at};
 ghost use Rattle.best_matching.specs.Drafts.{HasDuals, IsPairing, column_dual, column_of, row_dual};
-ghost use Rattle.best_matching.specs.Trees.{HasSize, IsRelaxed, IsWidened, gap_at, is_in, is_reached, turn_at};
+ghost use Rattle.best_matching.specs.Trees.{HasSize, IsTreeRelaxed, IsWidened, gap_at, is_in_tree, is_reached, turn_of_column};
 ghost use Rattle.best_matching.specs.declared.matching.TheConstants.{MAX_WORTH};
 
 use crate::draft::{Draft, worth_at};
@@ -22,7 +22,7 @@ pub struct Tree {
 #[inline]
 pub fn is_in(turns: &Entries<usize>, column: usize) -> bool
     requires { column < length turns.now }
-    ensures { result ≡ is_in turns.now column }
+    ensures { result ≡ is_in_tree turns.now column }
 {
     turns.as_slice()[column] < turns.len()
 }
@@ -43,10 +43,10 @@ pub fn nearest(tree: &Tree, rows: &Entries<usize>, root: usize, start: usize) ->
     requires size { HasSize (length tree.now.turns) tree.now }
     requires rows { length rows.now ≡ length tree.now.turns }
     requires start { start < length tree.now.turns }
-    requires outside { length tree.now.turns ≤ turn_at tree.now start }
+    requires outside { length tree.now.turns ≤ turn_of_column tree.now start }
     ensures within { result < length tree.now.turns }
-    ensures outside { length tree.now.turns ≤ turn_at tree.now result }
-    ensures least { (column : ℕ) → column < length tree.now.turns → length tree.now.turns ≤ turn_at tree.now column → gap_at tree.now result ≤ gap_at tree.now column }
+    ensures outside { length tree.now.turns ≤ turn_of_column tree.now result }
+    ensures least { (column : ℕ) → column < length tree.now.turns → length tree.now.turns ≤ turn_of_column tree.now column → gap_at tree.now result ≤ gap_at tree.now column }
 {
     let mut nearest = start;
     for column in 0..tree.turns.len() {
@@ -99,8 +99,8 @@ pub fn lower_rows(
 /// Raises the duals of the columns in the tree.
 pub fn raise_columns(column_duals: &mut Entries<u64>, turns: &Entries<usize>, by: u64)
     requires size { length turns.now ≡ length column_duals.old }
-    requires room { (column : ℕ) → column < length column_duals.old → is_in turns.now column ≡ true → slice_index column_duals.old column + by ≤ MAX_WORTH }
-    ensures { column_duals.new ≡ list_below (λ column. if is_in turns.now column then slice_index column_duals.old column + by else slice_index column_duals.old column) (length column_duals.old) }
+    requires room { (column : ℕ) → column < length column_duals.old → is_in_tree turns.now column ≡ true → slice_index column_duals.old column + by ≤ MAX_WORTH }
+    ensures { column_duals.new ≡ list_below (λ column. if is_in_tree turns.now column then slice_index column_duals.old column + by else slice_index column_duals.old column) (length column_duals.old) }
 {
     for column in 0..column_duals.len() {
         if is_in(turns, column) {
@@ -113,8 +113,8 @@ pub fn raise_columns(column_duals: &mut Entries<u64>, turns: &Entries<usize>, by
 /// Lowers the gaps of the columns outside.
 pub fn lower_gaps(gaps: &mut Entries<u64>, turns: &Entries<usize>, by: u64)
     requires size { length turns.now ≡ length gaps.old }
-    requires enough { (column : ℕ) → column < length gaps.old → is_in turns.now column ≡ false → by ≤ slice_index gaps.old column }
-    ensures { gaps.new ≡ list_below (λ column. if is_in turns.now column then slice_index gaps.old column else slice_index gaps.old column - by) (length gaps.old) }
+    requires enough { (column : ℕ) → column < length gaps.old → is_in_tree turns.now column ≡ false → by ≤ slice_index gaps.old column }
+    ensures { gaps.new ≡ list_below (λ column. if is_in_tree turns.now column then slice_index gaps.old column else slice_index gaps.old column - by) (length gaps.old) }
 {
     for column in 0..gaps.len() {
         if !is_in(turns, column) {
@@ -129,12 +129,12 @@ pub fn widen(draft: &mut Draft, tree: &mut Tree, root: usize, turn: usize) -> us
     requires pairing { IsPairing (length draft.old.columns) draft.old }
     requires size { HasSize (length draft.old.columns) tree.old }
     requires root { root < length draft.old.columns }
-    requires outside { length draft.old.columns ≤ turn_at tree.old (column_of draft.old root) }
+    requires outside { length draft.old.columns ≤ turn_of_column tree.old (column_of draft.old root) }
     requires enough { (row : ℕ) → row < length draft.old.columns → is_reached draft.old.columns tree.old.turns root row ≡ true → gap_at tree.old (column_of draft.old root) ≤ row_dual draft.old row }
-    requires room { (column : ℕ) → column < length draft.old.columns → is_in tree.old.turns column ≡ true → column_dual draft.old column + gap_at tree.old (column_of draft.old root) ≤ MAX_WORTH }
+    requires room { (column : ℕ) → column < length draft.old.columns → is_in_tree tree.old.turns column ≡ true → column_dual draft.old column + gap_at tree.old (column_of draft.old root) ≤ MAX_WORTH }
     ensures within { result < length draft.old.columns }
-    ensures outside { length draft.old.columns ≤ turn_at tree.old result }
-    ensures least { (column : ℕ) → column < length draft.old.columns → length draft.old.columns ≤ turn_at tree.old column → gap_at tree.old result ≤ gap_at tree.old column }
+    ensures outside { length draft.old.columns ≤ turn_of_column tree.old result }
+    ensures least { (column : ℕ) → column < length draft.old.columns → length draft.old.columns ≤ turn_of_column tree.old column → gap_at tree.old result ≤ gap_at tree.old column }
     ensures widened { IsWidened (length draft.old.columns) draft.old draft.new tree.old tree.new root turn result }
 {
     let next = nearest(tree, &draft.rows, root, draft.columns.as_slice()[root]);
@@ -153,7 +153,7 @@ pub fn relax(worths: &[Entries<u64>], draft: &Draft, tree: &mut Tree, tip: usize
     requires duals { HasDuals worths.now draft.now }
     requires size { HasSize (length worths.now) tree.old }
     requires tip { tip < length worths.now }
-    ensures { IsRelaxed worths.now draft.now tree.old tree.new tip }
+    ensures { IsTreeRelaxed worths.now draft.now tree.old tree.new tip }
 {
     for column in 0..worths.len() {
         let gap = gap_of(worths, draft, tip, column);

@@ -9,7 +9,7 @@ use Rattle.bound_cert.proofs.WrittenNodes.{behind_line}
 use Rattle.bound_cert.proofs.WrittenPrices.{IsBehind, mixed_scale_read, needed_by, next_begins, of_step, scale_read, step_read, steps_read}
 use Rattle.bound_cert.specs.Lines.{◌>>=◌, Left, Reading, fits}
 use Rattle.bound_cert.specs.ProofText.{at_line}
-use Rattle.bound_cert.specs.Reading.{Series, charge_series, charges_from, entries_from, entry_at, first_words, is_needless, mixed_at, mixed_scale_at, padded, prices_at, rent_series, rents_from, scale_at, step_at, step_series, steps_from, weight_series, weights_from}
+use Rattle.bound_cert.specs.Reading.{Series, charge_series, charges_from, entries_from, entry_said, first_words, is_needless, mixed_said, mixed_scale_at, padded, prices_said, rent_series, rents_from, scale_at, step_said, step_series, steps_from, weight_series, weights_from}
 use Rattle.bound_cert.specs.declared.reading_lines.Due.{Due}
 use Rattle.dual_bound.proofs.StepOrder.{one_figure, same_place_by}
 use Rattle.dual_bound.specs.OfTables.{IsStepOf}
@@ -81,22 +81,22 @@ module _ (v : Version) (t : Tables) (line : List ℕ) (after : Left) where
   abbrev end : Left
   end = line ∷ after
 
-  entries_go : {S A B : Type 0} (s : Series S A B) (May Need : Left → Type 0) → ((so_far : S) (a b : Left) → Alike a b → Twin a b (entry_at s so_far a) (entry_at s so_far b)) → ((m : Left) → May m → begins s.names.version m s.kind ≡ false)
+  entries_go : {S A B : Type 0} (s : Series S A B) (May Need : Left → Type 0) → ((so_far : S) (a b : Left) → Alike a b → Twin a b (entry_said s so_far a) (entry_said s so_far b)) → ((m : Left) → May m → begins s.names.version m s.kind ≡ false)
       → ((m : Left) → IsBehind m → begins s.names.version m s.kind ≡ false) → ((m : Left) → IsBehind m → Need m) → (so_far : S) (p : Left) → EndsBy May Need end (entries_from s so_far) p (entries_from s so_far (p ++ end))
   unfolding entries_from
   entries_go s May Need twin may_end behind_ends need so_far [] =
       ends_if _ _ end _ [] (fits s.kind (form_in s.names.version (words_of line))) _ _
-      (λ is. ends_read _ _ end _ [] (entry_at s so_far end) _
+      (λ is. ends_read _ _ end _ [] (entry_said s so_far end) _
       (λ e failed there. record { more = []; value = s.all so_far; reads = λ z ends. entries_end s so_far z (behind_ends z ends); need = need })
       (λ entry read. beyond _ _ end _ [] (length after) _ (entries_shrink s (λ so_far a. twin so_far a a (alike_self a)) (s.grow so_far entry) after) (omega arith)))
       (λ is. inl (record { rest = []; left_is = refl; stays = λ m some may. entries_end s so_far m (may_end m may) }))
   entries_go s May Need twin may_end behind_ends need so_far (x ∷ p) =
       ends_if _ _ end _ (x ∷ p) (fits s.kind (form_in s.names.version (words_of x))) _ _
-      (λ is. ends_read _ _ end _ (x ∷ p) (entry_at s so_far (x ∷ (p ++ end))) _
-      (λ e failed there. not_there x p end (entry_at s so_far (x ∷ (p ++ end))) e (twin so_far (x ∷ (p ++ end)) (x ∷ (p ++ end)) (alike_self (x ∷ (p ++ end)))) failed there)
+      (λ is. ends_read _ _ end _ (x ∷ p) (entry_said s so_far (x ∷ (p ++ end))) _
+      (λ e failed there. not_there x p end (entry_said s so_far (x ∷ (p ++ end))) e (twin so_far (x ∷ (p ++ end)) (x ∷ (p ++ end)) (alike_self (x ∷ (p ++ end)))) failed there)
       (λ entry read. ends_lift _ _ end (entries_from s so_far) (x ∷ p) (entries_from s (s.grow so_far entry)) p _ (λ m may. tt)
       (λ m some. entries_more s so_far (x ∷ (p ++ m)) entry is
-      (value_of (x ∷ (p ++ end)) (x ∷ (p ++ m)) (entry_at s so_far (x ∷ (p ++ end))) (entry_at s so_far (x ∷ (p ++ m))) entry (twin so_far (x ∷ (p ++ end)) (x ∷ (p ++ m)) (alike_after x line p after m some)) read))
+      (value_of (x ∷ (p ++ end)) (x ∷ (p ++ m)) (entry_said s so_far (x ∷ (p ++ end))) (entry_said s so_far (x ∷ (p ++ m))) entry (twin so_far (x ∷ (p ++ end)) (x ∷ (p ++ m)) (alike_after x line p after m some)) read))
       (entries_go s May Need twin may_end behind_ends need (s.grow so_far entry) p)))
       (λ is. inl (record { rest = x ∷ p; left_is = refl; stays = λ m some may. entries_end s so_far (x ∷ (p ++ m)) is }))
 
@@ -116,7 +116,7 @@ module _ (v : Version) (t : Tables) (line : List ℕ) (after : Left) where
     onward : (m : Left) → 0 < length m → is_needless (names v t) step m ≡ false → steps_from (names v t) steps before (x ∷ m) ≡ steps_from (names v t) (steps ++ step ∷ []) (Some step) m
     onward m some needed =
         let first : x ≡ line_bytes t (at_line step) = first_same x (line_bytes t (at_line step)) end end was.line_is.is in
-        entries_more (step_series (names v t)) (steps, before) (x ∷ m) step is (ap (λ y. step_at (names v t) before (y ∷ m)) first ∙ step_read v t before step m was.order was.follows needed some)
+        entries_more (step_series (names v t)) (steps, before) (x ∷ m) step is (ap (λ y. step_said (names v t) before (y ∷ m)) first ∙ step_read v t before step m was.order was.follows needed some)
 
     -- behind lines of another kind it is needed as little as behind such
     stays_needed : (m : Left) → begins v end due.Step ≡ false → begins v m due.Step ≡ false → is_needless (names v t) step m ≡ false
@@ -168,18 +168,18 @@ module _ (v : Version) (t : Tables) (line : List ℕ) (after : Left) where
   unfolding entries_from
   steps_go steps before [] =
       ends_if _ _ end _ [] (fits due.Step (form_in v (words_of line))) _ _
-      (λ is. ends_read _ _ end _ [] (step_at (names v t) before end) _
+      (λ is. ends_read _ _ end _ [] (step_said (names v t) before end) _
       (λ e failed there. record { more = []; value = steps; reads = λ z ends. entries_end (step_series (names v t)) (steps, before) z (ends.no_step v); need = may_be_step })
       (λ step read. beyond _ _ end _ [] (length after) _ (steps_shrink v t (steps ++ step ∷ []) (Some step) after) (omega arith)))
       (λ is. inl (record { rest = []; left_is = refl; stays = λ m some may. entries_end (step_series (names v t)) (steps, before) m (may.other v) }))
   steps_go steps before (x ∷ []) =
       ends_if _ _ end _ (x ∷ []) (fits due.Step (form_in v (words_of x))) _ _
-      (λ is. ends_read _ _ end _ (x ∷ []) (step_at (names v t) before (x ∷ end)) _
-      (λ e failed there. not_there x [] end (step_at (names v t) before (x ∷ end)) e (step_twin v t (x ∷ end) (x ∷ end) (alike_self (x ∷ end)) before (λ zero_step. refl)) failed there)
+      (λ is. ends_read _ _ end _ (x ∷ []) (step_said (names v t) before (x ∷ end)) _
+      (λ e failed there. not_there x [] end (step_said (names v t) before (x ∷ end)) e (step_twin v t (x ∷ end) (x ∷ end) (alike_self (x ∷ end)) before (λ zero_step. refl)) failed there)
       (λ step read.
       let was = step_was v t before (x ∷ end) step read in
       ends_if _ _ end _ (x ∷ []) (fits due.Step (form_in v (words_of line))) _ _
-      (λ on. ends_read _ _ end _ (x ∷ []) (step_at (names v t) (Some step) end) _ (λ e failed there. completed steps before x is step was)
+      (λ on. ends_read _ _ end _ (x ∷ []) (step_said (names v t) (Some step) end) _ (λ e failed there. completed steps before x is step was)
       (λ other read. beyond _ _ end _ (x ∷ []) (length after) _ (steps_shrink v t ((steps ++ step ∷ []) ++ other ∷ []) (Some other) after) (omega arith)))
       (λ off. inl (record {
         rest = [];
@@ -189,11 +189,11 @@ module _ (v : Version) (t : Tables) (line : List ℕ) (after : Left) where
       (λ is. inl (record { rest = x ∷ []; left_is = refl; stays = λ m some may. entries_end (step_series (names v t)) (steps, before) (x ∷ m) is }))
   steps_go steps before (x ∷ y ∷ p) =
       ends_if _ _ end _ (x ∷ y ∷ p) (fits due.Step (form_in v (words_of x))) _ _
-      (λ is. ends_read _ _ end _ (x ∷ y ∷ p) (step_at (names v t) before (x ∷ y ∷ (p ++ end))) _
-      (λ e failed there. not_there x (y ∷ p) end (step_at (names v t) before (x ∷ y ∷ (p ++ end))) e (step_twin v t (x ∷ y ∷ (p ++ end)) (x ∷ y ∷ (p ++ end)) (alike_self (x ∷ y ∷ (p ++ end))) before (λ zero_step. refl)) failed there)
+      (λ is. ends_read _ _ end _ (x ∷ y ∷ p) (step_said (names v t) before (x ∷ y ∷ (p ++ end))) _
+      (λ e failed there. not_there x (y ∷ p) end (step_said (names v t) before (x ∷ y ∷ (p ++ end))) e (step_twin v t (x ∷ y ∷ (p ++ end)) (x ∷ y ∷ (p ++ end)) (alike_self (x ∷ y ∷ (p ++ end))) before (λ zero_step. refl)) failed there)
       (λ step read. ends_lift _ _ end (steps_from (names v t) steps before) (x ∷ y ∷ p) (steps_from (names v t) (steps ++ step ∷ []) (Some step)) (y ∷ p) _ (λ m may. tt)
       (λ m some. entries_more (step_series (names v t)) (steps, before) (x ∷ y ∷ (p ++ m)) step is
-      (value_of (x ∷ y ∷ (p ++ end)) (x ∷ y ∷ (p ++ m)) (step_at (names v t) before (x ∷ y ∷ (p ++ end))) (step_at (names v t) before (x ∷ y ∷ (p ++ m))) step
+      (value_of (x ∷ y ∷ (p ++ end)) (x ∷ y ∷ (p ++ m)) (step_said (names v t) before (x ∷ y ∷ (p ++ end))) (step_said (names v t) before (x ∷ y ∷ (p ++ m))) step
       (step_twin v t (x ∷ y ∷ (p ++ end)) (x ∷ y ∷ (p ++ m)) (alike_first x y y (p ++ end) (p ++ m)) before (λ zero_step. refl)) read))
       (steps_go (steps ++ step ∷ []) (Some step) (y ∷ p))))
       (λ is. inl (record { rest = x ∷ y ∷ p; left_is = refl; stays = λ m some may. entries_end (step_series (names v t)) (steps, before) (x ∷ y ∷ (p ++ m)) is }))
@@ -221,8 +221,8 @@ module _ (v : Version) (t : Tables) (line : List ℕ) (after : Left) where
   unfolding two_parts three_parts
   of_three scale left = regroup (rents_from (names v t) [] left) (charges_from (names v t) [] None) (λ two. steps_from (names v t) [] None two.1 >>= λ steps. Ok (three_parts scale two.0 steps.0, steps.1))
 
-  pub prices_go : (p : Left) → EndsBy IsBehind (λ m. ⊤) end (prices_at (names v t)) p (prices_at (names v t) (p ++ end))
-  unfolding prices_at three_parts
+  pub prices_go : (p : Left) → EndsBy IsBehind (λ m. ⊤) end (prices_said (names v t)) p (prices_said (names v t) (p ++ end))
+  unfolding prices_said three_parts
   prices_go [] =
       ends_read _ _ end _ [] (scale_at (names v t) end) _
       (λ e failed there. record {
@@ -241,8 +241,8 @@ module _ (v : Version) (t : Tables) (line : List ℕ) (after : Left) where
   prices_go (x ∷ p) =
       ends_read _ _ end _ (x ∷ p) (scale_at (names v t) (x ∷ (p ++ end))) _
       (λ e failed there. not_there x p end (scale_at (names v t) (x ∷ (p ++ end))) e (scale_twin v t (x ∷ (p ++ end)) (x ∷ (p ++ end)) (alike_self (x ∷ (p ++ end)))) failed there)
-      (λ scale read. subst (λ r. EndsBy IsBehind (λ m. ⊤) end (prices_at (names v t)) (x ∷ p) r) (of_three scale (p ++ end))
-      (ends_then MayBeStep (λ m. ⊤) (MayFollow due.Step) IsBehind end two_parts (λ two. steps_from (names v t) [] None) (three_parts scale) (prices_at (names v t)) (x ∷ p) p
+      (λ scale read. subst (λ r. EndsBy IsBehind (λ m. ⊤) end (prices_said (names v t)) (x ∷ p) r) (of_three scale (p ++ end))
+      (ends_then MayBeStep (λ m. ⊤) (MayFollow due.Step) IsBehind end two_parts (λ two. steps_from (names v t) [] None) (three_parts scale) (prices_said (names v t)) (x ∷ p) p
       may_be_step no_step
       (λ m some. bound (scale_at (names v t) (x ∷ (p ++ m))) scale _
       (value_of (x ∷ (p ++ end)) (x ∷ (p ++ m)) (scale_at (names v t) (x ∷ (p ++ end))) (scale_at (names v t) (x ∷ (p ++ m))) scale (scale_twin v t (x ∷ (p ++ end)) (x ∷ (p ++ m)) (alike_after x line p after m some)) read)
@@ -251,8 +251,8 @@ module _ (v : Version) (t : Tables) (line : List ℕ) (after : Left) where
       (λ two. steps_shrink v t [] None)
       (λ two. steps_go [] None) (two_parts (p ++ end)) (two_parts_go p)))
 
-  pub one_mixed : Completes IsBehind (mixed_at (names v t)) []
-  unfolding mixed_at
+  pub one_mixed : Completes IsBehind (mixed_said (names v t)) []
+  unfolding mixed_said
   one_mixed = record {
     more = line_bytes t (says.Mixed (pos 1)) ∷ [];
     value = record { scale = pos 1; weights = [] };
@@ -262,8 +262,8 @@ module _ (v : Version) (t : Tables) (line : List ℕ) (after : Left) where
     need = λ z ends. behind_line v t (says.Mixed (pos 1)) z tt refl refl refl refl;
   }
 
-  pub mixed_goes : (p : Left) → EndsBy IsBehind IsBehind end (mixed_at (names v t)) p (mixed_at (names v t) (p ++ end))
-  unfolding mixed_at
+  pub mixed_goes : (p : Left) → EndsBy IsBehind IsBehind end (mixed_said (names v t)) p (mixed_said (names v t) (p ++ end))
+  unfolding mixed_said
   mixed_goes [] =
       ends_read _ _ end _ [] (mixed_scale_at (names v t) end) _
       (λ e failed there. one_mixed)
@@ -271,7 +271,7 @@ module _ (v : Version) (t : Tables) (line : List ℕ) (after : Left) where
   mixed_goes (x ∷ p) =
       ends_read _ _ end _ (x ∷ p) (mixed_scale_at (names v t) (x ∷ (p ++ end))) _
       (λ e failed there. not_there x p end (mixed_scale_at (names v t) (x ∷ (p ++ end))) e (mixed_scale_twin v t (x ∷ (p ++ end)) (x ∷ (p ++ end)) (alike_self (x ∷ (p ++ end)))) failed there)
-      (λ scale read. ends_map IsBehind IsBehind end (weights_from (names v t) [] None) (λ weights. record { scale = scale; weights = weights }) (mixed_at (names v t)) (x ∷ p) p (weights_from (names v t) [] None (p ++ end)) (λ m may. tt)
+      (λ scale read. ends_map IsBehind IsBehind end (weights_from (names v t) [] None) (λ weights. record { scale = scale; weights = weights }) (mixed_said (names v t)) (x ∷ p) p (weights_from (names v t) [] None (p ++ end)) (λ m may. tt)
       (λ m some. bound (mixed_scale_at (names v t) (x ∷ (p ++ m))) scale _
       (value_of (x ∷ (p ++ end)) (x ∷ (p ++ m)) (mixed_scale_at (names v t) (x ∷ (p ++ end))) (mixed_scale_at (names v t) (x ∷ (p ++ m))) scale (mixed_scale_twin v t (x ∷ (p ++ end)) (x ∷ (p ++ m)) (alike_after x line p after m some)) read))
       (weights_go [] None p))

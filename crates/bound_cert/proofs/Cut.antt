@@ -1,13 +1,13 @@
 -- A text of lines of words, cut at its line feeds and spaces, gives the words back.
 use Rattle.bound_cert.proofs.LinesOfWords.{lines_named}
-use Rattle.bound_cert.specs.ProofText.{all_lines, lines_of, proof_lines, proof_text, text_in, written_version}
+use Rattle.bound_cert.specs.ProofText.{all_lines, proof_lines, proof_text, text_in, text_of_lines, written_version}
 use Rattle.dual_bound.specs.OfTables.{IsOfTables}
 use Rattle.dual_bound.specs.declared.trees.Tree.{Tree}
 use Rattle.fleet_model.specs.declared.tables.Tables.{Tables}
 use Rattle.proof_lines.proofs.LineWords.{of_words}
 use Rattle.proof_lines.proofs.Spaces.{joined_plain, parts_back}
 use Rattle.proof_lines.specs.LineText.{IsNamed, line_bytes, line_words}
-use Rattle.proof_lines.specs.Words.{IsPlain, Word, line_feed, parts_of}
+use Rattle.proof_lines.specs.Words.{IsPlainByte, Word, line_feed, parts_of}
 use Rattle.proof_lines.specs.declared.line.Line.{Line}
 use Rattle.std.proofs.Common.{[], ◌++◌, ◌∙◌, ◌∷◌, ◌≡◌, Bool, List, ap, append_assoc, arith, eqb, false, map, refl, sym, ℕ}
 use Rattle.std.proofs.lemmas.Bool.Decides.{nat_tests}
@@ -20,20 +20,20 @@ use Rattle.std.specs.Prelude.{All}
 abbrev is_line_feed : ℕ → Bool
 is_line_feed byte = eqb byte line_feed
 
-pub no_line_feed : (bytes : List ℕ) → All IsPlain bytes → All (λ byte. is_line_feed byte ≡ false) bytes
-no_line_feed bytes is = All-weaker IsPlain (λ byte. is_line_feed byte ≡ false) (λ byte plain. grind (arith, nat_tests, plain.no_less)) bytes is
+pub no_line_feed : (bytes : List ℕ) → All IsPlainByte bytes → All (λ byte. is_line_feed byte ≡ false) bytes
+no_line_feed bytes is = All-weaker IsPlainByte (λ byte. is_line_feed byte ≡ false) (λ byte plain. grind (arith, nat_tests, plain.no_less)) bytes is
 
 -- a text, cut at its line feeds and each line at its spaces
 abbrev cut : List ℕ → List (List Word)
 cut text = map parts_of (slice_split is_line_feed text)
 
 -- lines come back from their text, and behind them an empty one
-lines_back : (t : Tables) (lines : List Line) → All (IsNamed t) lines → cut (lines_of t lines) ≡ map (line_words t) lines ++ ([] ∷ []) ∷ []
+lines_back : (t : Tables) (lines : List Line) → All (IsNamed t) lines → cut (text_of_lines t lines) ≡ map (line_words t) lines ++ ([] ∷ []) ∷ []
 lines_back t [] are = refl
 lines_back t (line ∷ lines) are =
     let is = of_words t line (All-head (IsNamed t) line lines are) in
     let bytes = line_bytes t line in
-    rw (append_assoc bytes (line_feed ∷ []) (lines_of t lines), slice_split_at is_line_feed bytes line_feed (lines_of t lines) (no_line_feed bytes (joined_plain (line_words t line) is.words)) refl, parts_back (line_words t line) is)
+    rw (append_assoc bytes (line_feed ∷ []) (text_of_lines t lines), slice_split_at is_line_feed bytes line_feed (text_of_lines t lines) (no_line_feed bytes (joined_plain (line_words t line) is.words)) refl, parts_back (line_words t line) is)
     (ap (λ rest. line_words t line ∷ rest) (lines_back t lines (All-tail (IsNamed t) line lines are)))
 
 -- one text has one list of lines

@@ -5,7 +5,7 @@ use Rattle.bound_cert.proofs.WrittenLines.{names}
 use Rattle.bound_cert.specs.FirstFault.{FirstFaultIsFixed, is_zero_step}
 use Rattle.bound_cert.specs.Lines.{◌>>=◌, Left, Reading, fits, line_due, stopped}
 use Rattle.bound_cert.specs.Nodes.{Above, after_node, end_at, head_is, nodes_from, nothing, plan_at, proof_at, rest_at, tree_at}
-use Rattle.bound_cert.specs.Reading.{Series, body_at, charge_series, charges_from, entries_from, entry_at, first_words, head_at, mixed_at, mixed_scale_at, node_at, prices_at, rent_series, rents_from, scale_at, step_series, steps_from, weight_series, weights_from}
+use Rattle.bound_cert.specs.Reading.{Series, body_at, charge_series, charges_from, entries_from, entry_said, first_words, head_at, mixed_said, mixed_scale_at, node_said, prices_said, rent_series, rents_from, scale_at, step_series, steps_from, weight_series, weights_from}
 use Rattle.bound_cert.specs.declared.nodes.Head.{Head}
 use Rattle.dual_bound.specs.declared.mixed.Weight.{Weight}
 use Rattle.dual_bound.specs.declared.nodes.Node.{Node}
@@ -112,17 +112,17 @@ module _ (v : Version) (t : Tables) (line next other : List ℕ) (rest others : 
   follows_behind h [] on shrinks = passed end other_end (length (next ∷ rest)) (h (next ∷ rest)) (h (other ∷ others)) (shrinks (next ∷ rest)) (omega arith)
   follows_behind h (x ∷ p) on shrinks = on p
 
-  entries_follow : {S A B : Type 0} (s : Series S A B) → ((so_far : S) (p : Left) → Twin (p ++ end) (p ++ other_end) (entry_at s so_far (p ++ end)) (entry_at s so_far (p ++ other_end)))
+  entries_follow : {S A B : Type 0} (s : Series S A B) → ((so_far : S) (p : Left) → Twin (p ++ end) (p ++ other_end) (entry_said s so_far (p ++ end)) (entry_said s so_far (p ++ other_end)))
       → ((so_far : S) (a : Left) → Shrinks (length a) (entries_from s so_far a)) → (so_far : S) (p : Left) → Follows end other_end (entries_from s so_far (p ++ end)) (entries_from s so_far (p ++ other_end))
   unfolding entries_from
   entries_follow s twin shrinks so_far [] =
       follows_if end other_end (fits s.kind (form_in s.names.version (words_of line))) _ _ _ _
-      (follows_line end other_end [] (entry_at s so_far end) (entry_at s so_far other_end) _ _ (twin so_far [])
+      (follows_line end other_end [] (entry_said s so_far end) (entry_said s so_far other_end) _ _ (twin so_far [])
       (λ entry. passed end other_end (length (next ∷ rest)) _ _ (shrinks (s.grow so_far entry) (next ∷ rest)) (omega arith)))
       (same_end end other_end _ [])
   entries_follow s twin shrinks so_far (x ∷ p) =
       follows_if end other_end (fits s.kind (form_in s.names.version (words_of x))) _ _ _ _
-      (follows_line end other_end (x ∷ p) (entry_at s so_far (x ∷ (p ++ end))) (entry_at s so_far (x ∷ (p ++ other_end))) _ _ (twin so_far (x ∷ p))
+      (follows_line end other_end (x ∷ p) (entry_said s so_far (x ∷ (p ++ end))) (entry_said s so_far (x ∷ (p ++ other_end))) _ _ (twin so_far (x ∷ p))
       (λ entry. entries_follow s twin shrinks (s.grow so_far entry) p))
       (same_end end other_end _ (x ∷ p))
 
@@ -141,8 +141,8 @@ module _ (v : Version) (t : Tables) (line next other : List ℕ) (rest others : 
   weights_follow weights before =
       entries_follow (weight_series (names v t)) (λ so_far p. weight_twin v t (p ++ end) (p ++ other_end) (alike p) so_far.1) (λ so_far. weights_shrink v t so_far.0 so_far.1) (weights, before)
 
-  prices_follow : (p : Left) → Follows end other_end (prices_at (names v t) (p ++ end)) (prices_at (names v t) (p ++ other_end))
-  unfolding prices_at
+  prices_follow : (p : Left) → Follows end other_end (prices_said (names v t) (p ++ end)) (prices_said (names v t) (p ++ other_end))
+  unfolding prices_said
   prices_follow p =
       follows_line end other_end p (scale_at (names v t) (p ++ end)) (scale_at (names v t) (p ++ other_end)) _ _ (scale_twin v t (p ++ end) (p ++ other_end) (alike p)) (λ scale.
       follows_bind end other_end (rents_from (names v t) [] (drop 1 (p ++ end))) (rents_from (names v t) [] (drop 1 (p ++ other_end))) _ (follows_behind (rents_from (names v t) []) p (rents_follow []) (rents_shrink v t []))
@@ -152,8 +152,8 @@ module _ (v : Version) (t : Tables) (line next other : List ℕ) (rest others : 
       (λ rents a. shrinks_bind (length a) (charges_from (names v t) [] None a) _ (charges_shrink v t [] None a) (λ charges b.
       shrinks_bind (length b) (steps_from (names v t) [] None b) _ (steps_shrink v t [] None b) (λ steps c. omega arith))))
 
-  mixed_follows : (p : Left) → Follows end other_end (mixed_at (names v t) (p ++ end)) (mixed_at (names v t) (p ++ other_end))
-  unfolding mixed_at
+  mixed_follows : (p : Left) → Follows end other_end (mixed_said (names v t) (p ++ end)) (mixed_said (names v t) (p ++ other_end))
+  unfolding mixed_said
   mixed_follows p =
       follows_line end other_end p (mixed_scale_at (names v t) (p ++ end)) (mixed_scale_at (names v t) (p ++ other_end)) _ _ (mixed_scale_twin v t (p ++ end) (p ++ other_end) (alike p)) (λ scale.
       follows_bind end other_end (weights_from (names v t) [] None (drop 1 (p ++ end))) (weights_from (names v t) [] None (drop 1 (p ++ other_end))) _ (follows_behind (weights_from (names v t) [] None) p (weights_follow [] None) (weights_shrink v t [] None))
@@ -162,21 +162,21 @@ module _ (v : Version) (t : Tables) (line next other : List ℕ) (rest others : 
   body_follows : (h : Head) (p : Left) → Follows end other_end (body_at (names v t) h (p ++ end)) (body_at (names v t) h (p ++ other_end))
   unfolding body_at
   body_follows (head.Alone h) p = same_end end other_end _ p
-  body_follows (head.Priced h) p = follows_bind end other_end (prices_at (names v t) (p ++ end)) (prices_at (names v t) (p ++ other_end)) _ (prices_follow p) (λ prices. same_end end other_end _) (λ prices a. omega arith)
+  body_follows (head.Priced h) p = follows_bind end other_end (prices_said (names v t) (p ++ end)) (prices_said (names v t) (p ++ other_end)) _ (prices_follow p) (λ prices. same_end end other_end _) (λ prices a. omega arith)
   body_follows (head.Mixed h) p =
-      follows_bind end other_end (prices_at (names v t) (p ++ end)) (prices_at (names v t) (p ++ other_end)) _ (prices_follow p)
-      (λ prices q. follows_bind end other_end (mixed_at (names v t) (q ++ end)) (mixed_at (names v t) (q ++ other_end)) _ (mixed_follows q) (λ mixed. same_end end other_end _) (λ mixed a. omega arith))
-      (λ prices a. shrinks_bind (length a) (mixed_at (names v t) a) _ (mixed_shrinks v t a) (λ mixed b. omega arith))
+      follows_bind end other_end (prices_said (names v t) (p ++ end)) (prices_said (names v t) (p ++ other_end)) _ (prices_follow p)
+      (λ prices q. follows_bind end other_end (mixed_said (names v t) (q ++ end)) (mixed_said (names v t) (q ++ other_end)) _ (mixed_follows q) (λ mixed. same_end end other_end _) (λ mixed a. omega arith))
+      (λ prices a. shrinks_bind (length a) (mixed_said (names v t) a) _ (mixed_shrinks v t a) (λ mixed b. omega arith))
 
-  node_follows : (above : ℕ) (p : Left) → Follows end other_end (node_at (names v t) above (p ++ end)) (node_at (names v t) above (p ++ other_end))
-  unfolding node_at
+  node_follows : (above : ℕ) (p : Left) → Follows end other_end (node_said (names v t) above (p ++ end)) (node_said (names v t) above (p ++ other_end))
+  unfolding node_said
   node_follows above p =
       follows_line end other_end p (head_at (names v t) above (p ++ end)) (head_at (names v t) above (p ++ other_end)) _ _ (head_twin v t (p ++ end) (p ++ other_end) (alike p) above) (λ h.
       follows_behind (body_at (names v t) h) p (body_follows h) (body_shrinks v t h))
 
   node_then : (m k : ℕ) (nodes : List Node) (above : Above) (p : Left)
       → ((n : Node) (q : Left) → length q < length p → Follows end other_end (nodes_from (names v t) m (nodes ++ n ∷ []) (after_node n above) (q ++ end)) (nodes_from (names v t) k (nodes ++ n ∷ []) (after_node n above) (q ++ other_end)))
-      → (r s : Reading (Node × Left)) → node_at (names v t) (length above) (p ++ end) ≡ r → Follows end other_end r s
+      → (r s : Reading (Node × Left)) → node_said (names v t) (length above) (p ++ end) ≡ r → Follows end other_end r s
       → Follows end other_end
       (r >>= λ read. cond (length (after_node read.0 above) == 0) (Ok (nodes ++ read.0 ∷ [], read.1)) (nodes_from (names v t) m (nodes ++ read.0 ∷ []) (after_node read.0 above) read.1))
       (s >>= λ read. cond (length (after_node read.0 above) == 0) (Ok (nodes ++ read.0 ∷ [], read.1)) (nodes_from (names v t) k (nodes ++ read.0 ∷ []) (after_node read.0 above) read.1))
@@ -204,7 +204,7 @@ module _ (v : Version) (t : Tables) (line next other : List ℕ) (rest others : 
       node_then m k nodes above p
       (λ n q shorter.
       nodes_follow m k (nodes ++ n ∷ []) (after_node n above) q (omega (arith, few, shorter, length-append p end, length-append q end)) (omega (arith, other_few, shorter, length-append p other_end, length-append q other_end)))
-      (node_at (names v t) (length above) (p ++ end)) (node_at (names v t) (length above) (p ++ other_end)) refl (node_follows (length above) p)
+      (node_said (names v t) (length above) (p ++ end)) (node_said (names v t) (length above) (p ++ other_end)) refl (node_follows (length above) p)
 
   -- ---- the end of a text, and all of it
   nothing_ends : (p : Left) → Ends end other_end (nothing (p ++ end)) (nothing (p ++ other_end))

@@ -3,9 +3,9 @@ use Rattle.bound_cert.proofs.TextLines.{line_was}
 use Rattle.bound_cert.proofs.WrittenLines.{names}
 use Rattle.bound_cert.specs.FirstFault.{is_zero_step}
 use Rattle.bound_cert.specs.Lines.{◌>>=◌, Left, Reading, fits, line_due, of_seen, stopped}
-use Rattle.bound_cert.specs.Nodes.{plan_at, plan_of}
+use Rattle.bound_cert.specs.Nodes.{plan_at, plan_in_line}
 use Rattle.bound_cert.specs.ProofText.{at_line}
-use Rattle.bound_cert.specs.Reading.{charge_at, charge_of, first_words, head_at, head_of, in_order, is_needless, mixed_scale_at, mixed_scale_of, rent_at, rent_follows, rent_of, said_at, scale_at, scale_of, step_at, step_of, weight_at, weight_of}
+use Rattle.bound_cert.specs.Reading.{charge_at, charge_in_line, first_words, head_at, head_of, in_order, is_needless, mixed_scale_at, mixed_scale_of, rent_at, rent_follows, rent_in_line, said_at, scale_at, scale_of, step_in_line, step_said, weight_at, weight_of}
 use Rattle.bound_cert.specs.declared.reading_lines.Due.{Due}
 use Rattle.dual_bound.specs.Order.{charge_follows, step_follows, weight_follows}
 use Rattle.dual_bound.specs.declared.mixed.Weight.{Weight}
@@ -125,11 +125,11 @@ module _ (a b : Left) where
   mixed_scale_of_twin (says.Mixed z) = refl
   mixed_scale_of_twin other = (refl, refl)
 
-  rent_of_twin : (least : ℕ) (line : Line) → Twin a b (reading.rent_of least line a) (reading.rent_of least line b)
+  rent_of_twin : (least : ℕ) (line : Line) → Twin a b (reading.rent_in_line least line a) (reading.rent_in_line least line b)
   rent_of_twin least (says.Rent f z) = twin_ordered a b (rent_follows least f z) (rent_follows least f z) (f, z) refl
   rent_of_twin least other = (refl, refl)
 
-  charge_of_twin : (before : Option Charge) (line : Line) → Twin a b (charge_of before line a) (charge_of before line b)
+  charge_of_twin : (before : Option Charge) (line : Line) → Twin a b (charge_in_line before line a) (charge_in_line before line b)
   charge_of_twin before (says.Charge station day charge) =
       let entry : Charge = record { station = station; day = day; charge = charge } in
       twin_ordered a b (charge_follows before entry) (charge_follows before entry) entry refl
@@ -141,7 +141,7 @@ module _ (a b : Left) where
       twin_ordered a b (weight_follows before entry) (weight_follows before entry) entry refl
   weight_of_twin before other = (refl, refl)
 
-  plan_of_twin : (line : Line) → Twin a b (plan_of line a) (plan_of line b)
+  plan_of_twin : (line : Line) → Twin a b (plan_in_line line a) (plan_in_line line b)
   plan_of_twin (says.Plan planned) = refl
   plan_of_twin other = (refl, refl)
 
@@ -171,16 +171,16 @@ module _ (v : Version) (t : Tables) (a b : Left) (alike : Alike a b) where
   mixed_scale_twin = said_twin due.Mixed mixed_scale_of (λ line is. mixed_scale_of_twin a b line)
 
   pub rent_twin : (least : ℕ) → Twin a b (rent_at (names v t) least a) (rent_at (names v t) least b)
-  rent_twin least = said_twin due.Rent (reading.rent_of least) (λ line is. rent_of_twin a b least line)
+  rent_twin least = said_twin due.Rent (reading.rent_in_line least) (λ line is. rent_of_twin a b least line)
 
   pub charge_twin : (before : Option Charge) → Twin a b (charge_at (names v t) before a) (charge_at (names v t) before b)
-  charge_twin before = said_twin due.Charge (charge_of before) (λ line is. charge_of_twin a b before line)
+  charge_twin before = said_twin due.Charge (charge_in_line before) (λ line is. charge_of_twin a b before line)
 
   pub weight_twin : (before : Option Weight) → Twin a b (weight_at (names v t) before a) (weight_at (names v t) before b)
   weight_twin before = said_twin due.Weight (weight_of before) (λ line is. weight_of_twin a b before line)
 
   step_of_twin : (before : Option PriceStep) (line : Line) → line_due (names v t) due.Step a ≡ Ok line → (is_zero_step (first_words a) ≡ true → first_words (drop 1 a) ≡ first_words (drop 1 b))
-      → Twin a b (step_of (names v t) before line a) (step_of (names v t) before line b)
+      → Twin a b (step_in_line (names v t) before line a) (step_in_line (names v t) before line b)
   step_of_twin before (says.At fleet station minute value) is next =
       let step : PriceStep = record { fleet = fleet; station = station; minute = minute; value = value } in
       let was = line_was v t due.Step a (at_line step) is in
@@ -190,8 +190,8 @@ module _ (v : Version) (t : Tables) (a b : Left) (alike : Alike a b) where
       (ap (λ c. step_follows before step && not c) same)
   step_of_twin before other is next = (refl, refl)
 
-  pub step_twin : (before : Option PriceStep) → (is_zero_step (first_words a) ≡ true → first_words (drop 1 a) ≡ first_words (drop 1 b)) → Twin a b (step_at (names v t) before a) (step_at (names v t) before b)
-  step_twin before next = said_twin due.Step (step_of (names v t) before) (λ line is. step_of_twin before line is next)
+  pub step_twin : (before : Option PriceStep) → (is_zero_step (first_words a) ≡ true → first_words (drop 1 a) ≡ first_words (drop 1 b)) → Twin a b (step_said (names v t) before a) (step_said (names v t) before b)
+  step_twin before next = said_twin due.Step (step_in_line (names v t) before) (λ line is. step_of_twin before line is next)
 
   pub head_twin : (above : ℕ) → Twin a b (head_at (names v t) above a) (head_at (names v t) above b)
   unfolding head_at
@@ -201,4 +201,4 @@ module _ (v : Version) (t : Tables) (a b : Left) (alike : Alike a b) where
       twin_if a b (nat_le above MAX_DEPTH) _ _ _ _ refl (refl, refl)))
 
   pub plan_twin : Twin a b (plan_at (names v t) a) (plan_at (names v t) b)
-  plan_twin = said_twin due.Plan plan_of (λ line is. plan_of_twin a b line)
+  plan_twin = said_twin due.Plan plan_in_line (λ line is. plan_of_twin a b line)

@@ -1,5 +1,5 @@
 -- Lines appended, one at a time.
-use Rattle.bound_cert.specs.ProofText.{at_line, charge_line, first_line, lines_of, node_lines, open_line, price_lines, proof_text, rent_lines, root_of, text_in, tree_lines, written_version}
+use Rattle.bound_cert.specs.ProofText.{at_line, charge_line, first_line, node_lines, open_line, price_lines, proof_text, rent_lines, root_of, text_in, text_of_lines, tree_lines, written_version}
 use Rattle.dual_bound.specs.OfTables.{IsOfTables}
 use Rattle.dual_bound.specs.Nodes.{nodes_of}
 use Rattle.dual_bound.specs.declared.nodes.Node.{Node}
@@ -28,29 +28,29 @@ range_more a (suc n) =
     ap (λ ks. a ∷ ks) (range_more (a + 1) n ∙ ap (λ k. range_with_len (a + 1) n ++ k ∷ []) last)
 
 -- the lines of one number more
-pub lines_more : (t : Tables) (lines : ℕ → List Line) (n : ℕ) (start text grown : List ℕ) → text ≡ start ++ lines_of t (flat_map lines (range_with_len 0 n))
-    → grown ≡ text ++ lines_of t (lines n) → grown ≡ start ++ lines_of t (flat_map lines (range_with_len 0 (n + 1)))
+pub lines_more : (t : Tables) (lines : ℕ → List Line) (n : ℕ) (start text grown : List ℕ) → text ≡ start ++ text_of_lines t (flat_map lines (range_with_len 0 n))
+    → grown ≡ text ++ text_of_lines t (lines n) → grown ≡ start ++ text_of_lines t (flat_map lines (range_with_len 0 (n + 1)))
 lines_more t lines n start text grown so_far added =
     let front = flat_map lines (range_with_len 0 n) in
     let numbers : range_with_len 0 (n + 1) ≡ range_with_len 0 n ++ n ∷ [] =
     rw add-one (range_more 0 n ∙ ap (λ k. range_with_len 0 n ++ k ∷ []) (omega arith)) in
     added ∙ rw (so_far, numbers, flat_map-append lines (range_with_len 0 n) (n ∷ []), append-nil (lines n), flat_map-append (text_of t) front (lines n))
-    (append_assoc start (lines_of t front) (lines_of t (lines n)))
+    (append_assoc start (text_of_lines t front) (text_of_lines t (lines n)))
 
 -- what is appended in two parts, and the line of one entry more of a list
-pub appended : (t : Tables) (first more : List Line) (start text grown : List ℕ) → text ≡ start ++ lines_of t first → grown ≡ text ++ lines_of t more → grown ≡ start ++ lines_of t (first ++ more)
+pub appended : (t : Tables) (first more : List Line) (start text grown : List ℕ) → text ≡ start ++ text_of_lines t first → grown ≡ text ++ text_of_lines t more → grown ≡ start ++ text_of_lines t (first ++ more)
 appended t first more start text grown begun added =
-    added ∙ rw (begun, flat_map-append (text_of t) first more) (append_assoc start (lines_of t first) (lines_of t more))
+    added ∙ rw (begun, flat_map-append (text_of t) first more) (append_assoc start (text_of_lines t first) (text_of_lines t more))
 
-line_alone : (t : Tables) (line : Line) (text grown : List ℕ) → grown ≡ text ++ text_of t line → grown ≡ text ++ lines_of t (line ∷ [])
+line_alone : (t : Tables) (line : Line) (text grown : List ℕ) → grown ≡ text ++ text_of t line → grown ≡ text ++ text_of_lines t (line ∷ [])
 line_alone t line text grown added = added ∙ ap (λ bytes. text ++ bytes) (sym (append-nil (text_of t line)))
 
-pub entry_more : {A : Type 0} (t : Tables) (line_of : A → Line) (entries : List A) (n : ℕ) (d : A) (start text grown : List ℕ) → n < length entries → text ≡ start ++ lines_of t (map line_of (take n entries))
-    → grown ≡ text ++ text_of t (line_of (get_or entries n d)) → grown ≡ start ++ lines_of t (map line_of (take (n + 1) entries))
+pub entry_more : {A : Type 0} (t : Tables) (line_of : A → Line) (entries : List A) (n : ℕ) (d : A) (start text grown : List ℕ) → n < length entries → text ≡ start ++ text_of_lines t (map line_of (take n entries))
+    → grown ≡ text ++ text_of t (line_of (get_or entries n d)) → grown ≡ start ++ text_of_lines t (map line_of (take (n + 1) entries))
 entry_more t line_of entries n d start text grown within so_far added =
     let one = line_of (get_or entries n d) in
     appended t (map line_of (take n entries)) (one ∷ []) start text grown so_far (line_alone t one text grown added)
-    ∙ ap (λ lines. start ++ lines_of t lines) (sym (ap (map line_of) (take_more entries n d within) ∙ map-append line_of (take n entries) (get_or entries n d ∷ [])))
+    ∙ ap (λ lines. start ++ text_of_lines t lines) (sym (ap (map line_of) (take_more entries n d within) ∙ map-append line_of (take n entries) (get_or entries n d ∷ [])))
 
 -- what follows from what a last call gives
 pub done : {A E P Q : Type 0} (result : Result A E) → (P → Q) → OnOk result P → OnOk result Q
@@ -67,13 +67,13 @@ node_split t (node.Open prices why) = refl
 node_split t (node.Trim leg choice) = refl
 node_split t (node.Split leg choice prices mixed) = refl
 
-pub headed : (t : Tables) (line : Line) (more : List Line) (start text grown : List ℕ) → text ≡ start ++ text_of t line → grown ≡ text ++ lines_of t more → grown ≡ start ++ lines_of t (line ∷ more)
+pub headed : (t : Tables) (line : Line) (more : List Line) (start text grown : List ℕ) → text ≡ start ++ text_of t line → grown ≡ text ++ text_of_lines t more → grown ≡ start ++ text_of_lines t (line ∷ more)
 headed t line more start text grown begun = appended t (line ∷ []) more start text grown (line_alone t line start text begun)
 
-pub node_done : (t : Tables) (n : Node) (start text grown : List ℕ) → text ≡ start ++ text_of t (first_line n) → grown ≡ text ++ lines_of t (drop 1 (node_lines t n)) → grown ≡ start ++ lines_of t (node_lines t n)
+pub node_done : (t : Tables) (n : Node) (start text grown : List ℕ) → text ≡ start ++ text_of t (first_line n) → grown ≡ text ++ text_of_lines t (drop 1 (node_lines t n)) → grown ≡ start ++ text_of_lines t (node_lines t n)
 node_done t n start text grown begun added =
     headed t (first_line n) (drop 1 (node_lines t n)) start text grown begun added
-    ∙ ap (λ lines. start ++ lines_of t lines) (sym (node_split t n))
+    ∙ ap (λ lines. start ++ text_of_lines t lines) (sym (node_split t n))
 
 open_named : (t : Tables) (why : Cause) → IsNamed t (open_line why)
 open_named t (cause.Nodes mixed) = tt
@@ -91,13 +91,13 @@ first_named t (tree.Trim' leg choice p with_pair q without) is = is.0
 first_named t (tree.Split' leg choice prices mixed p with_pair q without) is = is.0
 
 -- the three parts of a tree that has children
-pub tree_done : (t : Tables) (it : Tree) (root : Node) (with_pair without : List Node) (start first second whole : List ℕ) → nodes_of it ≡ root ∷ (with_pair ++ without) → first ≡ start ++ lines_of t (node_lines t (root_of it))
-    → second ≡ first ++ lines_of t (flat_map (node_lines t) with_pair) → whole ≡ second ++ lines_of t (flat_map (node_lines t) without) → whole ≡ start ++ lines_of t (tree_lines t it)
+pub tree_done : (t : Tables) (it : Tree) (root : Node) (with_pair without : List Node) (start first second whole : List ℕ) → nodes_of it ≡ root ∷ (with_pair ++ without) → first ≡ start ++ text_of_lines t (node_lines t (root_of it))
+    → second ≡ first ++ text_of_lines t (flat_map (node_lines t) with_pair) → whole ≡ second ++ text_of_lines t (flat_map (node_lines t) without) → whole ≡ start ++ text_of_lines t (tree_lines t it)
 tree_done t it root with_pair without start first second whole nodes top one other =
     let lines = flat_map (node_lines t) in
     let of_root : root_of it ≡ root = ap (λ nodes. slice_index_or nodes 0 node.Sole) nodes in
-    appended t (node_lines t root) (lines with_pair ++ lines without) start first whole (top ∙ ap (λ n. start ++ lines_of t (node_lines t n)) of_root) (appended t (lines with_pair) (lines without) first second whole one other)
-    ∙ ap (λ it. start ++ lines_of t it) (ap (λ rest. node_lines t root ++ rest) (sym (flat_map-append (node_lines t) with_pair without)) ∙ sym (ap lines nodes))
+    appended t (node_lines t root) (lines with_pair ++ lines without) start first whole (top ∙ ap (λ n. start ++ text_of_lines t (node_lines t n)) of_root) (appended t (lines with_pair) (lines without) first second whole one other)
+    ∙ ap (λ it. start ++ text_of_lines t it) (ap (λ rest. node_lines t root ++ rest) (sym (flat_map-append (node_lines t) with_pair without)) ∙ sym (ap lines nodes))
 
 pub parent_nodes : (it : Tree) (with_pair without : Box Tree Global) → ((leg : ℕ) × (choice : ℕ) × it ≡ Trim leg choice with_pair without) ⊎ ((leg : ℕ) × (choice : ℕ) × (prices : Prices) × (mixed : Mixed) × it ≡ Split leg choice prices mixed with_pair without)
     → (root : Node) × (nodes_of it ≡ root ∷ (nodes_of with_pair.value ++ nodes_of without.value))
@@ -105,8 +105,8 @@ parent_nodes it with_pair without (inl told) = (node.Trim told.0 told.1, ap node
 parent_nodes it with_pair without (inr told) = (node.Split told.0 told.1 told.2 told.3, ap nodes_of told.4)
 
 -- the four parts of prices
-pub prices_done : (t : Tables) (prices : Prices) (start scale rents charges whole : List ℕ) → scale ≡ start ++ text_of t (says.Scale prices.scale) → rents ≡ scale ++ lines_of t (rent_lines prices (fleets_in t))
-    → charges ≡ rents ++ lines_of t (map charge_line prices.charges) → whole ≡ charges ++ lines_of t (map at_line prices.steps) → whole ≡ start ++ lines_of t (price_lines t prices)
+pub prices_done : (t : Tables) (prices : Prices) (start scale rents charges whole : List ℕ) → scale ≡ start ++ text_of t (says.Scale prices.scale) → rents ≡ scale ++ text_of_lines t (rent_lines prices (fleets_in t))
+    → charges ≡ rents ++ text_of_lines t (map charge_line prices.charges) → whole ≡ charges ++ text_of_lines t (map at_line prices.steps) → whole ≡ start ++ text_of_lines t (price_lines t prices)
 prices_done t prices start scale rents charges whole scaled rented charged stepped =
     let last = map charge_line prices.charges ++ map at_line prices.steps in
     headed t (says.Scale prices.scale) (rent_lines prices (fleets_in t) ++ last) start scale whole scaled
@@ -114,7 +114,7 @@ prices_done t prices start scale rents charges whole scaled rented charged stepp
 
 -- the four parts of a proof
 pub proof_done : (t : Tables) (planned : Bool) (tree : Tree) (start head plan body whole : List ℕ) → head ≡ start ++ text_of t (says.Head (written_version t.windows))
-    → plan ≡ head ++ text_of t (says.Plan planned) → body ≡ plan ++ lines_of t (tree_lines t tree) → whole ≡ body ++ text_of t says.End → whole ≡ start ++ proof_text t planned tree
+    → plan ≡ head ++ text_of t (says.Plan planned) → body ≡ plan ++ text_of_lines t (tree_lines t tree) → whole ≡ body ++ text_of t says.End → whole ≡ start ++ proof_text t planned tree
 unfolding text_in
 proof_done t planned tree start head plan body whole headed answered written ended =
     let lines = tree_lines t tree in

@@ -1,6 +1,6 @@
 -- The lines of a proof name what the tables have, so they are of words, and plain.
 use Rattle.bound_cert.proofs.NodesOfTables.{IsNodeOf, nodes_are}
-use Rattle.bound_cert.specs.ProofText.{all_lines, at_line, cause_lines, charge_line, lines_in, mixed_lines, node_lines, open_line, price_lines, proof_lines, rent_lines, rent_lines_at, tree_lines, weight_line, written_version}
+use Rattle.bound_cert.specs.ProofText.{all_lines, at_line, cause_lines, charge_line, lines_in_version, mixed_lines, node_lines, open_line, price_lines, proof_lines, rent_lines, rent_lines_at, tree_lines, weight_line, written_version}
 use Rattle.bound_cert.specs.Words.{IsPlainLine}
 use Rattle.dual_bound.specs.OfTables.{ArePricesOf, IsCauseOf, IsChargeOf, IsMixedOf, IsOfTables, IsStepOf, IsWeightOf}
 use Rattle.dual_bound.specs.Prices.{rent_of}
@@ -83,7 +83,7 @@ nodes_named t [] are = All-nil (IsNamed t)
 nodes_named t (n ∷ nodes) are =
     All-append (IsNamed t) (node_lines t n) (flat_map (node_lines t) nodes) (node_is t n (All-head (IsNodeOf t) n nodes are)) (nodes_named t nodes (All-tail (IsNodeOf t) n nodes are))
 
-pub lines_named : (v : Version) (t : Tables) (planned : Bool) (tree : Tree) → IsOfTables t tree → All (IsNamed t) (lines_in v t planned tree)
+pub lines_named : (v : Version) (t : Tables) (planned : Bool) (tree : Tree) → IsOfTables t tree → All (IsNamed t) (lines_in_version v t planned tree)
 lines_named v t planned tree is =
     let rest : List Line = tree_lines t tree ++ says.End ∷ [] in
     All-cons (IsNamed t) (says.Head v) (says.Plan planned ∷ rest) tt

@@ -13,7 +13,7 @@ use Rattle.bound_cert.specs.FirstFault.{is_inner_line}
 use Rattle.bound_cert.specs.Lines.{◌>>=◌, Left, Reading}
 use Rattle.bound_cert.specs.Nodes.{Above, after_node, after_tree, is_inner, nodes_from}
 use Rattle.bound_cert.specs.ProofText.{mixed_lines, price_lines, node_lines}
-use Rattle.bound_cert.specs.Reading.{body_at, head_at, mixed_at, mixed_node, node_at, priced_node, prices_at}
+use Rattle.bound_cert.specs.Reading.{body_at, head_at, mixed_node, mixed_said, node_said, priced_node, prices_said}
 use Rattle.bound_cert.specs.declared.nodes.Head.{Head}
 use Rattle.dual_bound.specs.WrittenOrder.{IsNodeInOrder}
 use Rattle.dual_bound.specs.declared.nodes.Node.{Node}
@@ -54,7 +54,7 @@ module _ (v : Version) (t : Tables) where
   unfolding nodes_from
   sole_then s nodes more z value zero few behind fuel on = absurd (omega (arith, fuel))
   sole_then s nodes more z value (suc k) few behind fuel on =
-      bound (node_at (names v t) (length s) (line_bytes t says.Sole ∷ (more ++ z))) (node.Sole, more ++ z) _ (node_read v t (length s) node.Sole (more ++ z) tt tt few behind) ∙ on k (omega (arith, fuel))
+      bound (node_said (names v t) (length s) (line_bytes t says.Sole ∷ (more ++ z))) (node.Sole, more ++ z) _ (node_read v t (length s) node.Sole (more ++ z) tt tt few behind) ∙ on k (omega (arith, fuel))
 
   sole_behind : (rest : Left) → IsBehind (line_bytes t says.Sole ∷ rest)
   sole_behind rest = behind_line v t says.Sole rest tt refl refl refl refl
@@ -116,7 +116,7 @@ module _ (v : Version) (t : Tables) where
   inner_line line is e = ap (λ words. stands words 0 (codes "trim") || stands words 0 (codes "split")) (words_back (line_words t line) (of_words t line is)) ∙ e
 
   -- a node that is no leaf has a first line that counts
-  inner_first : (above : ℕ) (x : List ℕ) (a : Left) (read : Node × Left) → node_at (names v t) above (x ∷ a) ≡ Ok read → 0 < inner_of read.0 → is_inner_line x ≡ true
+  inner_first : (above : ℕ) (x : List ℕ) (a : Left) (read : Node × Left) → node_said (names v t) above (x ∷ a) ≡ Ok read → 0 < inner_of read.0 → is_inner_line x ≡ true
   inner_first above x a read e = by_node read.0 (node_was v t above (x ∷ a) read e).order (node_was v t above (x ∷ a) read e).text
     where
       by_node : (n : Node) → IsNodeInOrder t n → x ∷ a ≡ texts t (node_lines t n) ++ read.1 → 0 < inner_of n → is_inner_line x ≡ true
@@ -126,7 +126,7 @@ module _ (v : Version) (t : Tables) where
           ap (λ y. is_inner_line y) (first_same x (line_bytes t (says.Split leg choice)) _ _ text) ∙ inner_line (says.Split leg choice) order.0 refl
       by_node other order text some = absurd (omega (arith, some))
 
-  inner_counts : (above : ℕ) (x : List ℕ) (p a : Left) (read : Node × Left) → node_at (names v t) above (x ∷ a) ≡ Ok read → inner_of read.0 + count_by is_inner_line p ≤ count_by is_inner_line (x ∷ p)
+  inner_counts : (above : ℕ) (x : List ℕ) (p a : Left) (read : Node × Left) → node_said (names v t) above (x ∷ a) ≡ Ok read → inner_of read.0 + count_by is_inner_line p ≤ count_by is_inner_line (x ∷ p)
   inner_counts above x p a read e = by_size (inner_of read.0) refl
     where
       by_size : (k : ℕ) → inner_of read.0 ≡ k → inner_of read.0 + count_by is_inner_line p ≤ count_by is_inner_line (x ∷ p)
@@ -139,7 +139,7 @@ module _ (v : Version) (t : Tables) where
       omega (arith, count_inner (line_bytes t (says.Split leg choice)) (texts t (price_lines t prices ++ mixed_lines mixed)) (inner_line (says.Split leg choice) order.0 refl))
   lines_count other order = omega arith
 
-  node_counts : (above : ℕ) (n : Node) (p rest end : Left) → node_at (names v t) above (p ++ end) ≡ Ok (n, rest ++ end) → inner_of n + count_by is_inner_line rest ≤ count_by is_inner_line p
+  node_counts : (above : ℕ) (n : Node) (p rest end : Left) → node_said (names v t) above (p ++ end) ≡ Ok (n, rest ++ end) → inner_of n + count_by is_inner_line rest ≤ count_by is_inner_line p
   node_counts above n p rest end e =
       let was = node_was v t above (p ++ end) (n, rest ++ end) e in
       omega (
@@ -160,17 +160,17 @@ module _ (v : Version) (t : Tables) where
     unfolding body_at
     body_goes (head.Alone said) p = inl (record { rest = p; left_is = refl; stays = λ m some may. refl })
     body_goes (head.Priced said) p =
-        ends_map IsBehind (λ m. ⊤) end (prices_at (names v t)) (λ prices. priced_node said prices) (body_at (names v t) (head.Priced said)) p p (prices_at (names v t) (p ++ end)) (λ m may. may) (λ m some. refl) (prices_go v t line after p)
+        ends_map IsBehind (λ m. ⊤) end (prices_said (names v t)) (λ prices. priced_node said prices) (body_at (names v t) (head.Priced said)) p p (prices_said (names v t) (p ++ end)) (λ m may. may) (λ m some. refl) (prices_go v t line after p)
     body_goes (head.Mixed said) p =
-        ends_then IsBehind (λ m. ⊤) IsBehind IsBehind end (prices_at (names v t)) (λ prices. mixed_at (names v t)) (λ prices mixed. mixed_node said prices mixed) (body_at (names v t) (head.Mixed said)) p p (λ m behind. behind) (λ m behind. behind) (λ m some. refl)
-        (λ prices. one_mixed v t line after) (λ prices. mixed_shrinks v t) (λ prices. mixed_goes v t line after) (prices_at (names v t) (p ++ end)) (prices_go v t line after p)
+        ends_then IsBehind (λ m. ⊤) IsBehind IsBehind end (prices_said (names v t)) (λ prices. mixed_said (names v t)) (λ prices mixed. mixed_node said prices mixed) (body_at (names v t) (head.Mixed said)) p p (λ m behind. behind) (λ m behind. behind) (λ m some. refl)
+        (λ prices. one_mixed v t line after) (λ prices. mixed_shrinks v t) (λ prices. mixed_goes v t line after) (prices_said (names v t) (p ++ end)) (prices_go v t line after p)
 
-    node_goes : (above : ℕ) (x : List ℕ) (p : Left) → EndsBy IsBehind (λ m. ⊤) end (node_at (names v t) above) (x ∷ p) (node_at (names v t) above (x ∷ (p ++ end)))
-    unfolding node_at
+    node_goes : (above : ℕ) (x : List ℕ) (p : Left) → EndsBy IsBehind (λ m. ⊤) end (node_said (names v t) above) (x ∷ p) (node_said (names v t) above (x ∷ (p ++ end)))
+    unfolding node_said
     node_goes above x p =
         ends_read _ _ end _ (x ∷ p) (head_at (names v t) above (x ∷ (p ++ end))) _
         (λ e failed there. not_there x p end (head_at (names v t) above (x ∷ (p ++ end))) e (head_twin v t (x ∷ (p ++ end)) (x ∷ (p ++ end)) (alike_self (x ∷ (p ++ end))) above) failed there)
-        (λ h read. ends_lift _ _ end (node_at (names v t) above) (x ∷ p) (body_at (names v t) h) p _ (λ m may. tt)
+        (λ h read. ends_lift _ _ end (node_said (names v t) above) (x ∷ p) (body_at (names v t) h) p _ (λ m may. tt)
         (λ m some. bound (head_at (names v t) above (x ∷ (p ++ m))) h _
         (value_of (x ∷ (p ++ end)) (x ∷ (p ++ m)) (head_at (names v t) above (x ∷ (p ++ end))) (head_at (names v t) above (x ∷ (p ++ m))) h (head_twin v t (x ∷ (p ++ end)) (x ∷ (p ++ m)) (alike_after x line p after m some) above) read))
         (body_goes h p))
@@ -210,15 +210,15 @@ module _ (v : Version) (t : Tables) where
     opened most nodes above read b test = ap (λ b. cond b (Ok (nodes ++ read.0 ∷ [], read.1)) (nodes_from (names v t) most (nodes ++ read.0 ∷ []) (after_node read.0 above) read.1)) test
 
     -- one node, where enough may come
-    one_node : (k : ℕ) (nodes : List Node) (above : Above) (left : Left) (n : Node) (rest : Left) (value : List Node) (z : Left) → node_at (names v t) (length above) left ≡ Ok (n, rest) → length left ≤ k
+    one_node : (k : ℕ) (nodes : List Node) (above : Above) (left : Left) (n : Node) (rest : Left) (value : List Node) (z : Left) → node_said (names v t) (length above) left ≡ Ok (n, rest) → length left ≤ k
         → ((k : ℕ) → length rest ≤ k → cond (length (after_node n above) == 0) (Ok (nodes ++ n ∷ [], rest)) (nodes_from (names v t) k (nodes ++ n ∷ []) (after_node n above) rest) ≡ Ok (value, z))
         → nodes_from (names v t) k nodes above left ≡ Ok (value, z)
     unfolding nodes_from
     one_node zero nodes above left n rest value z read fuel on = absurd (omega (arith, fuel, node_takes v t (length above) left (n, rest) read))
-    one_node (suc k) nodes above left n rest value z read fuel on = bound (node_at (names v t) (length above) left) (n, rest) _ read ∙ on k (omega (arith, fuel, node_takes v t (length above) left (n, rest) read))
+    one_node (suc k) nodes above left n rest value z read fuel on = bound (node_said (names v t) (length above) left) (n, rest) _ read ∙ on k (omega (arith, fuel, node_takes v t (length above) left (n, rest) read))
 
     -- the node in which it stopped goes on to a whole one
-    stopped_node : (nodes : List Node) (above : Above) (x : List ℕ) (p : Left) → length above + count_by is_inner_line (x ∷ p) ≤ MAX_DEPTH → Completes (λ m. ⊤) (node_at (names v t) (length above)) (x ∷ p) → CompletesNodes nodes above (x ∷ p)
+    stopped_node : (nodes : List Node) (above : Above) (x : List ℕ) (p : Left) → length above + count_by is_inner_line (x ∷ p) ≤ MAX_DEPTH → Completes (λ m. ⊤) (node_said (names v t) (length above)) (x ∷ p) → CompletesNodes nodes above (x ∷ p)
     stopped_node nodes above x p few done =
         let whole = done.reads (line_bytes t says.Sole ∷ []) (sole_behind []) in
         let counted = inner_counts (length above) x p (p ++ (done.more ++ line_bytes t says.Sole ∷ [])) (done.value, line_bytes t says.Sole ∷ []) whole in
@@ -230,7 +230,7 @@ module _ (v : Version) (t : Tables) where
           need = λ z ends. tt;
         }
       where
-        by_fuel : (nodes : List Node) (above : Above) (x : List ℕ) (p : Left) (done : Completes (λ m. ⊤) (node_at (names v t) (length above)) (x ∷ p)) (closed : Closes (after_node done.value above) (nodes ++ done.value ∷ [])) (z : Left) (k : ℕ)
+        by_fuel : (nodes : List Node) (above : Above) (x : List ℕ) (p : Left) (done : Completes (λ m. ⊤) (node_said (names v t) (length above)) (x ∷ p)) (closed : Closes (after_node done.value above) (nodes ++ done.value ∷ [])) (z : Left) (k : ℕ)
             → IsBehind z → length (x ∷ (p ++ ((done.more ++ closed.more) ++ z))) ≤ k → nodes_from (names v t) k nodes above (x ∷ (p ++ ((done.more ++ closed.more) ++ z))) ≡ Ok (closed.value, z)
         by_fuel nodes above x p done closed z k ends fuel =
             let lines : (done.more ++ closed.more) ++ z ≡ done.more ++ (closed.more ++ z) = append_assoc done.more closed.more z in
@@ -250,7 +250,7 @@ module _ (v : Version) (t : Tables) where
         }
 
     -- a whole node, and those behind it
-    next_node : (nodes : List Node) (above : Above) (x : List ℕ) (p : Left) (read : Node × Left) (is : Stays IsBehind end (node_at (names v t) (length above)) (x ∷ p) read) → (length (after_node read.0 above) == 0) ≡ false
+    next_node : (nodes : List Node) (above : Above) (x : List ℕ) (p : Left) (read : Node × Left) (is : Stays IsBehind end (node_said (names v t) (length above)) (x ∷ p) read) → (length (after_node read.0 above) == 0) ≡ false
         → (r : Reading (List Node × Left)) → Shrinks (length (is.rest ++ end)) r → EndsNodes (nodes ++ read.0 ∷ []) (after_node read.0 above) is.rest r → EndsNodes nodes above (x ∷ p) r
     next_node nodes above x p read is some (Ok whole) less (inl done) = inl (record {
       rest = done.rest;
@@ -278,7 +278,7 @@ module _ (v : Version) (t : Tables) where
         }
 
     -- a tree that is whole
-    last_node : (nodes : List Node) (above : Above) (x : List ℕ) (p : Left) (read : Node × Left) (is : Stays IsBehind end (node_at (names v t) (length above)) (x ∷ p) read) → (length (after_node read.0 above) == 0) ≡ true
+    last_node : (nodes : List Node) (above : Above) (x : List ℕ) (p : Left) (read : Node × Left) (is : Stays IsBehind end (node_said (names v t) (length above)) (x ∷ p) read) → (length (after_node read.0 above) == 0) ≡ true
         → StaysNodes nodes above (x ∷ p) (nodes ++ read.0 ∷ [], read.1)
     last_node nodes above x p read is none = record {
       rest = is.rest;
@@ -288,7 +288,7 @@ module _ (v : Version) (t : Tables) where
     }
 
     behind_node : (most : ℕ) (nodes : List Node) (above : Above) (x : List ℕ) (p : Left) → length above + count_by is_inner_line (x ∷ p) ≤ MAX_DEPTH
-        → (r : Reading (Node × Left)) → node_at (names v t) (length above) (x ∷ (p ++ end)) ≡ r → EndsBy IsBehind (λ m. ⊤) end (node_at (names v t) (length above)) (x ∷ p) r
+        → (r : Reading (Node × Left)) → node_said (names v t) (length above) (x ∷ (p ++ end)) ≡ r → EndsBy IsBehind (λ m. ⊤) end (node_said (names v t) (length above)) (x ∷ p) r
         → ((n : Node) (rest : Left) → length rest < length (x ∷ p) → length (after_node n above) + count_by is_inner_line rest ≤ MAX_DEPTH
         → EndsNodes (nodes ++ n ∷ []) (after_node n above) rest (nodes_from (names v t) most (nodes ++ n ∷ []) (after_node n above) (rest ++ end)))
         → EndsNodes nodes above (x ∷ p) (r >>= onward most nodes above)
@@ -312,11 +312,11 @@ module _ (v : Version) (t : Tables) where
     pub nodes_go : (most : ℕ) (nodes : List Node) (above : Above) (p : Left) → length (p ++ end) ≤ most → length above + count_by is_inner_line p ≤ MAX_DEPTH → EndsNodes nodes above p (nodes_from (names v t) most nodes above (p ++ end))
     unfolding nodes_from onward
     nodes_go zero nodes above p fuel few = absurd (omega (arith, fuel, length-append p end))
-    nodes_go (suc most) nodes above [] fuel few = at_end (node_at (names v t) (length above) end) refl
+    nodes_go (suc most) nodes above [] fuel few = at_end (node_said (names v t) (length above) end) refl
       where
-        at_end : (r : Reading (Node × Left)) → node_at (names v t) (length above) end ≡ r → EndsNodes nodes above [] (r >>= onward most nodes above)
+        at_end : (r : Reading (Node × Left)) → node_said (names v t) (length above) end ≡ r → EndsNodes nodes above [] (r >>= onward most nodes above)
         at_end (Ok read) is = nodes_over nodes above [] (length read.1) (onward most nodes above read) (onward_shrinks most nodes above read) (node_takes v t (length above) end read is)
         at_end (Err e) is = λ there. at_a_node nodes above (omega (arith, few))
     nodes_go (suc most) nodes above (x ∷ p) fuel few =
-        behind_node most nodes above x p few (node_at (names v t) (length above) (x ∷ (p ++ end))) refl (node_goes (length above) x p)
+        behind_node most nodes above x p few (node_said (names v t) (length above) (x ∷ (p ++ end))) refl (node_goes (length above) x p)
         (λ n rest shorter enough. nodes_go most (nodes ++ n ∷ []) (after_node n above) rest (omega (arith, fuel, shorter, length-append p end, length-append rest end)) enough)

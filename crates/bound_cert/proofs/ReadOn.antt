@@ -1,6 +1,6 @@
 -- One line more of a series.
-use Rattle.bound_cert.specs.Lines.{◌>>=◌, Fails, Gives, Left, Reading, Stopped, first_form, fits, line_due, next_line}
-use Rattle.bound_cert.specs.Reading.{Series, charges_from, entries_from, entry_at, first_words, mixed_at, mixed_scale_at, prices_at, rents_from, said_at, scale_at, steps_from, weights_from, with_last}
+use Rattle.bound_cert.specs.Lines.{◌>>=◌, Fails, Gives, Left, Reading, Stopped, first_line_form, fits, line_due, next_line}
+use Rattle.bound_cert.specs.Reading.{Series, charges_from, entries_from, entry_said, first_words, mixed_said, mixed_scale_at, prices_said, rents_from, said_at, scale_at, steps_from, weights_from, with_last}
 use Rattle.dual_bound.specs.declared.mixed.Mixed.{Mixed}
 use Rattle.dual_bound.specs.declared.prices.Prices.{Prices}
 use Rattle.bound_cert.specs.declared.faults.Stop.{Stop}
@@ -17,7 +17,7 @@ use Rattle.bound_cert.specs.declared.faults.Stop.TheVariants as stop
 
 -- in a text of this version a line begins as one that may stand where one of this kind is due
 abbrev pub begins : Version → Left → Due → Bool
-begins v left kind = fits kind (first_form v left)
+begins v left kind = fits kind (first_line_form v left)
 
 pub some_left : (v : Version) (left : Left) (kind : Due) → begins v left kind ≡ true → 0 < length left
 some_left v [] kind is = absurd (cc is)
@@ -114,26 +114,26 @@ said_gives view result n kind say left line = gives_on view result (line_due n k
 
 -- prices and fractional assignments, part by part
 pub prices_read : (n : Naming) (left : Left) (prices : Prices) (after_rents after_charges after : Left) → scale_at n left ≡ Ok prices.scale → rents_from n [] (drop 1 left) ≡ Ok (prices.rents, after_rents)
-    → charges_from n [] None after_rents ≡ Ok (prices.charges, after_charges) → steps_from n [] None after_charges ≡ Ok (prices.steps, after) → prices_at n left ≡ Ok (prices, after)
-unfolding prices_at
+    → charges_from n [] None after_rents ≡ Ok (prices.charges, after_charges) → steps_from n [] None after_charges ≡ Ok (prices.steps, after) → prices_said n left ≡ Ok (prices, after)
+unfolding prices_said
 prices_read n left prices after_rents after_charges after scaled rented charged stepped =
     bound (scale_at n left) prices.scale _ scaled ∙ bound (rents_from n [] (drop 1 left)) (prices.rents, after_rents) _ rented
     ∙ bound (charges_from n [] None after_rents) (prices.charges, after_charges) _ charged ∙ bound (steps_from n [] None after_charges) (prices.steps, after) _ stepped
 
-pub mixed_read : (n : Naming) (left : Left) (mixed : Mixed) (after : Left) → mixed_scale_at n left ≡ Ok mixed.scale → weights_from n [] None (drop 1 left) ≡ Ok (mixed.weights, after) → mixed_at n left ≡ Ok (mixed, after)
-unfolding mixed_at
+pub mixed_read : (n : Naming) (left : Left) (mixed : Mixed) (after : Left) → mixed_scale_at n left ≡ Ok mixed.scale → weights_from n [] None (drop 1 left) ≡ Ok (mixed.weights, after) → mixed_said n left ≡ Ok (mixed, after)
+unfolding mixed_said
 mixed_read n left mixed after scaled weighed = bound (mixed_scale_at n left) mixed.scale _ scaled ∙ bound (weights_from n [] None (drop 1 left)) (mixed.weights, after) _ weighed
 
 module _ {S A B : Type 0} (s : Series S A B) where
-  pub entries_more : (so_far : S) (left : Left) (entry : A) → begins s.names.version left s.kind ≡ true → entry_at s so_far left ≡ Ok entry → entries_from s so_far left ≡ entries_from s (s.grow so_far entry) (drop 1 left)
+  pub entries_more : (so_far : S) (left : Left) (entry : A) → begins s.names.version left s.kind ≡ true → entry_said s so_far left ≡ Ok entry → entries_from s so_far left ≡ entries_from s (s.grow so_far entry) (drop 1 left)
   unfolding entries_from
   entries_more so_far [] entry is read = absurd (cc is)
-  entries_more so_far (line ∷ rest) entry is read = chosen (fits s.kind (form_in s.names.version (words_of line))) _ _ is ∙ bound (entry_at s so_far (line ∷ rest)) entry _ read
+  entries_more so_far (line ∷ rest) entry is read = chosen (fits s.kind (form_in s.names.version (words_of line))) _ _ is ∙ bound (entry_said s so_far (line ∷ rest)) entry _ read
 
-  pub entries_stop : (so_far : S) (left : Left) (e : Stopped) → begins s.names.version left s.kind ≡ true → entry_at s so_far left ≡ Err e → entries_from s so_far left ≡ Err e
+  pub entries_stop : (so_far : S) (left : Left) (e : Stopped) → begins s.names.version left s.kind ≡ true → entry_said s so_far left ≡ Err e → entries_from s so_far left ≡ Err e
   unfolding entries_from
   entries_stop so_far [] e is read = absurd (cc is)
-  entries_stop so_far (line ∷ rest) e is read = chosen (fits s.kind (form_in s.names.version (words_of line))) _ _ is ∙ failed (entry_at s so_far (line ∷ rest)) e _ read
+  entries_stop so_far (line ∷ rest) e is read = chosen (fits s.kind (form_in s.names.version (words_of line))) _ _ is ∙ failed (entry_said s so_far (line ∷ rest)) e _ read
 
   pub entries_end : (so_far : S) (left : Left) → begins s.names.version left s.kind ≡ false → entries_from s so_far left ≡ Ok (s.all so_far, left)
   unfolding entries_from

@@ -4,7 +4,7 @@ use Rattle.bound_cert.proofs.TextTrees.{text_of_reading}
 use Rattle.bound_cert.proofs.WrittenTrees.{in_order_of_tables, reads_in}
 use Rattle.bound_cert.specs.Lines.{Gives, left_of}
 use Rattle.bound_cert.specs.Nodes.{proof_at}
-use Rattle.bound_cert.specs.ReadProof.{AnswersProof, FaultIn, FaultOf, IsTextOf, LinesRead, ReadsAs, answer_of}
+use Rattle.bound_cert.specs.ReadProof.{AnswersProof, FaultIn, FaultOf, IsTextOf, LinesRead, ReadsAs, proof_answer}
 use Rattle.bound_cert.specs.declared.faults.CertError.{CertError}
 use Rattle.bound_cert.specs.declared.faults.Stop.{Stop}
 use Rattle.bound_cert.specs.declared.reading.Proof.{Proof}
@@ -21,11 +21,11 @@ use Rattle.bound_cert.specs.declared.faults.Stop.TheVariants as stop
 
 -- the answer to what was read of lines
 pub answered : (t : Tables) (lines : List (Bor (List ℕ))) (read : Result Proof Stop) (result : Result Proof CertError) → Gives (λ proof. (proof.planned, nodes_of proof.tree)) read (proof_at t (seen lines))
-    → result ≡ answer_of (length lines) read → MatchResult result (LinesRead t (seen lines)) (FaultIn t (seen lines))
+    → result ≡ proof_answer (length lines) read → MatchResult result (LinesRead t (seen lines)) (FaultIn t (seen lines))
 answered t lines read result gives is = subst (λ r. MatchResult r (LinesRead t (seen lines)) (FaultIn t (seen lines))) (sym is) (by_read read gives)
   where
     by_read : (read : Result Proof Stop) → Gives (λ proof. (proof.planned, nodes_of proof.tree)) read (proof_at t (seen lines))
-        → MatchResult (answer_of (length lines) read) (LinesRead t (seen lines)) (FaultIn t (seen lines))
+        → MatchResult (proof_answer (length lines) read) (LinesRead t (seen lines)) (FaultIn t (seen lines))
     by_read (Ok proof) gives = gives
     by_read (Err stop.NoMemory) gives = tt
     by_read (Err (stop.Fault left kind)) gives = record { left = left; stops = gives; line = ap (λ n. n - left + 1) (sym (length-map lines (λ (slice : Bor (List ℕ)). slice.now))) }

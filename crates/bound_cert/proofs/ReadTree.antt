@@ -3,8 +3,8 @@ use Rattle.bound_cert.proofs.ReadOn.{bound, failed, fails_by}
 use Rattle.proof_lines.proofs.Choosing.{chosen, refused}
 use Rattle.bound_cert.specs.Lines.{Fails, Gives, Left, Reading, Stopped, stopped}
 use Rattle.bound_cert.specs.Nodes.{Above, above_of, above_with, after_node, after_tree, first_nodes, has_first, inner_node, nodes_from, parent_nodes, waiting_nodes}
-use Rattle.bound_cert.specs.ReadTree.{IsGrown, IsInnerOf, StillWaits}
-use Rattle.bound_cert.specs.Reading.{node_at}
+use Rattle.bound_cert.specs.ReadTree.{IsGrownByNode, IsInnerOf, StillWaits}
+use Rattle.bound_cert.specs.Reading.{node_said}
 use Rattle.bound_cert.specs.declared.faults.Stop.{Stop}
 use Rattle.bound_cert.specs.declared.faults.TheConstants.{TEXT_ENDS}
 use Rattle.bound_cert.specs.declared.nodes.Inner.{Inner}
@@ -85,40 +85,40 @@ not_empty [] some = absurd (some refl)
 not_empty (b ∷ above) some = grind (arith, nat_tests)
 
 -- one node more
-module _ (n : Naming) (most : ℕ) (nodes : List Node) (above : Above) (left behind : Left) (node : Node) (read : node_at n (length above) left ≡ Ok (node, behind)) where
+module _ (n : Naming) (most : ℕ) (nodes : List Node) (above : Above) (left behind : Left) (node : Node) (read : node_said n (length above) left ≡ Ok (node, behind)) where
   pub one_more : after_node node above ≢ [] → nodes_from n (suc most) nodes above left ≡ nodes_from n most (nodes ++ node ∷ []) (after_node node above) behind
   unfolding nodes_from
-  one_more some = bound (node_at n (length above) left) (node, behind) _ read ∙ refused (length (after_node node above) == 0) _ _ (not_empty (after_node node above) some)
+  one_more some = bound (node_said n (length above) left) (node, behind) _ read ∙ refused (length (after_node node above) == 0) _ _ (not_empty (after_node node above) some)
 
   pub last_one : after_node node above ≡ [] → nodes_from n (suc most) nodes above left ≡ Ok (nodes ++ node ∷ [], behind)
   unfolding nodes_from
-  last_one none = bound (node_at n (length above) left) (node, behind) _ read ∙ chosen (length (after_node node above) == 0) _ _ (is_empty (after_node node above) none)
+  last_one none = bound (node_said n (length above) left) (node, behind) _ read ∙ chosen (length (after_node node above) == 0) _ _ (is_empty (after_node node above) none)
 
-pub none_more : (n : Naming) (most : ℕ) (nodes : List Node) (above : Above) (left : Left) (f : Stopped) → node_at n (length above) left ≡ Err f → nodes_from n (suc most) nodes above left ≡ Err f
+pub none_more : (n : Naming) (most : ℕ) (nodes : List Node) (above : Above) (left : Left) (f : Stopped) → node_said n (length above) left ≡ Err f → nodes_from n (suc most) nodes above left ≡ Err f
 unfolding nodes_from
-none_more n most nodes above left f is = failed (node_at n (length above) left) f _ is
+none_more n most nodes above left f is = failed (node_said n (length above) left) f _ is
 
 -- a loop that reads nodes, where some may come still: its ends, and a turn
 module _ (n : Naming) (whole : Reading (List Node × Left)) (most : ℕ) (waiting : List Parent) (left : Left) (many : ℕ) (many_is : many ≡ length waiting) (some : 0 < most) (so_far : nodes_from n most (waiting_nodes waiting) (above_of waiting) left ≡ whole) where
   from_next : nodes_from n (suc (most - 1)) (waiting_nodes waiting) (above_of waiting) left ≡ whole
   from_next = let same : suc (most - 1) ≡ most = omega (arith, some) in ap (λ m. nodes_from n m (waiting_nodes waiting) (above_of waiting) left) same ∙ so_far
 
-  read_above : (r : Reading (Node × Left)) → node_at n many left ≡ r → node_at n (length (above_of waiting)) left ≡ r
-  read_above r is = ap (λ k. node_at n k left) (as_many waiting ∙ sym many_is) ∙ is
+  read_above : (r : Reading (Node × Left)) → node_said n many left ≡ r → node_said n (length (above_of waiting)) left ≡ r
+  read_above r is = ap (λ k. node_said n k left) (as_many waiting ∙ sym many_is) ∙ is
 
-  pub node_stops : (e : Stop) → Fails e (node_at n many left) → Fails e whole
+  pub node_stops : (e : Stop) → Fails e (node_said n many left) → Fails e whole
   node_stops e =
-      fails_by e (node_at n many left) whole
+      fails_by e (node_said n many left) whole
       (λ f is. sym from_next ∙ none_more n (most - 1) (waiting_nodes waiting) (above_of waiting) left f (read_above (Err f) is))
 
-  module _ (grown : List Parent) (behind : Left) (node : Node) (is : node_at n many left ≡ Ok (node, behind)) where
-    pub goes_on : (reached : Option Tree) → reached ≡ None → IsGrown waiting node grown reached → nodes_from n (most - 1) (waiting_nodes grown) (above_of grown) behind ≡ whole
+  module _ (grown : List Parent) (behind : Left) (node : Node) (is : node_said n many left ≡ Ok (node, behind)) where
+    pub goes_on : (reached : Option Tree) → reached ≡ None → IsGrownByNode waiting node grown reached → nodes_from n (most - 1) (waiting_nodes grown) (above_of grown) behind ≡ whole
     goes_on (Some tree) none waits = absurd (cc none)
     goes_on None none waits =
         rw (waits.nodes_are, waits.above_is)
         (sym (one_more n (most - 1) (waiting_nodes waiting) (above_of waiting) left behind node (read_above _ is) waits.some) ∙ from_next)
 
-    pub is_whole : (tree : Tree) (reached : Option Tree) → reached ≡ Some tree → IsGrown waiting node grown reached → whole ≡ Ok (nodes_of tree, behind)
+    pub is_whole : (tree : Tree) (reached : Option Tree) → reached ≡ Some tree → IsGrownByNode waiting node grown reached → whole ≡ Ok (nodes_of tree, behind)
     is_whole tree None some all = absurd (cc some)
     is_whole tree (Some other) some all =
         let same : other ≡ tree = cc some in

@@ -4,7 +4,7 @@ use Rattle.bound_cert.proofs.ReadBack.{goes}
 use Rattle.bound_cert.proofs.WrittenLines.{names}
 use Rattle.bound_cert.specs.Lines.{◌>>=◌, Left, Reading, fits, line_due, stopped}
 use Rattle.bound_cert.specs.Nodes.{Above, after_node, end_at, head_is, headed, nodes_from, nothing, plan_at, proof_at, rest_at, tree_at, version_of}
-use Rattle.bound_cert.specs.Reading.{Series, body_at, charge_series, charges_from, entries_from, entry_at, head_at, mixed_at, mixed_scale_at, node_at, prices_at, rent_series, rents_from, scale_at, step_series, steps_from, weight_series, weights_from}
+use Rattle.bound_cert.specs.Reading.{Series, body_at, charge_series, charges_from, entries_from, entry_said, head_at, mixed_said, mixed_scale_at, node_said, prices_said, rent_series, rents_from, scale_at, step_series, steps_from, weight_series, weights_from}
 use Rattle.bound_cert.specs.declared.faults.TheConstants.{BAD_LINE}
 use Rattle.bound_cert.specs.declared.nodes.Head.{Head}
 use Rattle.dual_bound.specs.declared.mixed.Weight.{Weight}
@@ -48,12 +48,12 @@ behind_first (line ∷ a) = omega arith
 pub shrinks_behind : {A : Type 0} (a : Left) (r : Reading (A × Left)) → Shrinks (length (drop 1 a)) r → Shrinks (length a) r
 shrinks_behind a r is = shrinks_less (length (drop 1 a)) (length a) r (behind_first a) is
 
-pub entries_shrink : {S A B : Type 0} (s : Series S A B) → ((so_far : S) (a : Left) → Twin a a (entry_at s so_far a) (entry_at s so_far a)) → (so_far : S) (a : Left) → Shrinks (length a) (entries_from s so_far a)
+pub entries_shrink : {S A B : Type 0} (s : Series S A B) → ((so_far : S) (a : Left) → Twin a a (entry_said s so_far a) (entry_said s so_far a)) → (so_far : S) (a : Left) → Shrinks (length a) (entries_from s so_far a)
 unfolding entries_from
 entries_shrink s twin so_far [] = omega arith
 entries_shrink s twin so_far (line ∷ a) =
     shrinks_if (length (line ∷ a)) (fits s.kind (form_in s.names.version (words_of line))) _ _
-    (shrinks_line (line ∷ a) (entry_at s so_far (line ∷ a)) _ (twin so_far (line ∷ a)) (λ entry. shrinks_behind (line ∷ a) _ (entries_shrink s twin (s.grow so_far entry) a)))
+    (shrinks_line (line ∷ a) (entry_said s so_far (line ∷ a)) _ (twin so_far (line ∷ a)) (λ entry. shrinks_behind (line ∷ a) _ (entries_shrink s twin (s.grow so_far entry) a)))
     (omega arith)
 
 module _ (v : Version) (t : Tables) where
@@ -69,16 +69,16 @@ module _ (v : Version) (t : Tables) where
   pub weights_shrink : (weights : List Weight) (before : Option Weight) (a : Left) → Shrinks (length a) (weights_from (names v t) weights before a)
   weights_shrink weights before = entries_shrink (weight_series (names v t)) (λ so_far a. weight_twin v t a a (alike_self a) so_far.1) (weights, before)
 
-  pub prices_shrink : (a : Left) → Shrinks (length a) (prices_at (names v t) a)
-  unfolding prices_at
+  pub prices_shrink : (a : Left) → Shrinks (length a) (prices_said (names v t) a)
+  unfolding prices_said
   prices_shrink a =
       shrinks_line a (scale_at (names v t) a) _ (scale_twin v t a a (alike_self a)) (λ scale. shrinks_behind a _
       (shrinks_bind (length (drop 1 a)) (rents_from (names v t) [] (drop 1 a)) _ (rents_shrink [] (drop 1 a)) (λ rents b.
       shrinks_bind (length b) (charges_from (names v t) [] None b) _ (charges_shrink [] None b) (λ charges c.
       shrinks_bind (length c) (steps_from (names v t) [] None c) _ (steps_shrink [] None c) (λ steps d. omega arith)))))
 
-  pub mixed_shrinks : (a : Left) → Shrinks (length a) (mixed_at (names v t) a)
-  unfolding mixed_at
+  pub mixed_shrinks : (a : Left) → Shrinks (length a) (mixed_said (names v t) a)
+  unfolding mixed_said
   mixed_shrinks a =
       shrinks_line a (mixed_scale_at (names v t) a) _ (mixed_scale_twin v t a a (alike_self a)) (λ scale. shrinks_behind a _
       (shrinks_bind (length (drop 1 a)) (weights_from (names v t) [] None (drop 1 a)) _ (weights_shrink [] None (drop 1 a)) (λ weights b. omega arith)))
@@ -86,17 +86,17 @@ module _ (v : Version) (t : Tables) where
   pub body_shrinks : (h : Head) (a : Left) → Shrinks (length a) (body_at (names v t) h a)
   unfolding body_at
   body_shrinks (head.Alone h) a = omega arith
-  body_shrinks (head.Priced h) a = shrinks_bind (length a) (prices_at (names v t) a) _ (prices_shrink a) (λ prices b. omega arith)
+  body_shrinks (head.Priced h) a = shrinks_bind (length a) (prices_said (names v t) a) _ (prices_shrink a) (λ prices b. omega arith)
   body_shrinks (head.Mixed h) a =
-      shrinks_bind (length a) (prices_at (names v t) a) _ (prices_shrink a) (λ prices b. shrinks_bind (length b) (mixed_at (names v t) b) _ (mixed_shrinks b) (λ mixed c. omega arith))
+      shrinks_bind (length a) (prices_said (names v t) a) _ (prices_shrink a) (λ prices b. shrinks_bind (length b) (mixed_said (names v t) b) _ (mixed_shrinks b) (λ mixed c. omega arith))
 
-  pub node_shrinks : (above : ℕ) (a : Left) → Shrinks (length a) (node_at (names v t) above a)
-  unfolding node_at
+  pub node_shrinks : (above : ℕ) (a : Left) → Shrinks (length a) (node_said (names v t) above a)
+  unfolding node_said
   node_shrinks above a = shrinks_line a (head_at (names v t) above a) _ (head_twin v t a a (alike_self a) above) (λ h. shrinks_behind a _ (body_shrinks h (drop 1 a)))
 
   -- a node takes a line at least
-  pub node_takes : (above : ℕ) (a : Left) (read : Node × Left) → node_at (names v t) above a ≡ Ok read → length read.1 < length a
-  unfolding node_at head_at line_due
+  pub node_takes : (above : ℕ) (a : Left) (read : Node × Left) → node_said (names v t) above a ≡ Ok read → length read.1 < length a
+  unfolding node_said head_at line_due
   node_takes above [] read e = absurd (cc e)
   node_takes above (x ∷ a) read e =
       let h = goes (head_at (names v t) above (x ∷ a)) _ read e in
@@ -107,7 +107,7 @@ module _ (v : Version) (t : Tables) where
   unfolding nodes_from
   nodes_shrink zero nodes above a = omega arith
   nodes_shrink (suc most) nodes above a =
-      shrinks_bind (length a) (node_at (names v t) (length above) a) _ (node_shrinks (length above) a) (λ n b.
+      shrinks_bind (length a) (node_said (names v t) (length above) a) _ (node_shrinks (length above) a) (λ n b.
       shrinks_if (length b) (length (after_node n above) == 0) _ _ (omega arith) (nodes_shrink most (nodes ++ n ∷ []) (after_node n above) b))
 
 -- where reading stops is no more than there was

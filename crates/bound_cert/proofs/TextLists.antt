@@ -7,7 +7,7 @@ use Rattle.bound_cert.proofs.WrittenLines.{names, other_words, texts, texts_appe
 use Rattle.bound_cert.proofs.WrittenPrices.{fleet_count, lines_from, lines_with, lines_without, needed_by, of_step}
 use Rattle.bound_cert.specs.Lines.{Left, fits}
 use Rattle.bound_cert.specs.ProofText.{ArePricesIn, at_line, charge_line, mixed_lines, price_lines, rent_lines, weight_line}
-use Rattle.bound_cert.specs.Reading.{charge_at, charges_from, entries_from, first_words, mixed_at, mixed_scale_at, padded, prices_at, rent_at, rents_from, scale_at, step_at, steps_from, weight_at, weights_from}
+use Rattle.bound_cert.specs.Reading.{charge_at, charges_from, entries_from, first_words, mixed_said, mixed_scale_at, padded, prices_said, rent_at, rents_from, scale_at, step_said, steps_from, weight_at, weights_from}
 use Rattle.dual_bound.proofs.StepOrder.{same_place_by, zero_figure}
 use Rattle.dual_bound.specs.Prices.{rent_of}
 use Rattle.dual_bound.specs.WrittenOrder.{ArePricesInOrder, ChargesFollow, IsChargeInOrder, IsFigure, IsMixedInOrder, IsStepInOrder, IsWeightInOrder, NoLoneZero, StepsFollow, WeightsFollow, goes_on}
@@ -79,7 +79,7 @@ module _ (v : Version) (t : Tables) where
   steps_were (line ∷ rest) done before read e =
       either_way (fits due.Step (form_in v (words_of line))) _ _ read e
       (λ at e.
-      let step = goes (step_at (names v t) before (line ∷ rest)) _ read e in
+      let step = goes (step_said (names v t) before (line ∷ rest)) _ read e in
       let was = step_was v t before (line ∷ rest) step.value step.is in
       let more = steps_were rest (done ++ step.value ∷ []) (Some step.value) read step.on in
       record {
@@ -310,8 +310,8 @@ module _ (v : Version) (t : Tables) where
       ∙ ap (λ rest. texts t (rent_lines prices (fleets_in t)) ++ rest) (charges ∙ ap (λ rest. texts t (map charge_line prices.charges) ++ rest) steps ∙ sym (texts_append t (map charge_line prices.charges) (map at_line prices.steps) behind))
       ∙ sym (texts_append t (rent_lines prices (fleets_in t)) (map charge_line prices.charges ++ map at_line prices.steps) behind))
 
-  pub prices_were : (left : Left) (read : Prices × Left) → prices_at (names v t) left ≡ Ok read → PricesWere left read
-  unfolding prices_at
+  pub prices_were : (left : Left) (read : Prices × Left) → prices_said (names v t) left ≡ Ok read → PricesWere left read
+  unfolding prices_said
   prices_were left read e =
       let scale = goes (scale_at (names v t) left) _ read e in
       let rents = goes (rents_from (names v t) [] (drop 1 left)) _ read scale.on in
@@ -349,8 +349,8 @@ module _ (v : Version) (t : Tables) where
     pub order : IsMixedInOrder t read.0
     pub text : left ≡ texts t (mixed_lines read.0) ++ read.1
 
-  pub mixed_was : (left : Left) (read : Mixed × Left) → mixed_at (names v t) left ≡ Ok read → MixedWas left read
-  unfolding mixed_at
+  pub mixed_was : (left : Left) (read : Mixed × Left) → mixed_said (names v t) left ≡ Ok read → MixedWas left read
+  unfolding mixed_said
   mixed_was left read e =
       let scale = goes (mixed_scale_at (names v t) left) _ read e in
       let weights = goes (weights_from (names v t) [] None (drop 1 left)) _ read scale.on in

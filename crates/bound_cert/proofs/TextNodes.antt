@@ -6,7 +6,7 @@ use Rattle.bound_cert.proofs.WrittenLines.{names, texts, texts_append}
 use Rattle.bound_cert.proofs.WrittenNodes.{first_line}
 use Rattle.bound_cert.specs.Lines.{Left, line_due}
 use Rattle.bound_cert.specs.ProofText.{ArePricesIn, IsNodeIn, mixed_lines, price_lines, node_lines}
-use Rattle.bound_cert.specs.Reading.{body_at, head_at, head_of, mixed_at, mixed_node, node_at, priced_node, prices_at}
+use Rattle.bound_cert.specs.Reading.{body_at, head_at, head_of, mixed_node, mixed_said, node_said, priced_node, prices_said}
 use Rattle.bound_cert.specs.declared.nodes.Fraction.{Fraction}
 use Rattle.bound_cert.specs.declared.nodes.Head.{Head}
 use Rattle.bound_cert.specs.declared.nodes.Priced.{Priced}
@@ -98,20 +98,20 @@ module _ (v : Version) (t : Tables) where
   body_was (head.Alone (alone.Trim leg choice)) rest read e is =
       subst (λ r. BodyWas v t (head.Alone (alone.Trim leg choice)) rest r) (ok_same (node.Trim leg choice, rest) read e) (record { order = is.named; tells = tt; text = refl })
   body_was (head.Priced h) rest read e is =
-      let prices = goes (prices_at (names v t) rest) _ read e in
+      let prices = goes (prices_said (names v t) rest) _ read e in
       let was = prices_were v t rest prices.value prices.is in
       subst (λ r. BodyWas v t (head.Priced h) rest r) (ok_same (priced_node h prices.value.0, prices.value.1) read prices.on)
       (priced_was h prices.value.0 rest prices.value.1 was.order was.tells was.text is)
   body_was (head.Mixed h) rest read e is =
-      let prices = goes (prices_at (names v t) rest) _ read e in
-      let mixed = goes (mixed_at (names v t) prices.value.1) _ read prices.on in
+      let prices = goes (prices_said (names v t) rest) _ read e in
+      let mixed = goes (mixed_said (names v t) prices.value.1) _ read prices.on in
       let was = prices_were v t rest prices.value prices.is in
       let other = mixed_was v t prices.value.1 mixed.value mixed.is in
       subst (λ r. BodyWas v t (head.Mixed h) rest r) (ok_same (mixed_node h prices.value.0 mixed.value.0, mixed.value.1) read mixed.on)
       (mixed_node_was h prices.value.0 mixed.value.0 rest prices.value.1 mixed.value.1 was.order was.tells other.order was.text other.text is)
 
-  pub node_was : (above : ℕ) (left : Left) (read : Node × Left) → node_at (names v t) above left ≡ Ok read → NodeWas v t above left read
-  unfolding node_at head_at
+  pub node_was : (above : ℕ) (left : Left) (read : Node × Left) → node_said (names v t) above left ≡ Ok read → NodeWas v t above left read
+  unfolding node_said head_at
   node_was above left read e =
       let h = goes (head_at (names v t) above left) _ read e in
       let line = goes (line_due (names v t) due.Node left) _ h.value h.is in

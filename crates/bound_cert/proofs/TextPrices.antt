@@ -4,7 +4,7 @@ use Rattle.bound_cert.proofs.TextLines.{LineIs, line_was}
 use Rattle.bound_cert.proofs.WrittenLines.{names}
 use Rattle.bound_cert.specs.Lines.{Left, line_due}
 use Rattle.bound_cert.specs.ProofText.{at_line, charge_line, weight_line}
-use Rattle.bound_cert.specs.Reading.{charge_at, charge_of, in_order, is_needless, mixed_scale_at, mixed_scale_of, rent_at, rent_follows, rent_of, said_at, scale_at, scale_of, step_at, step_of, weight_at, weight_of}
+use Rattle.bound_cert.specs.Reading.{charge_at, charge_in_line, in_order, is_needless, mixed_scale_at, mixed_scale_of, rent_at, rent_follows, rent_in_line, said_at, scale_at, scale_of, step_in_line, step_said, weight_at, weight_of}
 use Rattle.dual_bound.specs.Order.{charge_follows, step_follows, weight_follows}
 use Rattle.dual_bound.specs.WrittenOrder.{IsChargeInOrder, IsStepInOrder, IsWeightInOrder}
 use Rattle.dual_bound.specs.declared.mixed.Weight.{Weight}
@@ -35,7 +35,7 @@ record RentIs (least : ℕ) (line : Line) (entry : ℕ × ℤ) : Type 0 where
   line_is : line ≡ says.Rent entry.0 entry.1
   follows : rent_follows least entry.0 entry.1 ≡ true
 
-rent_is : (least : ℕ) (line : Line) (left : Left) (entry : ℕ × ℤ) → reading.rent_of least line left ≡ Ok entry → RentIs least line entry
+rent_is : (least : ℕ) (line : Line) (left : Left) (entry : ℕ × ℤ) → reading.rent_in_line least line left ≡ Ok entry → RentIs least line entry
 rent_is least (says.Rent f z) left entry e =
     let order = goes (in_order (rent_follows least f z) left) _ entry e in
     subst (λ p. RentIs least (says.Rent f z) p) (ok_same (f, z) entry order.on) (record { line_is = refl; follows = ordered (rent_follows least f z) left order.value order.is })
@@ -45,7 +45,7 @@ record ChargeIs (before : Option Charge) (line : Line) (entry : Charge) : Type 0
   line_is : line ≡ charge_line entry
   follows : charge_follows before entry ≡ true
 
-charge_is : (before : Option Charge) (line : Line) (left : Left) (entry : Charge) → charge_of before line left ≡ Ok entry → ChargeIs before line entry
+charge_is : (before : Option Charge) (line : Line) (left : Left) (entry : Charge) → charge_in_line before line left ≡ Ok entry → ChargeIs before line entry
 charge_is before (says.Charge station day charge) left entry e =
     let it : Charge = record { station = station; day = day; charge = charge } in
     let order = goes (in_order (charge_follows before it) left) _ entry e in
@@ -56,7 +56,7 @@ record StepIs (n : Naming) (before : Option PriceStep) (line : Line) (left : Lef
   line_is : line ≡ at_line step
   passes : (step_follows before step && not (is_needless n step (drop 1 left))) ≡ true
 
-step_is : (n : Naming) (before : Option PriceStep) (line : Line) (left : Left) (step : PriceStep) → step_of n before line left ≡ Ok step → StepIs n before line left step
+step_is : (n : Naming) (before : Option PriceStep) (line : Line) (left : Left) (step : PriceStep) → step_in_line n before line left ≡ Ok step → StepIs n before line left step
 step_is n before (says.At fleet station minute value) left step e =
     let it : PriceStep = record { fleet = fleet; station = station; minute = minute; value = value } in
     let passes = step_follows before it && not (is_needless n it (drop 1 left)) in
@@ -133,7 +133,7 @@ module _ (v : Version) (t : Tables) where
     pub follows : step_follows before step ≡ true
     pub needed : is_needless (names v t) step (drop 1 left) ≡ false
 
-  pub step_was : (before : Option PriceStep) (left : Left) (step : PriceStep) → step_at (names v t) before left ≡ Ok step → StepWas before left step
+  pub step_was : (before : Option PriceStep) (left : Left) (step : PriceStep) → step_said (names v t) before left ≡ Ok step → StepWas before left step
   unfolding said_at
   step_was before left step e =
       let line = goes (line_due (names v t) due.Step left) _ step e in

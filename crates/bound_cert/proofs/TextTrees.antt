@@ -5,10 +5,10 @@ use Rattle.bound_cert.proofs.TextNodes.{node_was}
 use Rattle.bound_cert.proofs.WrittenLines.{names, texts, texts_append}
 use Rattle.bound_cert.proofs.WrittenTrees.{last}
 use Rattle.bound_cert.specs.Lines.{Left, Reading, left_of, line_due, may_stand}
-use Rattle.bound_cert.specs.Nodes.{Above, after_node, after_tree, end_at, head_is, headed, nodes_from, nothing, plan_at, plan_of, proof_at, rest_at, tree_at, version_of}
-use Rattle.bound_cert.specs.ProofText.{IsNodeIn, lines_in, lines_of, node_lines, text_in, tree_lines}
+use Rattle.bound_cert.specs.Nodes.{Above, after_node, after_tree, end_at, head_is, headed, nodes_from, nothing, plan_at, plan_in_line, proof_at, rest_at, tree_at, version_of}
+use Rattle.bound_cert.specs.ProofText.{IsNodeIn, lines_in_version, node_lines, text_in, text_of_lines, tree_lines}
 use Rattle.bound_cert.specs.ReadProof.{IsTextOf}
-use Rattle.bound_cert.specs.Reading.{node_at, said_at}
+use Rattle.bound_cert.specs.Reading.{node_said, said_at}
 use Rattle.bound_cert.specs.declared.faults.TheConstants.{BAD_LINE}
 use Rattle.dual_bound.specs.Leaves.{depth_of}
 use Rattle.dual_bound.specs.Nodes.{nodes_of}
@@ -51,7 +51,7 @@ nodes_were : (v : Version) (t : Tables) (most : ℕ) (nodes : List Node) (above 
 unfolding nodes_from
 nodes_were v t zero nodes above left read e = absurd (cc e)
 nodes_were v t (suc most) nodes above left read e =
-    let next = goes (node_at (names v t) (length above) left) _ read e in
+    let next = goes (node_said (names v t) (length above) left) _ read e in
     let n = next.value.0 in
     let was = node_was v t (length above) left next.value next.is in
     either_way (length (after_node n above) == 0) _ _ read next.on
@@ -153,7 +153,7 @@ head_was t windows (line ∷ next ∷ rest) v e = by_version (version_of windows
     by_version None is e = absurd (cc e)
     by_version (Some w) is e = ap (λ l. l ∷ next ∷ rest) (head_line t windows line w is ∙ ap (λ x. line_bytes t (says.Head x)) (ok_same w v e))
 
-plan_is : (line : Line) (left : Left) (planned : Bool) → plan_of line left ≡ Ok planned → line ≡ says.Plan planned
+plan_is : (line : Line) (left : Left) (planned : Bool) → plan_in_line line left ≡ Ok planned → line ≡ says.Plan planned
 plan_is (says.Plan b) left planned e = ap (λ b. says.Plan b) (ok_same b planned e)
 plan_is other left planned e = absurd (cc e)
 
@@ -197,11 +197,11 @@ join_more : (first : List ℕ) (others : Left) → 0 < length others → join_wi
 join_more first [] some = absurd (omega (arith, some))
 join_more first (other ∷ others) some = refl
 
-join_lines : (t : Tables) (lines : List Line) → join_with_byte line_feed (texts t lines ++ [] ∷ []) ≡ lines_of t lines
+join_lines : (t : Tables) (lines : List Line) → join_with_byte line_feed (texts t lines ++ [] ∷ []) ≡ text_of_lines t lines
 join_lines t [] = refl
 join_lines t (line ∷ lines) =
     join_more (line_bytes t line) (texts t lines ++ [] ∷ []) (some_last lines) ∙ ap (λ rest. line_bytes t line ++ line_feed ∷ rest) (join_lines t lines)
-    ∙ sym (append_assoc (line_bytes t line) (line_feed ∷ []) (lines_of t lines))
+    ∙ sym (append_assoc (line_bytes t line) (line_feed ∷ []) (text_of_lines t lines))
   where
     some_last : (lines : List Line) → 0 < length (texts t lines ++ [] ∷ [])
     some_last [] = omega arith
@@ -227,7 +227,7 @@ text_of_reading t bytes planned whole e =
     let tree_text : third ≡ texts t (tree_lines t whole) ++ last t =
     were.text ∙ ap (λ nodes. texts t (flat_map (node_lines t) nodes) ++ all.value.1) nodes_are
     ∙ ap (λ rest. texts t (tree_lines t whole) ++ rest) (end_was v t all.value.1 ended.value ended.is) in
-    let lines : left ≡ texts t (lines_in v t planned whole) ++ [] ∷ [] =
+    let lines : left ≡ texts t (lines_in_version v t planned whole) ++ [] ∷ [] =
     head_line_is
     ∙ ap (λ rest. line_bytes t (says.Head v) ∷ rest)
     (plan_line_is.is ∙ ap (λ p. line_bytes t (says.Plan p) ∷ third) (ap (λ p. p.0) same)
@@ -236,7 +236,7 @@ text_of_reading t bytes planned whole e =
       version = v;
       shifts = version_fits t.windows left v headed.is;
       tells = subst (λ nodes. All (IsNodeIn v) nodes) nodes_are were.tell;
-      is = sym (join_with_byte-slice_split line_feed bytes) ∙ ap (join_with_byte line_feed) lines ∙ join_lines t (lines_in v t planned whole);
+      is = sym (join_with_byte-slice_split line_feed bytes) ∙ ap (join_with_byte line_feed) lines ∙ join_lines t (lines_in_version v t planned whole);
       order = subst (λ nodes. All (IsNodeInOrder t) nodes) nodes_are were.each;
       shallow = below_none (depth_of whole) deep.depth;
     }

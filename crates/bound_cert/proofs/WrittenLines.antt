@@ -3,7 +3,7 @@ use Rattle.bound_cert.proofs.Cut.{no_line_feed}
 use Rattle.bound_cert.proofs.ReadOn.{begins}
 use Rattle.proof_lines.proofs.Choosing.{chosen}
 use Rattle.bound_cert.specs.Lines.{Left, fits, left_of, line_due, may_stand, of_seen}
-use Rattle.bound_cert.specs.ProofText.{lines_of}
+use Rattle.bound_cert.specs.ProofText.{text_of_lines}
 use Rattle.bound_cert.specs.Reading.{first_words}
 use Rattle.bound_cert.specs.declared.reading_lines.Due.{Due}
 use Rattle.fleet_model.specs.declared.tables.Tables.{Tables}
@@ -37,12 +37,12 @@ pub texts_append : (t : Tables) (xs ys : List Line) (behind : Left) → texts t 
 texts_append t xs ys behind = ap (λ lines. lines ++ behind) (map-append (line_bytes t) xs ys) ∙ append_assoc (texts t xs) (texts t ys) behind
 
 -- the lines of a text, and behind them nothing
-pub left_of_lines : (t : Tables) (lines : List Line) → All (IsNamed t) lines → left_of (lines_of t lines) ≡ texts t lines ++ [] ∷ []
+pub left_of_lines : (t : Tables) (lines : List Line) → All (IsNamed t) lines → left_of (text_of_lines t lines) ≡ texts t lines ++ [] ∷ []
 left_of_lines t [] are = refl
 left_of_lines t (line ∷ lines) are =
     let is = of_words t line (All-head (IsNamed t) line lines are) in
     let bytes = line_bytes t line in
-    rw (append_assoc bytes (line_feed ∷ []) (lines_of t lines), slice_split_at (λ byte. byte == line_feed) bytes line_feed (lines_of t lines) (no_line_feed bytes (joined_plain (line_words t line) is.words)) refl)
+    rw (append_assoc bytes (line_feed ∷ []) (text_of_lines t lines), slice_split_at (λ byte. byte == line_feed) bytes line_feed (text_of_lines t lines) (no_line_feed bytes (joined_plain (line_words t line) is.words)) refl)
     (ap (λ rest. bytes ∷ rest) (left_of_lines t lines (All-tail (IsNamed t) line lines are)))
 
 -- a line that is of another form is no step

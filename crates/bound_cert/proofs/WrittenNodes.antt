@@ -5,7 +5,7 @@ use Rattle.bound_cert.proofs.WrittenLines.{begins_else, line_read, names, texts,
 use Rattle.bound_cert.proofs.WrittenPrices.{IsBehind, mixed_read, prices_read, some_behind}
 use Rattle.bound_cert.specs.Lines.{Left, line_due, may_stand}
 use Rattle.bound_cert.specs.ProofText.{ArePricesIn, IsNodeIn, mixed_lines, node_lines, price_lines, weight_line}
-use Rattle.bound_cert.specs.Reading.{alone_node, body_at, deep_at, head_at, head_of, mixed_at, mixed_node, node_at, priced_node, prices_at}
+use Rattle.bound_cert.specs.Reading.{alone_node, body_at, deep_at, head_at, head_of, mixed_node, mixed_said, node_said, priced_node, prices_said}
 use Rattle.bound_cert.specs.declared.nodes.Alone.{Alone}
 use Rattle.bound_cert.specs.declared.nodes.Fraction.{Fraction}
 use Rattle.bound_cert.specs.declared.nodes.Head.{Head}
@@ -101,30 +101,30 @@ module _ (v : Version) (t : Tables) where
   }
 
   -- prices that nothing of a cause follows
-  prices_alone : (prices : Prices) (behind : Left) → ArePricesInOrder t prices → ArePricesIn v prices → IsBehind behind → prices_at (names v t) (texts t (price_lines t prices ++ []) ++ behind) ≡ Ok (prices, behind)
-  prices_alone prices behind are tells ends = ap (λ lines. prices_at (names v t) (texts t lines ++ behind)) (append-nil (price_lines t prices)) ∙ prices_read v t prices behind are tells ends
+  prices_alone : (prices : Prices) (behind : Left) → ArePricesInOrder t prices → ArePricesIn v prices → IsBehind behind → prices_said (names v t) (texts t (price_lines t prices ++ []) ++ behind) ≡ Ok (prices, behind)
+  prices_alone prices behind are tells ends = ap (λ lines. prices_said (names v t) (texts t lines ++ behind)) (append-nil (price_lines t prices)) ∙ prices_read v t prices behind are tells ends
 
   before_mixed : (mixed : Mixed) (behind : Left) → IsBehind (texts t (mixed_lines mixed) ++ behind)
   before_mixed mixed behind = behind_line (says.Mixed mixed.scale) (texts t (map weight_line mixed.weights) ++ behind) tt refl refl refl refl
 
   prices_then : (prices : Prices) (mixed : Mixed) (behind : Left) → ArePricesInOrder t prices → ArePricesIn v prices
-      → prices_at (names v t) (texts t (price_lines t prices ++ mixed_lines mixed) ++ behind) ≡ Ok (prices, texts t (mixed_lines mixed) ++ behind)
+      → prices_said (names v t) (texts t (price_lines t prices ++ mixed_lines mixed) ++ behind) ≡ Ok (prices, texts t (mixed_lines mixed) ++ behind)
   prices_then prices mixed behind are tells =
-      ap (prices_at (names v t)) (texts_append t (price_lines t prices) (mixed_lines mixed) behind)
+      ap (prices_said (names v t)) (texts_append t (price_lines t prices) (mixed_lines mixed) behind)
       ∙ prices_read v t prices (texts t (mixed_lines mixed) ++ behind) are tells (before_mixed mixed behind)
 
   -- a leaf of which prices follow, and a node of which prices and a fractional assignment do
   priced_body : (said : Priced) (prices : Prices) (behind : Left) → ArePricesInOrder t prices → ArePricesIn v prices → IsBehind behind
       → body_at (names v t) (head.Priced said) (texts t (price_lines t prices ++ []) ++ behind) ≡ Ok (priced_node said prices, behind)
   unfolding body_at
-  priced_body said prices behind are tells ends = bound (prices_at (names v t) (texts t (price_lines t prices ++ []) ++ behind)) (prices, behind) _ (prices_alone prices behind are tells ends)
+  priced_body said prices behind are tells ends = bound (prices_said (names v t) (texts t (price_lines t prices ++ []) ++ behind)) (prices, behind) _ (prices_alone prices behind are tells ends)
 
   mixed_body : (said : Fraction) (prices : Prices) (mixed : Mixed) (behind : Left) → ArePricesInOrder t prices → ArePricesIn v prices → IsMixedInOrder t mixed → IsBehind behind
       → body_at (names v t) (head.Mixed said) (texts t (price_lines t prices ++ mixed_lines mixed) ++ behind) ≡ Ok (mixed_node said prices mixed, behind)
   unfolding body_at
   mixed_body said prices mixed behind are tells is ends =
-      bound (prices_at (names v t) (texts t (price_lines t prices ++ mixed_lines mixed) ++ behind)) (prices, texts t (mixed_lines mixed) ++ behind) _ (prices_then prices mixed behind are tells)
-      ∙ bound (mixed_at (names v t) (texts t (mixed_lines mixed) ++ behind)) (mixed, behind) _ (mixed_read v t mixed behind is ends)
+      bound (prices_said (names v t) (texts t (price_lines t prices ++ mixed_lines mixed) ++ behind)) (prices, texts t (mixed_lines mixed) ++ behind) _ (prices_then prices mixed behind are tells)
+      ∙ bound (mixed_said (names v t) (texts t (mixed_lines mixed) ++ behind)) (mixed, behind) _ (mixed_read v t mixed behind is ends)
 
   priced_reads : (said : Priced) (prices : Prices) → node_lines t (priced_node said prices) ≡ first_line (head.Priced said) ∷ (price_lines t prices ++ []) → IsLineOf t (first_line (head.Priced said)) → ArePricesInOrder t prices
       → ArePricesIn v prices → NodeReads (priced_node said prices)
@@ -163,8 +163,8 @@ module _ (v : Version) (t : Tables) where
   node_reads (node.Open prices (cause.Lift step at)) is tells = priced_reads (priced.Lift step at) prices refl (record { named = tt; figures = (is.1.0.held, is.1.1.held) }) is.0 tells
   node_reads (node.Split leg choice prices mixed) is tells = mixed_reads (fraction.Split leg choice) prices mixed refl (record { named = is.0; figures = tt }) is.1 tells is.2
 
-  pub node_read : (above : ℕ) (n : Node) (behind : Left) → IsNodeInOrder t n → IsNodeIn v n → above ≤ MAX_DEPTH → IsBehind behind → node_at (names v t) above (texts t (node_lines t n) ++ behind) ≡ Ok (n, behind)
-  unfolding node_at head_at
+  pub node_read : (above : ℕ) (n : Node) (behind : Left) → IsNodeInOrder t n → IsNodeIn v n → above ≤ MAX_DEPTH → IsBehind behind → node_said (names v t) above (texts t (node_lines t n) ++ behind) ≡ Ok (n, behind)
+  unfolding node_said head_at
   node_read above n behind is tells shallow ends =
       let reads = node_reads n is tells in
       let line = first_line reads.first in
@@ -175,7 +175,7 @@ module _ (v : Version) (t : Tables) where
       let first : head_at (names v t) above left ≡ Ok reads.first =
       bound (line_due (names v t) due.Node left) line _ (line_read v t due.Node line rest ((begins_node reads.first).of_version v) reads.of_tables (begins_node reads.first).node (some_behind t reads.others behind ends.some))
       ∙ bound (head_of line left) reads.first _ (head_read reads.first left) ∙ deep in
-      ap (node_at (names v t) above) whole ∙ bound (head_at (names v t) above left) reads.first _ first ∙ reads.body behind ends
+      ap (node_said (names v t) above) whole ∙ bound (head_at (names v t) above left) reads.first _ first ∙ reads.body behind ends
 
   -- a node's line is of another kind than a rent, a charge, a step or a weight
   pub before_node : (n : Node) (more : List Line) (behind : Left) → IsNodeInOrder t n → IsNodeIn v n → IsBehind (texts t (node_lines t n ++ more) ++ behind)

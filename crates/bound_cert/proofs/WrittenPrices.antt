@@ -4,7 +4,7 @@ use Rattle.proof_lines.proofs.Choosing.{chosen, refused}
 use Rattle.bound_cert.proofs.WrittenLines.{begins_as, begins_else, line_read, names, texts, texts_append}
 use Rattle.bound_cert.specs.Lines.{Left, line_due, may_stand}
 use Rattle.bound_cert.specs.ProofText.{ArePricesIn, at_line, charge_line, mixed_lines, price_lines, rent_lines, rent_lines_at, weight_line}
-use Rattle.bound_cert.specs.Reading.{charge_at, charge_series, charges_from, first_words, in_order, is_needless, mixed_at, mixed_scale_at, padded, prices_at, rent_at, rent_follows, rent_series, rents_from, said_at, scale_at, step_at, step_series, steps_from, weight_at, weight_series, weights_from}
+use Rattle.bound_cert.specs.Reading.{charge_at, charge_series, charges_from, first_words, in_order, is_needless, mixed_said, mixed_scale_at, padded, prices_said, rent_at, rent_follows, rent_series, rents_from, said_at, scale_at, step_said, step_series, steps_from, weight_at, weight_series, weights_from}
 use Rattle.bound_cert.specs.declared.reading_lines.Due.{Due}
 use Rattle.dual_bound.specs.OfTables.{IsStepOf}
 use Rattle.dual_bound.specs.Order.{charge_follows, same_place, step_follows, weight_follows}
@@ -206,7 +206,7 @@ module _ (v : Version) (t : Tables) where
   step_line step is = record { named = (is.fleet, is.station); figures = (is.minute, is.value) }
 
   pub step_read : (before : Option PriceStep) (step : PriceStep) (rest : Left) → IsStepInOrder t step → step_follows before step ≡ true → is_needless (names v t) step rest ≡ false → 0 < length rest
-      → step_at (names v t) before (line_bytes t (at_line step) ∷ rest) ≡ Ok step
+      → step_said (names v t) before (line_bytes t (at_line step) ∷ rest) ≡ Ok step
   unfolding said_at
   step_read before step rest is follows needed some =
       let left : Left = line_bytes t (at_line step) ∷ rest in
@@ -258,8 +258,8 @@ module _ (v : Version) (t : Tables) where
       begins_else v t (at_line step) (texts t (map at_line steps) ++ behind) kind (step_named step (All-head (IsStepOf t) step steps of)) other
 
   -- prices
-  pub prices_read : (prices : Prices) (behind : Left) → ArePricesInOrder t prices → ArePricesIn v prices → IsBehind behind → prices_at (names v t) (texts t (price_lines t prices) ++ behind) ≡ Ok (prices, behind)
-  unfolding prices_at
+  pub prices_read : (prices : Prices) (behind : Left) → ArePricesInOrder t prices → ArePricesIn v prices → IsBehind behind → prices_said (names v t) (texts t (price_lines t prices) ++ behind) ≡ Ok (prices, behind)
+  unfolding prices_said
   prices_read prices behind are tells ends =
       let rents = rent_lines prices (fleets_in t) in
       let charges = map charge_line prices.charges in
@@ -270,7 +270,7 @@ module _ (v : Version) (t : Tables) where
       let parts : texts t (rents ++ (charges ++ steps)) ++ behind ≡ texts t rents ++ tail = texts_append t rents (charges ++ steps) behind ∙ ap (λ lines. texts t rents ++ lines) (texts_append t charges steps behind) in
       let some_last : 0 < length last = some_behind t steps behind ends.some in
       let some : 0 < length tail = some_behind t charges last some_last in
-      ap (λ rest. prices_at (names v t) (line_bytes t (says.Scale prices.scale) ∷ rest)) parts
+      ap (λ rest. prices_said (names v t) (line_bytes t (says.Scale prices.scale) ∷ rest)) parts
       ∙ bound (scale_at (names v t) (line_bytes t (says.Scale prices.scale) ∷ texts t rents ++ tail)) prices.scale _ (scale_read prices.scale (texts t rents ++ tail) are.scale (some_behind t rents tail some))
       ∙ bound (rents_from (names v t) [] (texts t rents ++ tail)) (prices.rents, tail) _
       (rents_read prices tail are.rents are.one_each some (charges_begin prices.charges last due.Rent are.charges.each refl (steps_begin prices.steps behind due.Rent of refl (ends.no_rent v))))
@@ -305,8 +305,8 @@ module _ (v : Version) (t : Tables) where
       ∙ ap (λ weights. Ok (weights, behind)) (append_assoc done (entry ∷ []) weights)
 
   -- fractional assignments
-  pub mixed_read : (mixed : Mixed) (behind : Left) → IsMixedInOrder t mixed → IsBehind behind → mixed_at (names v t) (texts t (mixed_lines mixed) ++ behind) ≡ Ok (mixed, behind)
-  unfolding mixed_at
+  pub mixed_read : (mixed : Mixed) (behind : Left) → IsMixedInOrder t mixed → IsBehind behind → mixed_said (names v t) (texts t (mixed_lines mixed) ++ behind) ≡ Ok (mixed, behind)
+  unfolding mixed_said
   mixed_read mixed behind is ends =
       let rest : Left = texts t (map weight_line mixed.weights) ++ behind in
       bound (mixed_scale_at (names v t) (line_bytes t (says.Mixed mixed.scale) ∷ rest)) mixed.scale _

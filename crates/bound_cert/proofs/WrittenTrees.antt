@@ -9,8 +9,8 @@ use Rattle.bound_cert.proofs.WrittenNodes.{before_node, behind_line, node_read}
 use Rattle.bound_cert.proofs.WrittenPrices.{IsBehind, steps_of}
 use Rattle.bound_cert.specs.Lines.{Left, Reading, left_of, line_due, may_stand}
 use Rattle.bound_cert.specs.Nodes.{Above, after_node, after_tree, end_at, head_is, nodes_from, nothing, plan_at, proof_at, rest_at, tree_at}
-use Rattle.bound_cert.specs.ProofText.{CanTell, IsNodeIn, lines_in, node_lines, proof_text, text_in, tree_lines, written_version}
-use Rattle.bound_cert.specs.Reading.{node_at, said_at}
+use Rattle.bound_cert.specs.ProofText.{CanTell, IsNodeIn, lines_in_version, node_lines, proof_text, text_in, tree_lines, written_version}
+use Rattle.bound_cert.specs.Reading.{node_said, said_at}
 use Rattle.dual_bound.specs.Leaves.{depth_of}
 use Rattle.dual_bound.specs.Nodes.{nodes_of}
 use Rattle.dual_bound.specs.OfTables.{ArePricesOf, IsCauseOf, IsChargeOf, IsOfTables, IsWeightOf}
@@ -56,7 +56,7 @@ one_node : (v : Version) (t : Tables) (most : ℕ) (nodes : List Node) (above : 
     → nodes_from (names v t) (suc most) nodes above (texts t (node_lines t n) ++ behind) ≡ onward v t most (nodes ++ n ∷ []) (after_node n above) behind
 unfolding nodes_from
 one_node v t most nodes above n behind is tells shallow ends =
-    bound (node_at (names v t) (length above) (texts t (node_lines t n) ++ behind)) (n, behind) _ (node_read v t (length above) n behind is tells shallow ends)
+    bound (node_said (names v t) (length above) (texts t (node_lines t n) ++ behind)) (n, behind) _ (node_read v t (length above) n behind is tells shallow ends)
 
 -- nodes go on where they do below what stands above: none is too deep, and with the last nothing waits any more
 abbrev Goes : Above → List Node → Type 0
@@ -196,7 +196,7 @@ unfolding proof_at rest_at text_in
 reads_in v t planned whole of tells are shallow =
     let rest : Left = texts t (tree_lines t whole) ++ (last t) in
     let all : left_of (text_in v t planned whole) ≡ line_bytes t (says.Head v) ∷ line_bytes t (says.Plan planned) ∷ rest =
-    left_of_lines t (lines_in v t planned whole) (lines_named v t planned whole (in_order_of_tables t whole are))
+    left_of_lines t (lines_in_version v t planned whole) (lines_named v t planned whole (in_order_of_tables t whole are))
     ∙ ap (λ rest. line_bytes t (says.Head v) ∷ line_bytes t (says.Plan planned) ∷ rest) (texts_append t (tree_lines t whole) (says.End ∷ []) ([] ∷ [])) in
     let some : 0 < length rest = (behind_nodes v t (nodes_of whole) (last t) are tells (last_is t)).some in
     ap (proof_at t) all

@@ -5,7 +5,7 @@ use Rattle.fleet_model.specs.declared.tables.Tables.{Tables}
 use Rattle.bound_cert.specs.Lines.{Left}
 use Rattle.proof_lines.specs.Words.{stands, words_of}
 use Rattle.bound_cert.specs.Nodes.{proof_at}
-use Rattle.bound_cert.specs.ReadProof.{IsFirstFault}
+use Rattle.bound_cert.specs.ReadProof.{IsFirstProofFault}
 use Rattle.bound_cert.specs.declared.faults.CertFault.{CertFault}
 use Rattle.dual_bound.specs.declared.trees.TheConstants.{MAX_DEPTH}
 use Rattle.dual_bound.specs.declared.nodes.Node.{Node}
@@ -19,7 +19,7 @@ is_zero_step words = stands words 0 (codes "at") && stands words 3 (codes "0") &
 abbrev pub FirstFaultIsFixed : Type 0
 FirstFaultIsFixed = (t : Tables) (before : Left) (line next other : List ℕ) (rest others : Left) (fault : CertFault)
     → (is_zero_step (words_of line) ≡ true → next ≡ other) → fault.line ≡ length before + 1
-    → IsFirstFault t (before ++ line ∷ next ∷ rest) fault → IsFirstFault t (before ++ line ∷ other ∷ others) fault
+    → IsFirstProofFault t (before ++ line ∷ next ∷ rest) fault → IsFirstProofFault t (before ++ line ∷ other ∷ others) fault
 
 -- some lines go on from these, and all of them read as a proof
 pub record BeginProof (t : Tables) (before : Left) : Type 0 where
@@ -36,4 +36,4 @@ is_inner_line line = stands (words_of line) 0 (codes "trim") || stands (words_of
 -- node.
 abbrev pub LinesBeforeBeginProof : Type 0
 LinesBeforeBeginProof = (t : Tables) (before after : Left) (line : List ℕ) (fault : CertFault) → fault.line ≡ length before + 1 → count_by is_inner_line before ≤ MAX_DEPTH
-    → IsFirstFault t (before ++ line ∷ after) fault → BeginProof t before
+    → IsFirstProofFault t (before ++ line ∷ after) fault → BeginProof t before

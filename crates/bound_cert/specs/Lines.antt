@@ -73,9 +73,9 @@ fits kind None = false
 fits kind (Some form) = may_stand kind form
 
 -- the form of the first line that is left of a text of this version
-abbrev pub first_form : Version → Left → Option Form
-first_form v [] = None
-first_form v (line ∷ rest) = form_in v (words_of line)
+abbrev pub first_line_form : Version → Left → Option Form
+first_line_form v [] = None
+first_line_form v (line ∷ rest) = form_in v (words_of line)
 
 -- a line that may stand here, or its flaw; one that may not has at least the flaw of its first word
 abbrev pub of_seen : Bool → Result Line Flaw → Left → Reading Line
@@ -90,7 +90,7 @@ line_due n kind (line ∷ next ∷ rest) = of_seen (fits kind (seen_in n line).f
 
 -- the same, if it begins as one that may stand here
 abbrev pub next_line : Naming → Due → Left → Reading (Option Line)
-next_line n kind left = if fits kind (first_form n.version left) then (line_due n kind left >>= λ line. Ok (Some line)) else Ok None
+next_line n kind left = if fits kind (first_line_form n.version left) then (line_due n kind left >>= λ line. Ok (Some line)) else Ok None
 
 -- what an error says of what is read
 abbrev pub Fails : {Y : Type 0} → Stop → Reading Y → Type 0

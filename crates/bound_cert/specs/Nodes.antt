@@ -9,7 +9,7 @@ use Rattle.proof_lines.specs.declared.line.Line.TheVariants as line
 use Rattle.proof_lines.specs.declared.line.Version.{Version}
 use Rattle.proof_lines.specs.declared.line.Version.TheVariants as version
 use Rattle.bound_cert.specs.Lines.{Left, Reading, ◌>>=◌, line_due, stopped}
-use Rattle.bound_cert.specs.Reading.{node_at, other_line, said_at}
+use Rattle.bound_cert.specs.Reading.{node_said, other_line, said_at}
 use Rattle.bound_cert.specs.declared.faults.TheConstants.{BAD_LINE, TEXT_ENDS, WRONG_HEAD, WRONG_WORD}
 use Rattle.bound_cert.specs.declared.nodes.Inner.{Inner}
 use Rattle.bound_cert.specs.declared.nodes.Inner.TheVariants as inner
@@ -44,7 +44,7 @@ after_node n above = if is_inner n then false ∷ above else after_tree above
 unfoldable pub nodes_from : Naming → ℕ → List Node → Above → Left → Reading (List Node × Left)
 nodes_from n zero nodes above left = stopped left TEXT_ENDS
 nodes_from n (suc most) nodes above left =
-    node_at n (length above) left >>= λ read.
+    node_said n (length above) left >>= λ read.
     if length (after_node read.0 above) == 0 then Ok (nodes ++ read.0 ∷ [], read.1)
     else nodes_from n most (nodes ++ read.0 ∷ []) (after_node read.0 above) read.1
 
@@ -68,12 +68,12 @@ head_is windows (line ∷ []) = stopped (line ∷ []) WRONG_HEAD
 head_is windows (line ∷ next ∷ rest) = headed (version_of windows line) (line ∷ next ∷ rest)
 
 -- whether a plan comes with the proof
-abbrev pub plan_of : Line → Left → Reading Bool
-plan_of (line.Plan planned) left = Ok planned
-plan_of other left = other_line left
+abbrev pub plan_in_line : Line → Left → Reading Bool
+plan_in_line (line.Plan planned) left = Ok planned
+plan_in_line other left = other_line left
 
 abbrev pub plan_at : Naming → Left → Reading Bool
-plan_at n = said_at n due.Plan plan_of
+plan_at n = said_at n due.Plan plan_in_line
 
 -- nothing is left
 unfoldable pub nothing : Left → Reading ⊤

@@ -25,8 +25,8 @@ use Rattle.proof_lines.specs.declared.line.Version.{Version}
 use Rattle.proof_lines.specs.declared.line.Version.TheVariants as version
 
 -- the bytes of lines
-abbrev pub lines_of : Tables → List Line → List ℕ
-lines_of t = flat_map (text_of t)
+abbrev pub text_of_lines : Tables → List Line → List ℕ
+text_of_lines t = flat_map (text_of t)
 
 -- the line of a charge, of a step, and of a weight
 abbrev pub charge_line : Charge → Line
@@ -97,8 +97,8 @@ abbrev pub tree_lines : Tables → Tree → List Line
 tree_lines t tree = flat_map (node_lines t) (nodes_of tree)
 
 -- the lines of a proof in a version: the head, whether a plan comes with it, the tree, the end
-abbrev pub lines_in : Version → Tables → Bool → Tree → List Line
-lines_in v t planned tree = line.Head v ∷ line.Plan planned ∷ (tree_lines t tree ++ line.End ∷ [])
+abbrev pub lines_in_version : Version → Tables → Bool → Tree → List Line
+lines_in_version v t planned tree = line.Head v ∷ line.Plan planned ∷ (tree_lines t tree ++ line.End ∷ [])
 
 -- the version that is written: where the tables have windows that with shifts
 abbrev pub written_version : Bool → Version
@@ -107,14 +107,14 @@ written_version false = version.Two
 
 -- the lines of a proof in that version; and each as its words
 abbrev pub all_lines : Tables → Bool → Tree → List Line
-all_lines t = lines_in (written_version t.windows) t
+all_lines t = lines_in_version (written_version t.windows) t
 
 abbrev pub proof_lines : Tables → Bool → Tree → List (List Word)
 proof_lines t planned tree = map (line_words t) (all_lines t planned tree)
 
 -- the text of a proof in a version
 unfoldable pub text_in : Version → Tables → Bool → Tree → List ℕ
-text_in v t planned tree = lines_of t (lines_in v t planned tree)
+text_in v t planned tree = text_of_lines t (lines_in_version v t planned tree)
 
 -- the text of a proof, as it is written
 abbrev pub proof_text : Tables → Bool → Tree → List ℕ

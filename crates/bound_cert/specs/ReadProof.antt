@@ -17,14 +17,14 @@ use Rattle.proof_lines.specs.Forms.{has_shifts}
 use Rattle.proof_lines.specs.declared.line.Version.{Version}
 
 -- the fault comes where reading stops: its line is the first that is left there
-pub record IsFirstFault (t : Tables) (all : Left) (fault : CertFault) : Type 0 where
+pub record IsFirstProofFault (t : Tables) (all : Left) (fault : CertFault) : Type 0 where
   pub left : ℕ
   pub stops : proof_at t all ≡ Err (record { left = left; kind = fault.kind })
   pub line : fault.line ≡ length all - left + 1
 
 -- the error is the first fault of lines, unless memory ran out
 abbrev pub FaultIn : Tables → Left → CertError → Type 0
-FaultIn t all (cert.Fault fault) = IsFirstFault t all fault
+FaultIn t all (cert.Fault fault) = IsFirstProofFault t all fault
 FaultIn t all cert.NoMemory = ⊤
 
 -- the error is the first fault of the text, unless memory ran out
@@ -40,10 +40,10 @@ abbrev pub ReadsAs : Tables → List ℕ → Proof → Type 0
 ReadsAs t text = LinesRead t (left_of text)
 
 -- what was read of so many lines, with the number of the line at which it stopped
-abbrev pub answer_of : ℕ → Result Proof Stop → Result Proof CertError
-answer_of lines (Ok proof) = Ok proof
-answer_of lines (Err stop.NoMemory) = Err cert.NoMemory
-answer_of lines (Err (stop.Fault left kind)) = Err (cert.Fault (record { line = lines - left + 1; kind = kind }))
+abbrev pub proof_answer : ℕ → Result Proof Stop → Result Proof CertError
+proof_answer lines (Ok proof) = Ok proof
+proof_answer lines (Err stop.NoMemory) = Err cert.NoMemory
+proof_answer lines (Err (stop.Fault left kind)) = Err (cert.Fault (record { line = lines - left + 1; kind = kind }))
 
 -- the text is that of a proof in some version, which has shifts just where the tables have windows, and the proof's tree is in written order and no deeper than a reader takes
 pub record IsTextOf (t : Tables) (text : List ℕ) (planned : Bool) (tree : Tree) : Type 0 where

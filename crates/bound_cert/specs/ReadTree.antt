@@ -18,12 +18,12 @@ pub record IsInnerOf (node : Node) (inner : Inner) : Type 0 where
   pub node_is : inner_node inner ≡ node
   pub after : (above : _) → after_node node above ≡ false ∷ above
 
-abbrev pub IsPlaced : Node → Place → Type 0
-IsPlaced node (place.Leaf tree) = IsLeafOf node tree
-IsPlaced node (place.Inner inner) = IsInnerOf node inner
+abbrev pub IsNodePlaced : Node → Place → Type 0
+IsNodePlaced node (place.Leaf tree) = IsLeafOf node tree
+IsNodePlaced node (place.Inner inner) = IsInnerOf node inner
 
 -- nothing waits any more: the tree is whole
-pub record IsWhole (nodes : List Node) (above : List Bool) (tree : Tree) : Type 0 where
+pub record IsTreeWhole (nodes : List Node) (above : List Bool) (tree : Tree) : Type 0 where
   pub all : nodes_of tree ≡ nodes
   pub none : above ≡ []
 
@@ -34,13 +34,13 @@ pub record StillWaits (nodes : List Node) (above : List Bool) (waiting : List Pa
   pub some : above ≢ []
 
 -- a node is put into its place
-abbrev pub IsGrown : List Parent → Node → List Parent → Option Tree → Type 0
-IsGrown before node waiting result =
+abbrev pub IsGrownByNode : List Parent → Node → List Parent → Option Tree → Type 0
+IsGrownByNode before node waiting result =
     MatchOption result (StillWaits (waiting_nodes before ++ node ∷ []) (after_node node (above_of before)) waiting)
-    (IsWhole (waiting_nodes before ++ node ∷ []) (after_node node (above_of before)))
+    (IsTreeWhole (waiting_nodes before ++ node ∷ []) (after_node node (above_of before)))
 
 -- a tree is put into its place
 abbrev pub IsClosed : List Parent → Tree → List Parent → Option Tree → Type 0
 IsClosed before tree waiting result =
     MatchOption result (StillWaits (waiting_nodes before ++ nodes_of tree) (after_tree (above_of before)) waiting)
-    (IsWhole (waiting_nodes before ++ nodes_of tree) (after_tree (above_of before)))
+    (IsTreeWhole (waiting_nodes before ++ nodes_of tree) (after_tree (above_of before)))

@@ -52,14 +52,14 @@ pub record Series (S A B : Type 0) : Type 0 where
   pub grow : S → A → S
   pub all : S → B
 
-abbrev pub entry_at : {S A B : Type 0} → Series S A B → S → Left → Reading A
-entry_at s so_far = said_at s.names s.kind (s.say so_far)
+abbrev pub entry_said : {S A B : Type 0} → Series S A B → S → Left → Reading A
+entry_said s so_far = said_at s.names s.kind (s.say so_far)
 
 -- what a series makes, from what is read so far, and what is left behind its lines
 unfoldable pub entries_from : {S A B : Type 0} → Series S A B → S → Left → Reading (B × Left)
 entries_from s so_far [] = Ok (s.all so_far, [])
 entries_from s so_far (line ∷ rest) =
-    if fits s.kind (form_in s.names.version (words_of line)) then (entry_at s so_far (line ∷ rest) >>= λ entry. entries_from s (s.grow so_far entry) rest)
+    if fits s.kind (form_in s.names.version (words_of line)) then (entry_said s so_far (line ∷ rest) >>= λ entry. entries_from s (s.grow so_far entry) rest)
     else Ok (s.all so_far, line ∷ rest)
 
 -- the scale that a line of prices or of a fractional assignment says
@@ -82,12 +82,12 @@ abbrev pub rent_follows : ℕ → ℕ → ℤ → Bool
 rent_follows least fleet rent = nat_le least fleet && not (int_eq rent (pos 0))
 
 -- the rent that a line says in its order, with its fleet, which is no less than this one
-abbrev pub rent_of : ℕ → Line → Left → Reading (ℕ × ℤ)
-rent_of least (line.Rent fleet rent) left = in_order (rent_follows least fleet rent) left >>= λ order. Ok (fleet, rent)
-rent_of least other left = other_line left
+abbrev pub rent_in_line : ℕ → Line → Left → Reading (ℕ × ℤ)
+rent_in_line least (line.Rent fleet rent) left = in_order (rent_follows least fleet rent) left >>= λ order. Ok (fleet, rent)
+rent_in_line least other left = other_line left
 
 abbrev pub rent_at : Naming → ℕ → Left → Reading (ℕ × ℤ)
-rent_at n least = said_at n due.Rent (rent_of least)
+rent_at n least = said_at n due.Rent (rent_in_line least)
 
 -- rents of so many fleets: those that are known, and 0 for the others
 abbrev pub padded : List ℤ → ℕ → List ℤ
@@ -98,7 +98,7 @@ abbrev pub rent_series : Naming → Series (List ℤ) (ℕ × ℤ) (List ℤ)
 rent_series n = record {
   names = n;
   kind = due.Rent;
-  say = λ rents. rent_of (length rents);
+  say = λ rents. rent_in_line (length rents);
   grow = λ rents entry. padded rents entry.0 ++ entry.1 ∷ [];
   all = λ rents. padded rents (length n.fleets);
 }
@@ -118,16 +118,16 @@ listed n kind say = record { names = n; kind = kind; say = λ so_far. say so_far
 abbrev pub charge_in_order : Option Charge → Charge → Left → Reading Charge
 charge_in_order before entry left = in_order (charge_follows before entry) left >>= λ order. Ok entry
 
-abbrev pub charge_of : Option Charge → Line → Left → Reading Charge
-charge_of before (line.Charge station day charge) left = charge_in_order before (record { station = station; day = day; charge = charge }) left
-charge_of before other left = other_line left
+abbrev pub charge_in_line : Option Charge → Line → Left → Reading Charge
+charge_in_line before (line.Charge station day charge) left = charge_in_order before (record { station = station; day = day; charge = charge }) left
+charge_in_line before other left = other_line left
 
 abbrev pub charge_at : Naming → Option Charge → Left → Reading Charge
-charge_at n before = said_at n due.Charge (charge_of before)
+charge_at n before = said_at n due.Charge (charge_in_line before)
 
 -- the charges, from those that are read so far and the last of them, and what is left behind their lines
 abbrev pub charge_series : Naming → Series (List Charge × Option Charge) Charge (List Charge)
-charge_series n = listed n due.Charge charge_of
+charge_series n = listed n due.Charge charge_in_line
 
 abbrev pub charges_from : Naming → List Charge → Option Charge → Left → Reading (List Charge × Left)
 charges_from n charges before = entries_from (charge_series n) (charges, before)
@@ -145,23 +145,23 @@ is_needless n step rest = (step.minute == 0) && int_eq step.value (pos 0) && not
 abbrev pub step_in_order : Naming → Option PriceStep → PriceStep → Left → Reading PriceStep
 step_in_order n before step left = in_order (step_follows before step && not (is_needless n step (drop 1 left))) left >>= λ order. Ok step
 
-abbrev pub step_of : Naming → Option PriceStep → Line → Left → Reading PriceStep
-step_of n before (line.At fleet station minute value) left = step_in_order n before (record { fleet = fleet; station = station; minute = minute; value = value }) left
-step_of n before other left = other_line left
+abbrev pub step_in_line : Naming → Option PriceStep → Line → Left → Reading PriceStep
+step_in_line n before (line.At fleet station minute value) left = step_in_order n before (record { fleet = fleet; station = station; minute = minute; value = value }) left
+step_in_line n before other left = other_line left
 
-abbrev pub step_at : Naming → Option PriceStep → Left → Reading PriceStep
-step_at n before = said_at n due.Step (step_of n before)
+abbrev pub step_said : Naming → Option PriceStep → Left → Reading PriceStep
+step_said n before = said_at n due.Step (step_in_line n before)
 
 -- the steps, from those that are read so far and the last of them, and what is left behind their lines
 abbrev pub step_series : Naming → Series (List PriceStep × Option PriceStep) PriceStep (List PriceStep)
-step_series n = listed n due.Step (step_of n)
+step_series n = listed n due.Step (step_in_line n)
 
 abbrev pub steps_from : Naming → List PriceStep → Option PriceStep → Left → Reading (List PriceStep × Left)
 steps_from n steps before = entries_from (step_series n) (steps, before)
 
 -- the prices that the next lines say, and what is left behind them
-unfoldable pub prices_at : Naming → Left → Reading (Prices × Left)
-prices_at n left = do
+unfoldable pub prices_said : Naming → Left → Reading (Prices × Left)
+prices_said n left = do
   scale ← scale_at n left
   rents ← rents_from n [] (drop 1 left)
   charges ← charges_from n [] None rents.1
@@ -187,8 +187,8 @@ abbrev pub weights_from : Naming → List Weight → Option Weight → Left → 
 weights_from n weights before = entries_from (weight_series n) (weights, before)
 
 -- the fractional assignment that the next lines say, and what is left behind them
-unfoldable pub mixed_at : Naming → Left → Reading (Mixed × Left)
-mixed_at n left = do
+unfoldable pub mixed_said : Naming → Left → Reading (Mixed × Left)
+mixed_said n left = do
   scale ← mixed_scale_at n left
   weights ← weights_from n [] None (drop 1 left)
   Ok (record { scale = scale; weights = weights.0 }, weights.1)
@@ -240,9 +240,9 @@ mixed_node (fraction.Split leg choice) prices mixed = node.Split leg choice pric
 -- a node, from what its first line says and the lines behind it
 unfoldable pub body_at : Naming → Head → Left → Reading (Node × Left)
 body_at n (head.Alone said) rest = Ok (alone_node said, rest)
-body_at n (head.Priced said) rest = prices_at n rest >>= λ prices. Ok (priced_node said prices.0, prices.1)
-body_at n (head.Mixed said) rest = prices_at n rest >>= λ prices. mixed_at n prices.1 >>= λ mixed. Ok (mixed_node said prices.0 mixed.0, mixed.1)
+body_at n (head.Priced said) rest = prices_said n rest >>= λ prices. Ok (priced_node said prices.0, prices.1)
+body_at n (head.Mixed said) rest = prices_said n rest >>= λ prices. mixed_said n prices.1 >>= λ mixed. Ok (mixed_node said prices.0 mixed.0, mixed.1)
 
 -- the next node, below so many trims and splits, and what is left behind it
-unfoldable pub node_at : Naming → ℕ → Left → Reading (Node × Left)
-node_at n above left = head_at n above left >>= λ head. body_at n head (drop 1 left)
+unfoldable pub node_said : Naming → ℕ → Left → Reading (Node × Left)
+node_said n above left = head_at n above left >>= λ head. body_at n head (drop 1 left)

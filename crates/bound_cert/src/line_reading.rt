@@ -5,9 +5,9 @@ ghost use Rattle.proof_lines.specs.Reading.{is_step_of};
 ghost use Rattle.proof_lines.specs.Words.{seen};
 ghost use Rattle.proof_lines.specs.declared.line.Line.{Line};
 ghost use Rattle.bound_cert.specs.Lines.{Gives, Left, Reading};
-ghost use Rattle.bound_cert.specs.Reading.{charge_in_order, charge_of, first_words, in_order, is_needless, mixed_scale_at, mixed_scale_of, rent_follows, rent_of, scale_at, scale_of, step_in_order, step_of, weight_in_order, weight_of};
+ghost use Rattle.bound_cert.specs.Reading.{charge_in_line, charge_in_order, first_words, in_order, is_needless, mixed_scale_at, mixed_scale_of, rent_follows, rent_in_line, scale_at, scale_of, step_in_line, step_in_order, weight_in_order, weight_of};
 ghost use Rattle.bound_cert.specs.Wants.{WantsNone};
-ghost use Rattle.dual_bound.specs.Order.{charge_follows, place_before, same_place, step_follows, weight_follows};
+ghost use Rattle.dual_bound.specs.Order.{charge_follows, same_place, step_follows, step_place_before, weight_follows};
 
 use crate::faults::{Stop, WRONG_ORDER, WRONG_WORD};
 use crate::reading_lines::{Due, behind, line_due, stopped};
@@ -86,7 +86,7 @@ fn mixed_scale_of(line: Line, left: &[&[u8]]) -> Result<i128, Stop>
 
 /// The rent that a line says in its order, with its fleet, which is no less than this one. Takes no memory.
 pub fn rent_of(least: usize, line: Line, left: &[&[u8]]) -> Result<(u32, i128), Stop>
-    ensures gives { Gives (λ entry. entry) result (rent_of least line (seen left.now)) }
+    ensures gives { Gives (λ entry. entry) result (rent_in_line least line (seen left.now)) }
     ensures wants_none { WantsNone result }
 {
     match line {
@@ -106,7 +106,7 @@ fn rent_follows(least: usize, entry: &(u32, i128)) -> bool
 }
 
 impl Listed for Charge {
-    ghost says = { λ n. charge_of };
+    ghost says = { λ n. charge_in_line };
 
     /// The charge that a line says in its order, behind the charge before. Takes no memory.
     fn of_line(
@@ -116,7 +116,7 @@ impl Listed for Charge {
         line: Line,
         left: &[&[u8]],
     ) -> Result<Charge, Stop>
-        ensures gives { Gives (λ entry. entry) result (charge_of before.now line (seen left.now)) }
+        ensures gives { Gives (λ entry. entry) result (charge_in_line before.now line (seen left.now)) }
         ensures wants_none { WantsNone result }
     {
         match line {
@@ -161,7 +161,7 @@ fn charge_follows(before: &Option<Charge>, entry: &Charge) -> bool
 }
 
 impl Listed for PriceStep {
-    ghost says = { step_of };
+    ghost says = { step_in_line };
 
     /// The step that a line says in its order, behind the step before.
     fn of_line(
@@ -231,7 +231,7 @@ fn same_place(a: &PriceStep, b: &PriceStep) -> bool
 
 /// Whether a step's place comes before another's, by fleet and then by station.
 fn place_before(a: &PriceStep, b: &PriceStep) -> bool
-    ensures { result ≡ place_before a.now b.now }
+    ensures { result ≡ step_place_before a.now b.now }
 {
     a.fleet < b.fleet || (a.fleet == b.fleet && a.station < b.station)
 }

@@ -3,7 +3,7 @@ ghost use Rattle.std.specs.Prelude.{◌≡◌, drop};
 ghost use Rattle.proof_lines.specs.Known.{naming};
 ghost use Rattle.proof_lines.specs.Words.{seen};
 ghost use Rattle.bound_cert.specs.Lines.{Gives};
-ghost use Rattle.bound_cert.specs.Reading.{alone_node, body_at, deep_at, head_at, head_of, mixed_node, node_at, priced_node};
+ghost use Rattle.bound_cert.specs.Reading.{alone_node, body_at, deep_at, head_at, head_of, mixed_node, node_said, priced_node};
 ghost use Rattle.bound_cert.specs.Wants.{WantsNone};
 
 use crate::faults::{Stop, TOO_DEEP, WRONG_WORD};
@@ -17,14 +17,14 @@ use proof_lines::{Grammar, Line};
 use std::alloc::Global;
 
 /// The next node, below so many trims and splits, and what is left behind it.
-#[tactic(auto, unfolding(crate::specs::Reading::node_at))]
+#[tactic(auto, unfolding(crate::specs::Reading::node_said))]
 pub fn node_at<'a, 'b>(
     alloc: Global,
     grammar: &Grammar<'_>,
     above: usize,
     left: &'b [&'a [u8]],
 ) -> Result<(Node, &'b [&'a [u8]]), Stop>
-    ensures { Gives (λ r. (r.0, seen r.1.now)) result (node_at (naming grammar.now) above (seen left.now)) }
+    ensures { Gives (λ r. (r.0, seen r.1.now)) result (node_said (naming grammar.now) above (seen left.now)) }
 {
     let head = head_at(alloc, grammar, above, left)?;
     body_at(alloc, grammar, head, behind(left))

@@ -3,7 +3,7 @@ ghost use Rattle.std.specs.Prelude.{◌≡◌, ◌++◌, ◌∷◌, [], None, On
 ghost use Rattle.proof_lines.specs.Known.{naming};
 ghost use Rattle.proof_lines.specs.Words.{seen};
 ghost use Rattle.bound_cert.specs.Lines.{Gives};
-ghost use Rattle.bound_cert.specs.Reading.{entries_from, listed, mixed_at, padded, prices_at, rents_from};
+ghost use Rattle.bound_cert.specs.Reading.{entries_from, listed, mixed_said, padded, prices_said, rents_from};
 
 use crate::faults::Stop;
 use crate::line_reading::{Listed, mixed_scale_at, rent_of, scale_at};
@@ -14,13 +14,13 @@ use proof_lines::Grammar;
 use std::alloc::Global;
 
 /// The prices that the next lines say, and what is left behind them.
-#[tactic(auto, unfolding(crate::specs::Reading::prices_at))]
+#[tactic(auto, unfolding(crate::specs::Reading::prices_said))]
 pub fn prices_at<'a, 'b>(
     alloc: Global,
     grammar: &Grammar<'_>,
     left: &'b [&'a [u8]],
 ) -> Result<(Prices, &'b [&'a [u8]]), Stop>
-    ensures { Gives (λ r. (r.0, seen r.1.now)) result (prices_at (naming grammar.now) (seen left.now)) }
+    ensures { Gives (λ r. (r.0, seen r.1.now)) result (prices_said (naming grammar.now) (seen left.now)) }
 {
     let scale = scale_at(alloc, grammar, left)?;
     let mut rents = Vec::new(alloc);
@@ -39,13 +39,13 @@ pub fn prices_at<'a, 'b>(
 }
 
 /// The fractional assignment that the next lines say, and what is left behind them.
-#[tactic(auto, unfolding(crate::specs::Reading::mixed_at))]
+#[tactic(auto, unfolding(crate::specs::Reading::mixed_said))]
 pub fn mixed_at<'a, 'b>(
     alloc: Global,
     grammar: &Grammar<'_>,
     left: &'b [&'a [u8]],
 ) -> Result<(Mixed, &'b [&'a [u8]]), Stop>
-    ensures { Gives (λ r. (r.0, seen r.1.now)) result (mixed_at (naming grammar.now) (seen left.now)) }
+    ensures { Gives (λ r. (r.0, seen r.1.now)) result (mixed_said (naming grammar.now) (seen left.now)) }
 {
     let scale = mixed_scale_at(alloc, grammar, left)?;
     let mut weights = Vec::new(alloc);

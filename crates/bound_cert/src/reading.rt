@@ -3,11 +3,11 @@ ghost use Rattle.std.specs.Prelude.{◌≡◌, Bool, drop, length, IfOk, MatchRe
 ghost use Rattle.proof_lines.specs.Known.{names_in, naming};
 ghost use Rattle.proof_lines.specs.Words.{seen};
 ghost use Rattle.bound_cert.specs.Lines.{Gives, left_of};
-ghost use Rattle.bound_cert.specs.Nodes.{end_at, head_is, nothing, plan_at, plan_of, proof_at, rest_at, tree_at, version_of};
+ghost use Rattle.bound_cert.specs.Nodes.{end_at, head_is, nothing, plan_at, plan_in_line, proof_at, rest_at, tree_at, version_of};
 ghost use Rattle.dual_bound.specs.Nodes.{nodes_of};
 ghost use Rattle.dual_bound.specs.OfTables.{IsOfTables};
 ghost use Rattle.bound_cert.specs.Wants.{WantsNone};
-ghost use Rattle.bound_cert.specs.ReadProof.{AnswersProof, FaultIn, FaultOf, IsTextOf, LinesRead, ReadsAs, answer_of};
+ghost use Rattle.bound_cert.specs.ReadProof.{AnswersProof, FaultIn, FaultOf, IsTextOf, LinesRead, ReadsAs, proof_answer};
 ghost use Rattle.dual_bound.specs.declared.trees.Tree.{Tree};
 
 use crate::faults::{BAD_LINE, CertError, CertFault, Stop, WRONG_HEAD, WRONG_WORD};
@@ -57,7 +57,7 @@ fn of_lines(alloc: Global, tables: &Tables, lines: &[&[u8]]) -> Result<Proof, Ce
 
 /// What was read of a text's lines, with the number of the line at which it stopped.
 fn answer(lines: &[&[u8]], read: Result<Proof, Stop>) -> Result<Proof, CertError>
-    ensures { result ≡ answer_of (length lines.now) read }
+    ensures { result ≡ proof_answer (length lines.now) read }
 {
     match read {
         Ok(proof) => Ok(proof),
@@ -159,7 +159,7 @@ fn plan_at(alloc: Global, grammar: &Grammar<'_>, left: &[&[u8]]) -> Result<bool,
 
 /// Whether a line says that a plan comes with the proof. Takes no memory.
 fn plan_of(line: Line, left: &[&[u8]]) -> Result<bool, Stop>
-    ensures gives { Gives (λ planned. planned) result (plan_of line (seen left.now)) }
+    ensures gives { Gives (λ planned. planned) result (plan_in_line line (seen left.now)) }
     ensures wants_none { WantsNone result }
 {
     match line {

@@ -6,7 +6,7 @@ ghost use Rattle.proof_lines.specs.Words.{seen};
 ghost use Rattle.bound_cert.specs.Lines.{Gives};
 ghost use Rattle.bound_cert.specs.Nodes.{inner_node, nodes_from};
 ghost use Rattle.dual_bound.specs.Nodes.{nodes_of};
-ghost use Rattle.bound_cert.specs.ReadTree.{IsClosed, IsGrown, IsPlaced};
+ghost use Rattle.bound_cert.specs.ReadTree.{IsClosed, IsGrownByNode, IsNodePlaced};
 
 use crate::faults::{Stop, TEXT_ENDS};
 use crate::node_reading::node_at;
@@ -67,7 +67,7 @@ fn same<'a, 'b>(left: &'b [&'a [u8]]) -> &'b [&'a [u8]]
 
 /// Puts a node into its place: the tree, where that is complete now, else one more waits or has its first child.
 fn with_node(alloc: Global, waiting: &mut Vec<Parent>, node: Node) -> Result<Option<Tree>, NoMemory>
-    ensures { IfOk result (IsGrown waiting.old.items node waiting.new.items) }
+    ensures { IfOk result (IsGrownByNode waiting.old.items node waiting.new.items) }
 {
     match place_of(node) {
         Place::Leaf(tree) => with_tree(alloc, waiting, tree),
@@ -80,7 +80,7 @@ fn with_node(alloc: Global, waiting: &mut Vec<Parent>, node: Node) -> Result<Opt
 
 /// A node as a leaf or as one that waits for children.
 fn place_of(node: Node) -> Place
-    ensures { IsPlaced node result }
+    ensures { IsNodePlaced node result }
 {
     match node {
         Node::Bare { leg } => Place::Leaf(Tree::Bare { leg }),

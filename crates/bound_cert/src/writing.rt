@@ -3,7 +3,7 @@ ghost use Rattle.std.specs.Prelude.{◌≡◌, ◌++◌, ◌<◌, All, IfOk, OnO
 ghost use Rattle.fleet_model.specs.Schedule.{fleets_in};
 ghost use Rattle.dual_bound.specs.OfTables.{ArePricesOf, IsCauseOf, IsChargeOf, IsMixedOf, IsOfTables, IsStepOf, IsWeightOf};
 ghost use Rattle.proof_lines.specs.LineText.{text_of};
-ghost use Rattle.bound_cert.specs.ProofText.{at_line, cause_lines, charge_line, first_line, lines_of, mixed_lines, node_lines, open_line, price_lines, proof_text, rent_lines, rent_lines_at, root_of, tree_lines, weight_line, written_version};
+ghost use Rattle.bound_cert.specs.ProofText.{at_line, cause_lines, charge_line, first_line, mixed_lines, node_lines, open_line, price_lines, proof_text, rent_lines, rent_lines_at, root_of, text_of_lines, tree_lines, weight_line, written_version};
 
 use dual_bound::{Cause, Charge, Mixed, PriceStep, Prices, Tree, Weight};
 use entries::NoMemory;
@@ -64,7 +64,7 @@ fn push_tree(
     tree: &Tree,
 ) -> Result<(), NoMemory>
     requires { IsOfTables tables.now tree.now }
-    ensures { OnOk result (text.new.items ≡ text.old.items ++ lines_of tables.now (tree_lines tables.now tree.now)) }
+    ensures { OnOk result (text.new.items ≡ text.old.items ++ text_of_lines tables.now (tree_lines tables.now tree.now)) }
 {
     push_node(alloc, text, tables, tree)?;
     match tree {
@@ -86,7 +86,7 @@ fn push_node(
     tree: &Tree,
 ) -> Result<(), NoMemory>
     requires { IsOfTables tables.now tree.now }
-    ensures { OnOk result (text.new.items ≡ text.old.items ++ lines_of tables.now (node_lines tables.now (root_of tree.now))) }
+    ensures { OnOk result (text.new.items ≡ text.old.items ++ text_of_lines tables.now (node_lines tables.now (root_of tree.now))) }
 {
     let line = first_line(tree);
     push_line(alloc, text, tables, &line)?;
@@ -145,7 +145,7 @@ fn push_more(
     tree: &Tree,
 ) -> Result<(), NoMemory>
     requires { IsOfTables tables.now tree.now }
-    ensures { OnOk result (text.new.items ≡ text.old.items ++ lines_of tables.now (drop 1 (node_lines tables.now (root_of tree.now)))) }
+    ensures { OnOk result (text.new.items ≡ text.old.items ++ text_of_lines tables.now (drop 1 (node_lines tables.now (root_of tree.now)))) }
 {
     match tree {
         Tree::Refuted(prices) | Tree::Priced(prices) => push_prices(alloc, text, tables, prices),
@@ -169,7 +169,7 @@ fn push_cause(
     cause: &Cause,
 ) -> Result<(), NoMemory>
     requires { IsCauseOf tables.now cause.now }
-    ensures { OnOk result (text.new.items ≡ text.old.items ++ lines_of tables.now (cause_lines cause.now)) }
+    ensures { OnOk result (text.new.items ≡ text.old.items ++ text_of_lines tables.now (cause_lines cause.now)) }
 {
     match cause {
         Cause::Nodes(mixed) => push_mixed(alloc, text, tables, mixed),
@@ -185,7 +185,7 @@ fn push_mixed(
     mixed: &Mixed,
 ) -> Result<(), NoMemory>
     requires { IsMixedOf tables.now mixed.now }
-    ensures { OnOk result (text.new.items ≡ text.old.items ++ lines_of tables.now (mixed_lines mixed.now)) }
+    ensures { OnOk result (text.new.items ≡ text.old.items ++ text_of_lines tables.now (mixed_lines mixed.now)) }
 {
     push_line(alloc, text, tables, &Line::Mixed { scale: mixed.scale })?;
     push_weights(alloc, text, tables, mixed.weights.as_slice())
@@ -199,7 +199,7 @@ fn push_weights(
     weights: &[Weight],
 ) -> Result<(), NoMemory>
     requires { All (IsWeightOf tables.now) weights.now }
-    ensures { OnOk result (text.new.items ≡ text.old.items ++ lines_of tables.now (map weight_line weights.now)) }
+    ensures { OnOk result (text.new.items ≡ text.old.items ++ text_of_lines tables.now (map weight_line weights.now)) }
 {
     for weight in weights {
         push_weight(alloc, text, tables, weight)?;
@@ -233,7 +233,7 @@ fn push_prices(
     prices: &Prices,
 ) -> Result<(), NoMemory>
     requires { ArePricesOf tables.now prices.now }
-    ensures { OnOk result (text.new.items ≡ text.old.items ++ lines_of tables.now (price_lines tables.now prices.now)) }
+    ensures { OnOk result (text.new.items ≡ text.old.items ++ text_of_lines tables.now (price_lines tables.now prices.now)) }
 {
     push_line(
         alloc,
@@ -255,7 +255,7 @@ fn push_rents(
     tables: &Tables,
     prices: &Prices,
 ) -> Result<(), NoMemory>
-    ensures { OnOk result (text.new.items ≡ text.old.items ++ lines_of tables.now (rent_lines prices.now (fleets_in tables.now))) }
+    ensures { OnOk result (text.new.items ≡ text.old.items ++ text_of_lines tables.now (rent_lines prices.now (fleets_in tables.now))) }
 {
     for fleet in 0..tables.fleet_count() {
         push_rent(alloc, text, tables, prices, fleet)?;
@@ -272,7 +272,7 @@ fn push_rent(
     fleet: u32,
 ) -> Result<(), NoMemory>
     requires { fleet < fleets_in tables.now }
-    ensures { OnOk result (text.new.items ≡ text.old.items ++ lines_of tables.now (rent_lines_at prices.now fleet)) }
+    ensures { OnOk result (text.new.items ≡ text.old.items ++ text_of_lines tables.now (rent_lines_at prices.now fleet)) }
 {
     let rent = prices.rent(fleet);
     if rent == 0 {
@@ -289,7 +289,7 @@ fn push_charges(
     charges: &[Charge],
 ) -> Result<(), NoMemory>
     requires { All (IsChargeOf tables.now) charges.now }
-    ensures { OnOk result (text.new.items ≡ text.old.items ++ lines_of tables.now (map charge_line charges.now)) }
+    ensures { OnOk result (text.new.items ≡ text.old.items ++ text_of_lines tables.now (map charge_line charges.now)) }
 {
     for charge in charges {
         push_charge(alloc, text, tables, charge)?;
@@ -323,7 +323,7 @@ fn push_steps(
     steps: &[PriceStep],
 ) -> Result<(), NoMemory>
     requires { All (IsStepOf tables.now) steps.now }
-    ensures { OnOk result (text.new.items ≡ text.old.items ++ lines_of tables.now (map at_line steps.now)) }
+    ensures { OnOk result (text.new.items ≡ text.old.items ++ text_of_lines tables.now (map at_line steps.now)) }
 {
     for step in steps {
         push_step(alloc, text, tables, step)?;

@@ -8,9 +8,9 @@ use Rattle.fleet_model.specs.declared.tables.Tables.{Tables}
 use Rattle.dual_bound.specs.declared.prices.Prices.{Prices}
 use Rattle.node_bounding.specs.Causes.{zero_prices}
 use Rattle.node_bounding.specs.Examined.{IsExamined, IsFoundHere, IsFresh}
-use Rattle.branch_bound.specs.History.{Chronicle, IsAtLevel, IsNumbered, IsPlaced, IsPut, IsRightAt, IsSearch, IsSingle, IsTold}
+use Rattle.branch_bound.specs.History.{Chronicle, IsAtLevel, IsChronicleTold, IsNumbered, IsPlanPlaced, IsPut, IsRightAt, IsSearch, IsSingle}
 use Rattle.branch_bound.specs.Ranks.{AreRanks, IsRankIn, IsWaitingAt, ranks_with}
-use Rattle.node_bounding.specs.Subproblems.{IsNoMore, IsPlan, IsRight, cost_of, node_of}
+use Rattle.node_bounding.specs.Subproblems.{IsNoMore, IsPlan, IsRightState, cost_of_plan, node_of}
 use Rattle.branch_bound.specs.Search.{at}
 use Rattle.node_bounding.specs.declared.plans.Plan.{Plan}
 use Rattle.branch_bound.specs.declared.search.Search.{Search}
@@ -43,7 +43,7 @@ module _ (t : Tables) (root : Domains) (best : Option Plan) (before after : Sear
   at_first : (P : ℕ → Type 0) → P 0 → (k : ℕ) → k < 1 → P k
   at_first P here k less = let same : k ≡ 0 = omega (arith, less) in subst P (sym same) here
 
-  told : IsTold t best 1 begins
+  told : IsChronicleTold t best 1 begins
   told = record {
     each = at_first _ is.is;
     turns = at_first _ (fresh_turn t 1 begins.made begins.found begins.parts 0 one is.fresh);
@@ -53,12 +53,12 @@ module _ (t : Tables) (root : Domains) (best : Option Plan) (before after : Sear
     place = by_place is.place;
   }
     where
-      at_here : (x : Option Plan) → IsFoundHere t root (node_of one) x → IfSome x (λ plan. IsPlaced t plan 1 begins)
+      at_here : (x : Option Plan) → IsFoundHere t root (node_of one) x → IfSome x (λ plan. IsPlanPlaced t plan 1 begins)
       at_here None here = tt
       at_here (Some plan) here = record { number = 0; within = omega arith; end = here }
 
-      by_place : (best ≡ None) ⊎ IsFoundHere t root (node_of one) best → IfSome best (λ plan. IsPlaced t plan 1 begins)
-      by_place (inl same) = subst (λ x. IfSome x (λ plan. IsPlaced t plan 1 begins)) (sym same) tt
+      by_place : (best ≡ None) ⊎ IsFoundHere t root (node_of one) best → IfSome best (λ plan. IsPlanPlaced t plan 1 begins)
+      by_place (inl same) = subst (λ x. IfSome x (λ plan. IsPlanPlaced t plan 1 begins)) (sym same) tt
       by_place (inr here) = at_here best here
 
   numbered : (k : ℕ) → k < 1 → IsNumbered t root only begins k
@@ -79,11 +79,11 @@ module _ (t : Tables) (root : Domains) (best : Option Plan) (before after : Sear
         within = omega (arith, put.splits, splits_is);
         count = omega (arith, count, put.splits, splits_is);
         chronicle = begins;
-        told = subst (λ x. IsTold t x (length after.made.items) begins) (sym best_after) (subst (λ n. IsTold t best n begins) (sym count) told);
+        told = subst (λ x. IsChronicleTold t x (length after.made.items) begins) (sym best_after) (subst (λ n. IsChronicleTold t best n begins) (sym count) told);
         numbered = λ k below. subst (λ xs. IsNumbered t root xs begins k) (sym all_is) (numbered k (subst (λ n. k < n) count below));
         right = λ final less k below.
             subst (λ p. IsRightAt t p final after.made.items begins k) (sym put.pivots) (subst (λ xs. IsRightAt t before.pivots final xs begins k) (sym all_is)
-            (at_first (λ k. IsRightAt t before.pivots final only begins k) (subst (λ p. IsRight t before.pivots final root p one) above_is (is.right final (subst (λ x. IsNoMore (cost_of x) final) best_after less))) k (subst (λ n. k < n) count below)));
+            (at_first (λ k. IsRightAt t before.pivots final only begins k) (subst (λ p. IsRightState t before.pivots final root p one) above_is (is.right final (subst (λ x. IsNoMore (cost_of_plan x) final) best_after less))) k (subst (λ n. k < n) count below)));
         singles = λ k below. subst (λ xs. IsSingle (at xs k).state) (sym all_is) (at_first (λ k. IsSingle (at only k).state) (fresh_single one is.fresh) k (subst (λ n. k < n) count below));
         ranks = subst (λ xs. AreRanks xs after.waiting.keys) (sym all_is) (subst (AreRanks only) (sym (put.ranks ∙ ap (λ ks. ranks_with ks (length before.made.items) one) keys_is ∙ ap (λ xs. ranks_with [] (length xs) one) made_is)) ranks);
       }

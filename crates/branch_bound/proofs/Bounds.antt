@@ -20,7 +20,7 @@ use Rattle.dual_bound.specs.declared.prices.Prices.{Prices}
 use Rattle.dual_bound.specs.declared.trees.Tree.{Tree}
 use Rattle.dual_bound.specs.declared.trees.Tree.TheVariants as tree
 use Rattle.cert_check.specs.Nodes.{Node, nodes_in}
-use Rattle.cert_check.specs.Rules.{IsSound, Reaches}
+use Rattle.cert_check.specs.Rules.{IsSound, ReachesCost}
 use Rattle.cert_check.specs.Verdicts.{AreSound}
 use Rattle.cert_check.specs.declared.rules.Rule.TheVariants as rule
 use Rattle.cert_check.proofs.NodeRules.{prices_known}
@@ -123,7 +123,7 @@ module _ (t : Tables) (final : Option ℤ) where
       proper : ArePrices t prices
       proper = prices_known t final (node keeps (tree.Priced prices)) prices sound refl
 
-      by_cost : (f : Option ℤ) → IsSomeAnd f (Reaches t keeps prices) → IsSomeAnd f (λ c. c ≤ℤ is.least)
+      by_cost : (f : Option ℤ) → IsSomeAnd f (ReachesCost t keeps prices) → IsSomeAnd f (λ c. c ≤ℤ is.least)
       by_cost None reaches = reaches
       by_cost (Some c) reaches = omega (arith, ints, reaches.reaches, same_ceiling _ _ reaches.least is.least proper.scale.some reaches.rounded is.rounded)
 

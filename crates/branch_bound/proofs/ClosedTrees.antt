@@ -9,10 +9,10 @@ use Rattle.dual_bound.specs.declared.trees.Tree.TheVariants as tree
 use Rattle.presolve.specs.Removals.{AreRefuted, AreRemovals, first_place, kept_after, without}
 use Rattle.presolve.specs.declared.trims.Trim.{Trim as Removal}
 use Rattle.node_bounding.specs.Closing.{closed, closed_by}
-use Rattle.node_bounding.specs.Subproblems.{cost_of}
+use Rattle.node_bounding.specs.Subproblems.{cost_of_plan}
 use Rattle.node_bounding.specs.Trims.{AreBelow}
 use Rattle.branch_bound.specs.Growing.{IsClosedTree, closed_in}
-use Rattle.branch_bound.specs.History.{ComesTo, IsDone}
+use Rattle.branch_bound.specs.History.{IsSearchDone, SearchComesTo}
 use Rattle.branch_bound.specs.Settled.{IsAllClosed}
 use Rattle.branch_bound.specs.declared.search.Search.{Search}
 use Rattle.branch_bound.proofs.Closing.{holding}
@@ -46,11 +46,11 @@ unclosed t cost keeps (removal ∷ removals) rest left whole (inner, below, own)
     }
 
 -- what a search comes to below the removals
-module _ (t : Tables) (nodes : ℕ) (pivots : Option ℕ) (root : Domains) (s : Search) (done : IsDone t nodes pivots root s) (removals : List Removal) (given : AreRemovals t (all_pairs t) first_place removals)
-    (refuted : AreRefuted t (all_pairs t) removals) (root_is : root ≡ kept_after (all_pairs t) removals) (rest : Tree) (grown : IsClosedTree t root pivots (cost_of s.best) (length s.made.items) done.search.chronicle rest) where
+module _ (t : Tables) (nodes : ℕ) (pivots : Option ℕ) (root : Domains) (s : Search) (done : IsSearchDone t nodes pivots root s) (removals : List Removal) (given : AreRemovals t (all_pairs t) first_place removals)
+    (refuted : AreRefuted t (all_pairs t) removals) (root_is : root ≡ kept_after (all_pairs t) removals) (rest : Tree) (grown : IsClosedTree t root pivots (cost_of_plan s.best) (length s.made.items) done.search.chronicle rest) where
   pub all_are_closed : (tree : Tree) → AreBelow removals rest tree → IsAllClosed t nodes pivots s.best tree
   all_are_closed tree below =
-      let above = unclosed t (cost_of s.best) (all_pairs t) removals rest grown.left tree below (grown.closed ∙ ap (λ d. closed_in t (cost_of s.best) d grown.left) root_is) in
+      let above = unclosed t (cost_of_plan s.best) (all_pairs t) removals rest grown.left tree below (grown.closed ∙ ap (λ d. closed_in t (cost_of_plan s.best) d grown.left) root_is) in
       record {
         left = above.whole;
         found = record {
@@ -59,7 +59,7 @@ module _ (t : Tables) (nodes : ℕ) (pivots : Option ℕ) (root : Domains) (s : 
           rest = grown.left;
           below = above.below;
           refuted = refuted;
-          comes = subst (λ d. ComesTo t nodes pivots d s.best grown.left) root_is (comes t nodes pivots root s done s.best grown.left refl grown.grown);
+          comes = subst (λ d. SearchComesTo t nodes pivots d s.best grown.left) root_is (comes t nodes pivots root s done s.best grown.left refl grown.grown);
         };
-        closed = above.closed ∙ closed_by_in t (cost_of s.best) above.whole;
+        closed = above.closed ∙ closed_by_in t (cost_of_plan s.best) above.whole;
       }

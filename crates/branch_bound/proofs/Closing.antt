@@ -22,15 +22,15 @@ use Rattle.cert_check.specs.Rules.{IsSound}
 use Rattle.cert_check.proofs.NodeRules.{prices_known}
 use Rattle.node_bounding.specs.Closing.{closed}
 use Rattle.node_bounding.specs.Examined.{IsDoneLeaf}
-use Rattle.node_bounding.specs.Subproblems.{IsRight}
+use Rattle.node_bounding.specs.Subproblems.{IsRightState}
 use Rattle.node_bounding.specs.declared.states.Fraction.{Fraction}
 use Rattle.node_bounding.specs.declared.states.State.{State}
 use Rattle.node_bounding.specs.declared.states.State.TheVariants as state
 use Rattle.node_bounding.proofs.Nodes.{node}
 use Rattle.node_bounding.proofs.Orders.{reach_test}
-use Rattle.branch_bound.specs.Growing.{AreGathered, AreSingle, IsClosedTree, IsFolded, IsJoined, IsJoinedFrom, closed_in, is_closing, leaf_by, tree_by}
+use Rattle.branch_bound.specs.Growing.{AreGathered, AreSingle, IsClosedTree, IsFolded, IsJoinedFrom, IsTreeJoined, closed_in, is_closing, leaf_by, tree_by}
 use Rattle.branch_bound.specs.History.{Chronicle, IsLinked, IsSingle, KeepsBy, prices_above}
-use Rattle.branch_bound.specs.Search.{at, nothing}
+use Rattle.branch_bound.specs.Search.{at, no_subproblem}
 use Rattle.branch_bound.specs.declared.subproblems.Origin.{Origin}
 use Rattle.branch_bound.specs.declared.subproblems.Subproblem.{Subproblem}
 use Rattle.branch_bound.proofs.Folding.{first_of_all, first_origin, fraction, gathered_after, parent_before, parent_is, part_keeps, second_origin}
@@ -72,7 +72,7 @@ single_closed t cost keeps (state.Waiting f) single = refl
 single_closed t cost keeps (state.Split f) single = refl
 
 by_number : (all : List Subproblem) → all ≡ list_below (at all) (length all)
-by_number all = fill_by_all (at all) all (length all) nothing refl (λ k below. refl)
+by_number all = fill_by_all (at all) all (length all) no_subproblem refl (λ k below. refl)
 
 pub begins : (t : Tables) (root : Domains) (pivots : Option ℕ) (cost : Option ℤ) (count : ℕ) (c : Chronicle) (all : List Subproblem) → AreGathered t root pivots cost count c all → AreSingle all → AreClosing t root pivots cost count c all
 begins t root pivots cost count c all are singles = record {
@@ -87,7 +87,7 @@ leaf_closed : (t : Tables) (cost : Option ℤ) (keeps : Domains) (prices : Price
 leaf_closed t None keeps prices why worth some rounded = refl
 leaf_closed t (Some c) keeps prices why worth some rounded = ap (λ b. if b then tree.Priced prices else tree.Open prices why) (reach_test t keeps prices c worth some rounded)
 
-tree_closed : (t : Tables) (pivots : Option ℕ) (cost : Option ℤ) (keeps : Domains) (above : Prices) (was now : State) → IsClosedState t cost keeps was now → IsRight t pivots cost keeps above was → tree_by cost now ≡ closed_in t cost keeps (tree_by None was)
+tree_closed : (t : Tables) (pivots : Option ℕ) (cost : Option ℤ) (keeps : Domains) (above : Prices) (was now : State) → IsClosedState t cost keeps was now → IsRightState t pivots cost keeps above was → tree_by cost now ≡ closed_in t cost keeps (tree_by None was)
 tree_closed t pivots cost keeps above (state.Leaf leaf) now is right = ap (tree_by cost) is
 tree_closed t pivots cost keeps above (state.Stopped s) now is right =
     ap (tree_by cost) is
@@ -126,13 +126,13 @@ module _ (t : Tables) (root : Domains) (pivots : Option ℕ) (cost : Option ℤ)
   left_is = ap (list_below are.left) (omega (arith, long)) ∙ list_below-more are.left n
 
   at_end : at all n ≡ last
-  at_end = ap (λ xs. at xs n) all_is ∙ get_or_push rest last nothing n refl
+  at_end = ap (λ xs. at xs n) all_is ∙ get_or_push rest last no_subproblem n refl
 
   at_rest : (k : ℕ) → k < n → at all k ≡ at rest k
-  at_rest k below = ap (λ xs. at xs k) all_is ∙ get_or_append_left rest (last ∷ []) nothing k below
+  at_rest k below = ap (λ xs. at xs k) all_is ∙ get_or_append_left rest (last ∷ []) no_subproblem k below
 
   at_left : (k : ℕ) → k < length all → at all_left k ≡ are.left k
-  at_left k below = get_or-list_below are.left (length all) k nothing below
+  at_left k below = get_or-list_below are.left (length all) k no_subproblem below
 
   in_left : (k : ℕ) → k < length all → k < length all_left
   in_left k below = omega (arith, below, length-list_below are.left (length all))
@@ -144,7 +144,7 @@ module _ (t : Tables) (root : Domains) (pivots : Option ℕ) (cost : Option ℤ)
   tree_at : (k : ℕ) → k < length all → tree_by cost (at all k).state ≡ closed_in t cost (c.made k).keeps (tree_by None (are.left k).state)
   tree_at k below =
       tree_closed t pivots cost (c.made k).keeps (prices_above t c.made (at all_left k).origin) (are.left k).state (at all k).state (are.each k below).is
-      (subst (λ (s : Subproblem). IsRight t pivots cost (c.made k).keeps (prices_above t c.made (at all_left k).origin) s.state) (at_left k below) (are.gathered.right k (in_left k below)))
+      (subst (λ (s : Subproblem). IsRightState t pivots cost (c.made k).keeps (prices_above t c.made (at all_left k).origin) s.state) (at_left k below) (are.gathered.right k (in_left k below)))
 
   -- ---- it is the first of all
   pub first_closed : (whole : Tree) → last.origin ≡ None → whole ≡ tree_by cost last.state → IsClosedTree t root pivots cost total c whole
@@ -189,7 +189,7 @@ module _ (t : Tables) (root : Domains) (pivots : Option ℕ) (cost : Option ℤ)
         ap (λ (s : Subproblem). s.state) (sym (at_rest p (omega (arith, p_early, is.shorter))))
         ∙ subst (λ s. IsClosedState t cost (c.made p).keeps s (at all p).state) parent_left (are.each p p_below).is
 
-    joined : IsJoined f (tree_by cost (at rest l).state) (tree_by cost last.state) is.whole
+    joined : IsTreeJoined f (tree_by cost (at rest l).state) (tree_by cost last.state) is.whole
     joined = subst (λ s. IsJoinedFrom s (tree_by cost (at rest l).state) (tree_by cost last.state) is.whole) parent_now is.joined
 
     -- the tree where no leaf is closed
@@ -215,12 +215,12 @@ module _ (t : Tables) (root : Domains) (pivots : Option ℕ) (cost : Option ℤ)
     counted = length-list_below left_after l
 
     in_rest : (k : ℕ) → k < n → at rest_left k ≡ are.left k
-    in_rest k below = get_or-list_below are.left n k nothing below
+    in_rest k below = get_or-list_below are.left n k no_subproblem below
 
     in_after : (k : ℕ) → k < l → at after_left k ≡ left_after k
-    in_after k below = get_or-list_below left_after l k nothing below
+    in_after k below = get_or-list_below left_after l k no_subproblem below
 
-    own_joined : IsJoined f first_left second_left (state.Leaf whole_left)
+    own_joined : IsTreeJoined f first_left second_left (state.Leaf whole_left)
     own_joined = record { yes_box = holding joined.yes_box first_left; no_box = holding joined.no_box second_left; is = refl; yes_is = refl; no_is = refl }
 
     folded : IsFolded (tree_by None) rest_left after_left p (are.left n).state

@@ -10,10 +10,10 @@ use Rattle.fleet_model.specs.declared.tables.Tables.{Tables}
 use Rattle.dual_bound.specs.declared.trees.Tree.{Tree}
 use Rattle.dual_bound.specs.declared.trees.Tree.TheVariants as tree
 use Rattle.node_bounding.specs.Examined.{IsDoneLeaf}
-use Rattle.branch_bound.specs.Growing.{AreGathered, AreLinked, AreSingle, gathered, gathered_at}
-use Rattle.branch_bound.specs.History.{Chronicle, ComesTo, IsDone, IsGrownTree, IsReachedNode, IsRightAt, IsSingle, prices_above}
+use Rattle.branch_bound.specs.Growing.{AreGathered, AreSingle, AreSplitsLinked, gathered, gathered_at}
+use Rattle.branch_bound.specs.History.{Chronicle, IsGrownTree, IsReachedNode, IsRightAt, IsSearchDone, IsSingle, SearchComesTo, prices_above}
 use Rattle.branch_bound.specs.Ranks.{IsOver, IsReachedBy, IsWaitingAt}
-use Rattle.node_bounding.specs.Subproblems.{IsFractional, IsRight, cost_of, node_of}
+use Rattle.node_bounding.specs.Subproblems.{IsFractional, IsRightState, cost_of_plan, node_of}
 use Rattle.branch_bound.specs.Search.{at}
 use Rattle.node_bounding.specs.Worked.{Worked, own_node, worked_in}
 use Rattle.node_bounding.specs.declared.plans.Plan.{Plan}
@@ -52,42 +52,42 @@ all_gathered made all (suc n) singles nodes =
     one_more : suc n ≡ n + 1
     one_more = omega arith
 
-module _ (t : Tables) (nodes : ℕ) (pivots : Option ℕ) (root : Domains) (s : Search) (done : IsDone t nodes pivots root s) where
+module _ (t : Tables) (nodes : ℕ) (pivots : Option ℕ) (root : Domains) (s : Search) (done : IsSearchDone t nodes pivots root s) where
   abbrev all : List Subproblem
   all = s.made.items
 
   abbrev c : Chronicle
   c = done.search.chronicle
 
-  pub linked : AreLinked s.made.items
+  pub linked : AreSplitsLinked s.made.items
   linked = record { some = omega (arith, done.search.count); parts = done.search.chronicle.parts; each = λ k less. (done.search.numbered k less).linked }
 
   pub singles : AreSingle s.made.items
   singles = record { each = done.search.singles }
 
-  pub gathers : AreGathered t root pivots (cost_of s.best) (length s.made.items) done.search.chronicle s.made.items
+  pub gathers : AreGathered t root pivots (cost_of_plan s.best) (length s.made.items) done.search.chronicle s.made.items
   gathers = record {
     numbered = done.search.numbered;
-    right = λ k below. subst (λ p. IsRightAt t p (cost_of s.best) all c k) done.pivots_allowed (done.search.right (cost_of s.best) (no_more_same (cost_of s.best)) k below);
+    right = λ k below. subst (λ p. IsRightAt t p (cost_of_plan s.best) all c k) done.pivots_allowed (done.search.right (cost_of_plan s.best) (no_more_same (cost_of_plan s.best)) k below);
     same = subst (IsPermutation (list_below c.made (length all))) (all_gathered c.made all (length all) done.search.singles (λ k less. (done.search.numbered k less).node)) (IsPermutation-refl (list_below c.made (length all)));
   }
 
   -- a subproblem that waits has a rounded worth that is reached
-  reached : All (IsReachedBy s) s.waiting.keys → (k : ℕ) (x : State) → k < length all → (at all k).state ≡ x → IsSingle x → IsReachedNode t (cost_of s.best) (c.made k).keeps (node_of x)
-  reached ranks k (state.Leaf leaf) below own single = leaf_reached t (c.made k).keeps (cost_of s.best) leaf single
+  reached : All (IsReachedBy s) s.waiting.keys → (k : ℕ) (x : State) → k < length all → (at all k).state ≡ x → IsSingle x → IsReachedNode t (cost_of_plan s.best) (c.made k).keeps (node_of x)
+  reached ranks k (state.Leaf leaf) below own single = leaf_reached t (c.made k).keeps (cost_of_plan s.best) leaf single
   reached ranks k (state.Stopped x) below own single = λ worth rounded. absurd (stopped_waits_not t (c.made k).keeps x.prices x.why worth single rounded)
   reached ranks k (state.Waiting f) below own single = λ worth rounded.
-      let fraction : IsFractional t (c.made k).keeps f = subst (λ x. IsRight t s.pivots (cost_of s.best) (c.made k).keeps (prices_above t c.made (at all k).origin) x) own (done.search.right (cost_of s.best) (no_more_same (cost_of s.best)) k below) in
+      let fraction : IsFractional t (c.made k).keeps f = subst (λ x. IsRightState t s.pivots (cost_of_plan s.best) (c.made k).keeps (prices_above t c.made (at all k).origin) x) own (done.search.right (cost_of_plan s.best) (no_more_same (cost_of_plan s.best)) k below) in
       let same : f.worth ≡ worth = one_ceiling _ _ f.worth worth fraction.split.best.good.proper.scale.some fraction.rounded rounded in
       (All-contains (IsReachedBy s) s.waiting.keys (record { worth = worth; number = k }) ranks (done.search.ranks.every k worth below (subst (λ x. IsWaitingAt x worth) (sym own) same))).cost
   reached ranks k (state.Split f) below own single = tt
 
-  over : IsOver s → (s.splits ≡ nodes) ⊎ ((k : ℕ) → k < length all → IsReachedNode t (cost_of s.best) (c.made k).keeps (c.made k).node)
+  over : IsOver s → (s.splits ≡ nodes) ⊎ ((k : ℕ) → k < length all → IsReachedNode t (cost_of_plan s.best) (c.made k).keeps (c.made k).node)
   over (inl spent) = inl (omega (arith, spent, done.search.within, done.splits_allowed))
-  over (inr ranks) = inr (λ k below. subst (IsReachedNode t (cost_of s.best) (c.made k).keeps) (sym (done.search.numbered k below).node) (reached ranks k (at all k).state below refl (done.search.singles k below)))
+  over (inr ranks) = inr (λ k below. subst (IsReachedNode t (cost_of_plan s.best) (c.made k).keeps) (sym (done.search.numbered k below).node) (reached ranks k (at all k).state below refl (done.search.singles k below)))
 
-  pub comes : (best : Option Plan) (tree : Tree) → best ≡ s.best → IsGrownTree t root pivots (cost_of s.best) (length s.made.items) done.search.chronicle tree → ComesTo t nodes pivots root best tree
-  comes best tree same grown = subst (λ b. ComesTo t nodes pivots root b tree) (sym same) (record {
+  pub comes : (best : Option Plan) (tree : Tree) → best ≡ s.best → IsGrownTree t root pivots (cost_of_plan s.best) (length s.made.items) done.search.chronicle tree → SearchComesTo t nodes pivots root best tree
+  comes best tree same grown = subst (λ b. SearchComesTo t nodes pivots root b tree) (sym same) (record {
     plan = done.search.plan;
     splits = s.splits;
     few = omega (arith, done.search.within, done.splits_allowed);

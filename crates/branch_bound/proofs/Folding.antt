@@ -17,10 +17,10 @@ use Rattle.dual_bound.specs.declared.trees.Tree.{Split, Tree}
 use Rattle.dual_bound.specs.declared.trees.Tree.TheVariants as tree
 use Rattle.cert_check.specs.Nodes.{nodes_in}
 use Rattle.node_bounding.specs.Causes.{zero_prices}
-use Rattle.branch_bound.specs.Growing.{AreGathered, AreLinked, IsFolded, IsJoined, IsJoinedFrom, IsSplitState, gathered, gathered_at, tree_by}
-use Rattle.branch_bound.specs.History.{Chronicle, HasItsParts, HasParts, IsFrom, IsGrownTree, IsLinked, IsPartOf, IsRightAt, KeepsBy, prices_above, prices_in}
-use Rattle.node_bounding.specs.Subproblems.{IsFractional, IsPart, IsRight, node_of}
-use Rattle.branch_bound.specs.Search.{IsSplitBy, at, nothing, step_into}
+use Rattle.branch_bound.specs.Growing.{AreGathered, AreSplitsLinked, IsFolded, IsJoinedFrom, IsSplitState, IsTreeJoined, gathered, gathered_at, tree_by}
+use Rattle.branch_bound.specs.History.{Chronicle, HasItsParts, HasSplitParts, IsFrom, IsGrownTree, IsLinked, IsPartOf, IsRightAt, KeepsBy, prices_above, prices_in}
+use Rattle.node_bounding.specs.Subproblems.{IsFractional, IsPart, IsRightState, node_of}
+use Rattle.branch_bound.specs.Search.{IsSplitBy, at, no_subproblem, step_into}
 use Rattle.node_bounding.specs.Trims.{AreSearched}
 use Rattle.node_bounding.specs.Worked.{Worked, worked_at, worked_in}
 use Rattle.node_bounding.specs.declared.states.Fraction.{Fraction}
@@ -42,7 +42,7 @@ waiting_part t pivots final keeps above f is =
     leaf_part t pivots final keeps above (tree.Open f.best.prices (cause.Nodes f.best.mixed)) refl refl (best.good.known, best.known) (all_one (IsNodeInOrder t) (ordered.Open f.best.prices (cause.Nodes f.best.mixed)) (best.good.in_order, best.in_order))
     (open_sound t final keeps f.best.prices (cause.Nodes f.best.mixed) best.good.proper is.split.searched.some_pair best.mixed_at is.split.fraction) (answers_none t final keeps (tree.Open f.best.prices (cause.Nodes f.best.mixed)) (λ e. cc)) tt
 
-state_part : (t : Tables) (pivots : Option ℕ) (final : Option ℤ) (keeps : Domains) (above : Prices) (s : State) → IsRight t pivots final keeps above s → IsPart t pivots final keeps above (tree_of_state s) × AreSearched t keeps (tree_of_state s)
+state_part : (t : Tables) (pivots : Option ℕ) (final : Option ℤ) (keeps : Domains) (above : Prices) (s : State) → IsRightState t pivots final keeps above s → IsPart t pivots final keeps above (tree_of_state s) × AreSearched t keeps (tree_of_state s)
 state_part t pivots final keeps above (state.Leaf leaf) is = (is.0, is.1)
 state_part t pivots final keeps above (state.Stopped s) is = (is.0, is.1)
 state_part t pivots final keeps above (state.Waiting f) is = (waiting_part t pivots final keeps above f is, is.split.searched)
@@ -109,10 +109,10 @@ module _ (all rest : List Subproblem) (last : Subproblem) (origin : Origin) (par
   count = omega (arith, ap length all_is, length-append rest (last ∷ []))
 
   at_rest : (k : ℕ) → k < length rest → at all k ≡ at rest k
-  at_rest k less = ap (λ xs. at xs k) all_is ∙ get_or_append_left rest (last ∷ []) nothing k less
+  at_rest k less = ap (λ xs. at xs k) all_is ∙ get_or_append_left rest (last ∷ []) no_subproblem k less
 
   at_last : at all (length rest) ≡ last
-  at_last = ap (λ xs. at xs (length rest)) all_is ∙ get_or_push rest last nothing (length rest) refl
+  at_last = ap (λ xs. at xs (length rest)) all_is ∙ get_or_push rest last no_subproblem (length rest) refl
 
   last_from : IsPartOf all parts (length rest) origin
   last_from = subst (λ o. IsFrom all parts (length rest) o) (ap (λ s. s.origin) at_last ∙ from_is) (each (length rest) (omega (arith, count))).from
@@ -124,7 +124,7 @@ module _ (all rest : List Subproblem) (last : Subproblem) (origin : Origin) (par
   unfolding fraction
   parent_is = (split_of origin.step (at all origin.parent).state last_from.of_split).1
 
-  has : HasParts all parts origin.parent fraction.pair
+  has : HasSplitParts all parts origin.parent fraction.pair
   has = subst (λ s. HasItsParts all parts origin.parent s) parent_is (each origin.parent (omega (arith, last_from.earlier, count))).own
 
   second_place : length rest ≡ suc (parts origin.parent)
@@ -171,11 +171,11 @@ module _ (all rest : List Subproblem) (last : Subproblem) (origin : Origin) (par
       | inr other ↦ ap (λ (s : Subproblem). s.origin) (unlike k less other)
     ]
 
-    pub joined : IsJoined fraction (tree_of (at all r).state) (tree_of last.state) is.whole
+    pub joined : IsTreeJoined fraction (tree_of (at all r).state) (tree_of last.state) is.whole
     joined =
         let parent : (at rest p).state ≡ state.Split fraction = ap (λ (s : Subproblem). s.state) (sym (at_rest p (omega (arith, parent_before)))) ∙ parent_is in
         let own : IsJoinedFrom (state.Split fraction) (tree_of (at rest r).state) (tree_of last.state) is.whole = subst (λ s. IsJoinedFrom s (tree_of (at rest r).state) (tree_of last.state) is.whole) parent is.joined in
-        subst (λ (s : Subproblem). IsJoined fraction (tree_of s.state) (tree_of last.state) is.whole) (sym (at_rest r (omega (arith, is.shorter)))) own
+        subst (λ (s : Subproblem). IsTreeJoined fraction (tree_of s.state) (tree_of last.state) is.whole) (sym (at_rest r (omega (arith, is.shorter)))) own
 
     whole_is : (at after p).state ≡ state.Leaf (Split fraction.pair.leg fraction.pair.choice fraction.best.prices fraction.best.mixed joined.yes_box joined.no_box)
     whole_is = ap (λ (s : Subproblem). s.state) there ∙ joined.is
@@ -200,7 +200,7 @@ module _ (all rest : List Subproblem) (last : Subproblem) (origin : Origin) (par
     parent_of : (x y : Option Origin) (one two : Origin) → x ≡ Some one → x ≡ Some two → one.parent ≡ two.parent
     parent_of x y one two first second = let same : Some one ≡ Some two = sym first ∙ second in let is : one ≡ two = cc in ap (λ (o : Origin). o.parent) is
 
-    has_parts : (k : ℕ) (f : Fraction) → k < r → k ≢ p → HasParts all parts k f.pair → HasParts after parts k f.pair
+    has_parts : (k : ℕ) (f : Fraction) → k < r → k ≢ p → HasSplitParts all parts k f.pair → HasSplitParts after parts k f.pair
     has_parts k f less other own =
         let first_origin : (at all r).origin ≡ Some (record { parent = p; step = step_into fraction.pair true }) = ap (λ j. (at all j).origin) (sym first_place) ∙ has.with_pair in
         let not_first : parts k ≢ r = λ same. other (parent_of (at all r).origin None _ _ (ap (λ j. (at all j).origin) (sym same) ∙ own.with_pair) first_origin) in
@@ -229,7 +229,7 @@ module _ (all rest : List Subproblem) (last : Subproblem) (origin : Origin) (par
           ];
         }
 
-    pub linked : AreLinked after
+    pub linked : AreSplitsLinked after
     linked = record { some = omega (arith, parent_in); parts = parts; each = links }
 
     -- neither of the two was split
@@ -257,7 +257,7 @@ module _ (t : Tables) (root : Domains) (pivots : Option ℕ) (final : Option ℤ
   abbrev f : Fraction
   f = fraction all rest last origin c.parts all_is from_is own_links
 
-  abbrev box : IsJoined f (tree_of_state (at all l).state) (tree_of_state last.state) is.whole
+  abbrev box : IsTreeJoined f (tree_of_state (at all l).state) (tree_of_state last.state) is.whole
   box = joined all rest last origin c.parts all_is from_is own_links tree_of_state after is
 
   abbrev whole : Tree
@@ -299,11 +299,11 @@ module _ (t : Tables) (root : Domains) (pivots : Option ℕ) (final : Option ℤ
     pub part_keeps : (c.made k).keeps ≡ part (c.made q).keeps f.pair.leg f.pair.choice taken
     part_keeps = (subst (λ o. KeepsBy t root c.made k o) its (are.numbered k below).keeps).1
 
-    part_right : IsRight t pivots final (part (c.made q).keeps f.pair.leg f.pair.choice taken) f.best.prices (at all k).state
+    part_right : IsRightState t pivots final (part (c.made q).keeps f.pair.leg f.pair.choice taken) f.best.prices (at all k).state
     part_right =
-        subst (λ p. IsRight t pivots final (part (c.made q).keeps f.pair.leg f.pair.choice taken) p (at all k).state) (ap (prices_in t) node_parent)
-        (subst (λ d. IsRight t pivots final d (prices_in t (c.made q).node) (at all k).state) part_keeps
-        (subst (λ o. IsRight t pivots final (c.made k).keeps (prices_above t c.made o) (at all k).state) its (are.right k below)))
+        subst (λ p. IsRightState t pivots final (part (c.made q).keeps f.pair.leg f.pair.choice taken) p (at all k).state) (ap (prices_in t) node_parent)
+        (subst (λ d. IsRightState t pivots final d (prices_in t (c.made q).node) (at all k).state) part_keeps
+        (subst (λ o. IsRightState t pivots final (c.made k).keeps (prices_above t c.made o) (at all k).state) its (are.right k below)))
 
     part_gathered : gathered_at (c.made k).keeps (at all k).state ≡ worked_in (part (c.made q).keeps f.pair.leg f.pair.choice taken) (tree_of_state (at all k).state)
     part_gathered =
@@ -322,11 +322,11 @@ module _ (t : Tables) (root : Domains) (pivots : Option ℕ) (final : Option ℤ
 
   -- ---- the one that they are parts of
   its_fraction : IsFractional t (c.made q).keeps f
-  its_fraction = subst (λ s. IsRight t pivots final (c.made q).keeps (prices_above t c.made (at all q).origin) s) state_parent (are.right q (omega (arith, inside, total_is)))
+  its_fraction = subst (λ s. IsRightState t pivots final (c.made q).keeps (prices_above t c.made (at all q).origin) s) state_parent (are.right q (omega (arith, inside, total_is)))
 
   right_parent : IsRightAt t pivots final after c q
   right_parent =
-      subst (λ s. IsRight t pivots final (c.made q).keeps (prices_above t c.made (at after q).origin) s) (sym state_whole)
+      subst (λ s. IsRightState t pivots final (c.made q).keeps (prices_above t c.made (at after q).origin) s) (sym state_whole)
       (split_part t pivots final (c.made q).keeps _ f.pair f.best box.yes_box box.no_box its_fraction.split first_tree.0 second_tree.0, (its_fraction.split.searched, first_tree.1, second_tree.1))
 
   gathered_parent : gathered_at (c.made q).keeps (at after q).state ≡ gathered_at (c.made q).keeps (at all q).state ++ (gathered_at (c.made l).keeps (at all l).state ++ gathered_at (c.made (suc l)).keeps (at all (suc l)).state)
@@ -361,7 +361,7 @@ module _ (t : Tables) (root : Domains) (pivots : Option ℕ) (final : Option ℤ
         };
     right = λ k less. elim (cases_eq k q) [
       | inl same ↦ subst (λ j. IsRightAt t pivots final after c j) (sym same) right_parent
-      | inr other ↦ subst (λ (s : Subproblem). IsRight t pivots final (c.made k).keeps (prices_above t c.made s.origin) s.state) (sym (stays k less other)) (are.right k (omega (arith, less, total_is)))
+      | inr other ↦ subst (λ (s : Subproblem). IsRightState t pivots final (c.made k).keeps (prices_above t c.made s.origin) s.state) (sym (stays k less other)) (are.right k (omega (arith, less, total_is)))
     ];
     same = same_after;
   }
@@ -371,16 +371,16 @@ pub first_of_all : (t : Tables) (root : Domains) (pivots : Option ℕ) (final : 
     → AreGathered t root pivots final total c all → IsGrownTree t root pivots final total c whole
 first_of_all t root pivots final total c all rest last whole all_is from_is whole_is are =
     let long : length all ≡ suc (length rest) = omega (arith, ap length all_is, length-append rest (last ∷ [])) in
-    let at_end : at all (length rest) ≡ last = ap (λ xs. at xs (length rest)) all_is ∙ get_or_push rest last nothing (length rest) refl in
+    let at_end : at all (length rest) ≡ last = ap (λ xs. at xs (length rest)) all_is ∙ get_or_push rest last no_subproblem (length rest) refl in
     let below : length rest < length all = omega (arith, long) in
     let none : length rest ≡ 0 = subst (λ o. IsFrom all c.parts (length rest) o) (ap (λ (s : Subproblem). s.origin) at_end ∙ from_is) (are.numbered (length rest) below).linked.from in
     let one : length all ≡ 1 = omega (arith, long, none) in
     let here : at all 0 ≡ last = ap (λ k. at all k) (sym none) ∙ at_end in
     let some : 0 < length all = omega (arith, one) in
     let root_is : (c.made 0).keeps ≡ root = subst (λ o. KeepsBy t root c.made 0 o) (ap (λ (s : Subproblem). s.origin) here ∙ from_is) (are.numbered 0 some).keeps in
-    let is_right : IsRight t pivots final root (zero_prices t) last.state =
-    subst (λ d. IsRight t pivots final d (zero_prices t) last.state) root_is
-    (subst (λ o. IsRight t pivots final (c.made 0).keeps (prices_above t c.made o) last.state) from_is (subst (λ (s : Subproblem). IsRight t pivots final (c.made 0).keeps (prices_above t c.made s.origin) s.state) here (are.right 0 some))) in
+    let is_right : IsRightState t pivots final root (zero_prices t) last.state =
+    subst (λ d. IsRightState t pivots final d (zero_prices t) last.state) root_is
+    (subst (λ o. IsRightState t pivots final (c.made 0).keeps (prices_above t c.made o) last.state) from_is (subst (λ (s : Subproblem). IsRightState t pivots final (c.made 0).keeps (prices_above t c.made s.origin) s.state) here (are.right 0 some))) in
     let tree_is = state_part t pivots final root (zero_prices t) last.state is_right in
     record {
       part = subst (IsPart t pivots final root (zero_prices t)) (sym whole_is) tree_is.0;

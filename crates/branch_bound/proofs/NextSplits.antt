@@ -9,11 +9,11 @@ use Rattle.fleet_model.specs.declared.kept.Step.{Step}
 use Rattle.fleet_model.specs.declared.parts.Pair.{Pair}
 use Rattle.fleet_model.specs.declared.tables.Tables.{Tables}
 use Rattle.node_bounding.specs.Examined.{IsExamined}
-use Rattle.branch_bound.specs.History.{IsFrom, IsGrown, IsRightAt, IsSearch, IsSplitSearch, IsTold, KeepsBy, WaitsWith, prices_above}
-use Rattle.branch_bound.specs.Ranks.{AreRanks, IsNext, IsRankIn, IsWaitingAt, ranks_with}
+use Rattle.branch_bound.specs.History.{IsChronicleTold, IsFrom, IsGrown, IsRightAt, IsSearch, IsSplitSearch, KeepsBy, WaitsWith, prices_above}
+use Rattle.branch_bound.specs.Ranks.{AreRanks, IsNextRank, IsRankIn, IsWaitingAt, ranks_with}
 use Rattle.node_bounding.specs.Relaxed.{AreGood}
-use Rattle.node_bounding.specs.Subproblems.{IsFractional, IsNoMore, IsPlan, IsRight, cost_of}
-use Rattle.branch_bound.specs.Search.{HaveOrigins, IsLater, at, nothing, step_into}
+use Rattle.node_bounding.specs.Subproblems.{IsFractional, IsNoMore, IsPlan, IsRightState, cost_of_plan}
+use Rattle.branch_bound.specs.Search.{HaveOrigins, IsMadeLater, at, no_subproblem, step_into}
 use Rattle.node_bounding.specs.Worked.{Worked}
 use Rattle.branch_bound.specs.declared.ranks.Rank.{Rank}
 use Rattle.branch_bound.specs.declared.search.Search.{Search}
@@ -43,7 +43,7 @@ fraction_of (state.Stopped s) worth waits = absurd waits
 fraction_of (state.Waiting f) worth waits = (f, refl, waits)
 fraction_of (state.Split f) worth waits = absurd waits
 
-module _ (t : Tables) (root : Domains) (s : Search) (rank : Rank) (search : IsSearch t root s) (next : IsNext s rank) where
+module _ (t : Tables) (root : Domains) (s : Search) (rank : Rank) (search : IsSearch t root s) (next : IsNextRank s rank) where
   abbrev all : List Subproblem
   all = s.made.items
 
@@ -68,8 +68,8 @@ module _ (t : Tables) (root : Domains) (s : Search) (rank : Rank) (search : IsSe
 
   pub its_fraction : IsFractional t (search.chronicle.made rank.number).keeps fraction
   its_fraction =
-      subst (λ x. IsRight t s.pivots (cost_of s.best) (search.chronicle.made rank.number).keeps (prices_above t search.chronicle.made (at all rank.number).origin) x) ready.state_is
-      (search.right (cost_of s.best) (no_more_same (cost_of s.best)) rank.number ready.within)
+      subst (λ x. IsRightState t s.pivots (cost_of_plan s.best) (search.chronicle.made rank.number).keeps (prices_above t search.chronicle.made (at all rank.number).origin) x) ready.state_is
+      (search.right (cost_of_plan s.best) (no_more_same (cost_of_plan s.best)) rank.number ready.within)
 
   -- what holds of its fraction
   pub waits_with : (P : Fraction → Type 0) → P fraction → WaitsWith P (at all rank.number).state
@@ -84,7 +84,7 @@ module _ (t : Tables) (root : Domains) (s : Search) (rank : Rank) (search : IsSe
   pub origins : HaveOrigins t all
   origins = record { each = λ k below. by_origin k (at all k).origin (search.numbered k below).linked.from (search.numbered k below).keeps }
     where
-      by_origin : (k : ℕ) (o : Option Origin) → IsFrom all search.chronicle.parts k o → KeepsBy t root search.chronicle.made k o → IfSome o (IsLater t k)
+      by_origin : (k : ℕ) (o : Option Origin) → IsFrom all search.chronicle.parts k o → KeepsBy t root search.chronicle.made k o → IfSome o (IsMadeLater t k)
       by_origin k None from by = tt
       by_origin k (Some origin) from by = record { earlier = from.earlier; pair = by.0 }
 
@@ -96,10 +96,10 @@ module _ (t : Tables) (root : Domains) (s : Search) (rank : Rank) (search : IsSe
 
   -- what the code reads of it
   pub waits_at : (P : Fraction → Type 0) (own : Subproblem) → own ≡ get_or all rank.number own → WaitsWith P (at all rank.number).state → WaitsWith P own.state
-  waits_at P own is waits = subst (λ (x : Subproblem). WaitsWith P x.state) (sym (get_or_read all rank.number own ready.within is nothing)) waits
+  waits_at P own is waits = subst (λ (x : Subproblem). WaitsWith P x.state) (sym (get_or_read all rank.number own ready.within is no_subproblem)) waits
 
   pub at_waits : (P : Fraction → Type 0) (own : Subproblem) → own ≡ get_or all rank.number own → WaitsWith P own.state → WaitsWith P (at all rank.number).state
-  at_waits P own is waits = subst (λ (x : Subproblem). WaitsWith P x.state) (get_or_read all rank.number own ready.within is nothing) waits
+  at_waits P own is waits = subst (λ (x : Subproblem). WaitsWith P x.state) (get_or_read all rank.number own ready.within is no_subproblem) waits
 
   pub keeps_there : (slice : List Subproblem) (kept : Domains) → slice ≡ all → ((made : ℕ → Worked) → ((k : ℕ) → k < length slice → KeepsBy t root made k (at slice k).origin) → kept ≡ (made rank.number).keeps)
       → kept ≡ (search.chronicle.made rank.number).keeps
@@ -169,10 +169,10 @@ module _ (t : Tables) (root : Domains) (s : Search) (rank : Rank) (search : IsSe
       within = omega (arith, is.splits, is.nodes, nodes, splits, next.room);
       count = omega (arith, list_grown.longer, search.count, is.splits, splits);
       chronicle = grown.chronicle;
-      told = subst (λ x. IsTold t x (length after.made.items) grown.chronicle) (sym is.best) (subst (λ count. IsTold t between.best count grown.chronicle) (sym list_grown.longer) grown.told);
+      told = subst (λ x. IsChronicleTold t x (length after.made.items) grown.chronicle) (sym is.best) (subst (λ count. IsChronicleTold t between.best count grown.chronicle) (sym list_grown.longer) grown.told);
       numbered = λ k below. grown.numbered k (subst (λ m. k < m) list_grown.longer below);
       right = λ final less k below. subst (λ p. IsRightAt t p final after.made.items grown.chronicle k) (sym (is.pivots ∙ pivots))
-          (grown.right final (subst (λ x. IsNoMore (cost_of x) final) is.best less) k (subst (λ m. k < m) list_grown.longer below));
+          (grown.right final (subst (λ x. IsNoMore (cost_of_plan x) final) is.best less) k (subst (λ m. k < m) list_grown.longer below));
       singles = λ k below. grown.singles k (subst (λ m. k < m) list_grown.longer below);
       ranks = ranked;
     }

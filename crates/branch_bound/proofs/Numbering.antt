@@ -8,7 +8,7 @@ use Rattle.fleet_model.specs.declared.parts.Pair.{Pair}
 use Rattle.fleet_model.specs.declared.tables.Tables.{Tables}
 use Rattle.dual_bound.specs.declared.nodes.Node.TheVariants as node
 use Rattle.node_bounding.specs.Examined.{IsFresh}
-use Rattle.branch_bound.specs.History.{Chronicle, HasItsParts, HasParts, IsFrom, IsGrown, IsNumbered, IsPartOf, KeepsBy, split_state}
+use Rattle.branch_bound.specs.History.{Chronicle, HasItsParts, HasSplitParts, IsFrom, IsGrown, IsNumbered, IsPartOf, KeepsBy, split_state}
 use Rattle.node_bounding.specs.Subproblems.{node_of}
 use Rattle.branch_bound.specs.Search.{IsSplitBy, at, step_into}
 use Rattle.node_bounding.specs.Worked.{Worked}
@@ -67,7 +67,7 @@ module _ (t : Tables) (root : Domains) (all grown : List Subproblem) (c d : Chro
         place = subst (λ p. ◌≡◌ {A = ℕ} k (if origin.step.yes then p else suc p)) (sym (parts_old origin.parent other)) from.place;
       }
 
-  parts_stand : (k : ℕ) (p : Pair) → k < n → k ≢ b → HasParts all c.parts k p → HasParts grown parts k p
+  parts_stand : (k : ℕ) (p : Pair) → k < n → k ≢ b → HasSplitParts all c.parts k p → HasSplitParts grown parts k p
   parts_stand k p less other has =
       let same : parts k ≡ c.parts k = parts_old k other in
       record {
@@ -82,7 +82,7 @@ module _ (t : Tables) (root : Domains) (all grown : List Subproblem) (c d : Chro
   own_old k (state.Waiting g) less other has = tt
   own_old k (state.Split g) less other has = parts_stand k g.pair less other has
 
-  own_here : HasParts grown parts b f.pair
+  own_here : HasSplitParts grown parts b f.pair
   own_here = record {
     within = omega (arith, parts_here, is.longer);
     with_pair = ap (λ i. (at grown i).origin) parts_here ∙ ap (λ s. s.origin) is.with_pair ∙ ap (λ p. Some (record { parent = b; step = step_into p true })) pair_is;

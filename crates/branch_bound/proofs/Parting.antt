@@ -20,7 +20,7 @@ use Rattle.dual_bound.proofs.Duality.{ceiling_is_lower_bound, weak_duality}
 use Rattle.node_bounding.specs.Examined.{IsExamined, IsFoundHere}
 use Rattle.node_bounding.specs.Relaxed.{IsBestPoint}
 use Rattle.price_lift.specs.declared.best_point.BestPoint.{BestPoint}
-use Rattle.node_bounding.specs.Subproblems.{IsPlan, cost_of, node_of}
+use Rattle.node_bounding.specs.Subproblems.{IsPlan, cost_of_plan, node_of}
 use Rattle.node_bounding.specs.declared.plans.Plan.{Plan}
 use Rattle.node_bounding.specs.declared.states.State.{State}
 use Rattle.dual_bound.specs.declared.nodes.Node.{Node}
@@ -75,16 +75,16 @@ part_no_less t keeps step prices own worth other proper best rounded own_rounded
 -- ---- plans that are found in a part
 -- they cost no less than the rounded worth of the whole
 pub found_no_less : (t : Tables) (keeps : Domains) (step : Step) (prices : Prices) (worth : ℤ) (node : Node) (best : Option Plan) → ArePrices t prices → IsCeiling (worth_of t keeps prices 1) prices.scale worth
-    → IfSome best (IsPlan t) → IsFoundHere t (narrowed keeps step) node best → IfSome (cost_of best) (λ c. worth ≤ℤ c)
+    → IfSome best (IsPlan t) → IsFoundHere t (narrowed keeps step) node best → IfSome (cost_of_plan best) (λ c. worth ≤ℤ c)
 found_no_less t keeps step prices worth node None proper rounded plan found = absurd found
 found_no_less t keeps step prices worth node (Some best) proper rounded plan found =
     subst (λ c. worth ≤ℤ c) (sym plan.exact) (ceiling_is_lower_bound t keeps prices worth best.assignment proper rounded (whole_assignment t keeps step best.assignment found.kept) plan.legal)
 
 -- so the cheapest plan costs no less once a part was made, where it did before
 pub cost_no_less : (t : Tables) (pivots : Option ℕ) (keeps : Domains) (step : Step) (prices above : Prices) (worth : ℤ) (before after : Option Plan) (made : State) → ArePrices t prices → IsCeiling (worth_of t keeps prices 1) prices.scale worth
-    → IfSome (cost_of before) (λ c. worth ≤ℤ c) → IsExamined t pivots before after (narrowed keeps step) above made → IfSome (cost_of after) (λ c. worth ≤ℤ c)
+    → IfSome (cost_of_plan before) (λ c. worth ≤ℤ c) → IsExamined t pivots before after (narrowed keeps step) above made → IfSome (cost_of_plan after) (λ c. worth ≤ℤ c)
 cost_no_less t pivots keeps step prices above worth before after made proper rounded below is = by_place is.place
   where
-    by_place : (after ≡ before) ⊎ IsFoundHere t (narrowed keeps step) (node_of made) after → IfSome (cost_of after) (λ c. worth ≤ℤ c)
-    by_place (inl same) = subst (λ b. IfSome (cost_of b) (λ c. worth ≤ℤ c)) (sym same) below
+    by_place : (after ≡ before) ⊎ IsFoundHere t (narrowed keeps step) (node_of made) after → IfSome (cost_of_plan after) (λ c. worth ≤ℤ c)
+    by_place (inl same) = subst (λ b. IfSome (cost_of_plan b) (λ c. worth ≤ℤ c)) (sym same) below
     by_place (inr here) = found_no_less t keeps step prices worth _ after proper rounded is.plan here

@@ -11,7 +11,7 @@ use Rattle.std.proofs.lemmas.Map.Views.{All-insert_key}
 use Rattle.fleet_model.specs.declared.parts.Pair.{Pair}
 use Rattle.branch_bound.specs.History.{IsGrown, split_state}
 use Rattle.node_bounding.specs.Made.{IsNextBefore}
-use Rattle.branch_bound.specs.Ranks.{AreRanks, ComesBefore, IsRankIn, IsWaitingAt, rank_cmp, ranks_with}
+use Rattle.branch_bound.specs.Ranks.{AreRanks, IsRankIn, IsWaitingAt, RankComesBefore, rank_cmp, ranks_with}
 use Rattle.branch_bound.specs.Search.{at}
 use Rattle.branch_bound.specs.declared.ranks.Rank.{Rank}
 use Rattle.node_bounding.specs.declared.states.Fraction.{Fraction}
@@ -92,9 +92,9 @@ not_before worth n (inr same) = absurd (omega (arith, same.1))
 -- ---- after a split
 module _ (all grown : List Subproblem) (rank : Rank) (rest ranks : List Rank) (f : Fraction) (pair : Pair) (yes no : State)
     (is : IsGrown all grown rank.number pair yes no) (state_is : (at all rank.number).state ≡ state.Waiting f) (worth_is : f.worth ≡ rank.worth)
-    (before : AreRanks all (rank ∷ rest)) (later : All (ComesBefore rank) rest) (ranks_is : ranks ≡ ranks_with (ranks_with rest (length all) yes) (suc (length all)) no) where
+    (before : AreRanks all (rank ∷ rest)) (later : All (RankComesBefore rank) rest) (ranks_is : ranks ≡ ranks_with (ranks_with rest (length all) yes) (suc (length all)) no) where
   -- the other ranks are of other subproblems, which wait as before
-  stay : (other : Rank) → IsRankIn all other → ComesBefore rank other → IsRankIn grown other
+  stay : (other : Rank) → IsRankIn all other → RankComesBefore rank other → IsRankIn grown other
   stay other old behind = record {
     within = omega (arith, old.within, is.longer);
     waits = subst (λ s. IsWaitingAt s.state other.worth) (sym (is.same other.number old.within differs)) old.waits;
@@ -106,7 +106,7 @@ module _ (all grown : List Subproblem) (rank : Rank) (rest ranks : List Rank) (f
           let worth : other.worth ≡ rank.worth = sym there ∙ worth_is in
           not_before rank.worth rank.number (subst (λ w. IsNextBefore rank.worth rank.number w rank.number) worth (subst (λ n. IsNextBefore rank.worth rank.number other.worth n) same behind.is))
 
-  all_stay : (ks : List Rank) → All (IsRankIn all) ks → All (ComesBefore rank) ks → All (IsRankIn grown) ks
+  all_stay : (ks : List Rank) → All (IsRankIn all) ks → All (RankComesBefore rank) ks → All (IsRankIn grown) ks
   all_stay ks old behind k d below = stay _ (old k d below) (behind k d below)
 
   one_more : (n : ℕ) (made : State) → n < length grown → (at grown n).state ≡ made → (worth : ℤ) → IsWaitingAt made worth → IsRankIn grown (record { worth = worth; number = n })

@@ -17,10 +17,10 @@ use Rattle.dual_bound.specs.declared.prices.Prices.{Prices}
 use Rattle.dual_bound.specs.declared.trees.Cause.TheVariants as cause
 use Rattle.node_bounding.specs.Examined.{IsExamined, IsFoundHere}
 use Rattle.node_bounding.specs.Found.{EndsAt, IsEndOf}
-use Rattle.branch_bound.specs.History.{Chronicle, IsAtLevel, IsFrom, IsGrown, IsNumbered, IsPlaced, IsRightAt, IsSingle, IsTold, prices_above, prices_in, split_state}
+use Rattle.branch_bound.specs.History.{Chronicle, IsAtLevel, IsChronicleTold, IsFrom, IsGrown, IsNumbered, IsPlanPlaced, IsRightAt, IsSingle, prices_above, prices_in, split_state}
 use Rattle.node_bounding.specs.Made.{IsBelowBest, IsInTurn, IsMadeAs, IsNextBefore, IsSplitInTurn, WaitsAs, best_before}
 use Rattle.branch_bound.specs.Ranks.{AreRanks, IsNoLater, IsWaitingAt}
-use Rattle.node_bounding.specs.Subproblems.{IsFractional, IsNoMore, IsRight, cost_of, node_of}
+use Rattle.node_bounding.specs.Subproblems.{IsFractional, IsNoMore, IsRightState, cost_of_plan, node_of}
 use Rattle.branch_bound.specs.Search.{at, step_into}
 use Rattle.node_bounding.specs.Worked.{Worked}
 use Rattle.branch_bound.specs.declared.ranks.Rank.{Rank}
@@ -39,15 +39,15 @@ use Rattle.branch_bound.proofs.Numbering.{no_parent, numbered_grown as numbers_g
 -- a list of so many subproblems of a search, whose cheapest plan this is
 pub record HasGrown (t : Tables) (root : Domains) (pivots : Option ℕ) (best : Option Plan) (count : ℕ) (all : List Subproblem) : Type 0 where
   pub chronicle : Chronicle
-  pub told : IsTold t best count chronicle
+  pub told : IsChronicleTold t best count chronicle
   pub numbered : (k : ℕ) → k < count → IsNumbered t root all chronicle k
-  pub right : (final : Option ℤ) → IsNoMore (cost_of best) final → (k : ℕ) → k < count → IsRightAt t pivots final all chronicle k
+  pub right : (final : Option ℤ) → IsNoMore (cost_of_plan best) final → (k : ℕ) → k < count → IsRightAt t pivots final all chronicle k
   pub singles : (k : ℕ) → k < count → IsSingle (at all k).state
 
 module _ (t : Tables) (root : Domains) (pivots : Option ℕ) (best mid after : Option Plan) (all grown : List Subproblem) (c : Chronicle) (rank : Rank) (ranks : List Rank) (f : Fraction) (pair : Pair) (yes no : State)
-    (told : IsTold t best (length all) c) (numbered : (k : ℕ) → k < length all → IsNumbered t root all c k)
-    (right : (final : Option ℤ) → IsNoMore (cost_of best) final → (k : ℕ) → k < length all → IsRightAt t pivots final all c k) (singles : (k : ℕ) → k < length all → IsSingle (at all k).state)
-    (ranked : AreRanks all ranks) (least : All (IsNoLater rank) ranks) (below : IfSome (cost_of best) (λ cost. rank.worth <ℤ cost)) (within : rank.number < length all)
+    (told : IsChronicleTold t best (length all) c) (numbered : (k : ℕ) → k < length all → IsNumbered t root all c k)
+    (right : (final : Option ℤ) → IsNoMore (cost_of_plan best) final → (k : ℕ) → k < length all → IsRightAt t pivots final all c k) (singles : (k : ℕ) → k < length all → IsSingle (at all k).state)
+    (ranked : AreRanks all ranks) (least : All (IsNoLater rank) ranks) (below : IfSome (cost_of_plan best) (λ cost. rank.worth <ℤ cost)) (within : rank.number < length all)
     (state_is : (at all rank.number).state ≡ state.Waiting f) (worth_is : f.worth ≡ rank.worth) (pair_is : pair ≡ f.pair) (is : IsGrown all grown rank.number pair yes no)
     (one : IsExamined t pivots best mid (narrowed (c.made rank.number).keeps (step_into pair true)) f.best.prices yes)
     (two : IsExamined t pivots mid after (narrowed (c.made rank.number).keeps (step_into pair false)) f.best.prices no) where
@@ -112,14 +112,14 @@ module _ (t : Tables) (root : Domains) (pivots : Option ℕ) (best mid after : O
   best_old : (k : ℕ) → k ≤ n → best_before found k ≡ best_before c.found k
   best_old k less = same_best found c.found k (λ j early. found_old j (omega (arith, early, less)))
 
-  best_now : best_before found n ≡ cost_of best
+  best_now : best_before found n ≡ cost_of_plan best
   best_now = best_old n (omega arith) ∙ sym told.cheapest
 
-  best_mid : best_before found (suc n) ≡ cost_of mid
-  best_mid = ap (λ x. lesser_bound x (found n)) best_now ∙ ap (lesser_bound (cost_of best)) found_first ∙ sym one.cheapest
+  best_mid : best_before found (suc n) ≡ cost_of_plan mid
+  best_mid = ap (λ x. lesser_bound x (found n)) best_now ∙ ap (lesser_bound (cost_of_plan best)) found_first ∙ sym one.cheapest
 
-  best_after : best_before found (suc (suc n)) ≡ cost_of after
-  best_after = ap (λ x. lesser_bound x (found (suc n))) best_mid ∙ ap (lesser_bound (cost_of mid)) found_second ∙ sym two.cheapest
+  best_after : best_before found (suc (suc n)) ≡ cost_of_plan after
+  best_after = ap (λ x. lesser_bound x (found (suc n))) best_mid ∙ ap (lesser_bound (cost_of_plan mid)) found_second ∙ sym two.cheapest
 
   parts_here : parts b ≡ n
   parts_here = put_here c.parts b n
@@ -129,7 +129,7 @@ module _ (t : Tables) (root : Domains) (pivots : Option ℕ) (best mid after : O
 
   -- ---- the subproblem that is split
   fraction : IsFractional t keeps f
-  fraction = subst (λ s. IsRight t pivots (cost_of best) keeps (prices_above t c.made (at all b).origin) s) state_is (right (cost_of best) (no_more_same (cost_of best)) b within)
+  fraction = subst (λ s. IsRightState t pivots (cost_of_plan best) keeps (prices_above t c.made (at all b).origin) s) state_is (right (cost_of_plan best) (no_more_same (cost_of_plan best)) b within)
 
   old_node : (c.made b).node ≡ node.Open f.best.prices (cause.Nodes f.best.mixed)
   old_node = (numbered b within).node ∙ ap node_of state_is
@@ -150,7 +150,7 @@ module _ (t : Tables) (root : Domains) (pivots : Option ℕ) (best mid after : O
   behind k g worth less other waits rounded = by_rank (All-contains (IsNoLater rank) ranks (record { worth = worth; number = k }) least there)
     where
       own : IsFractional t (c.made k).keeps g
-      own = subst (λ s. IsRight t pivots (cost_of best) (c.made k).keeps (prices_above t c.made (at all k).origin) s) waits (right (cost_of best) (no_more_same (cost_of best)) k less)
+      own = subst (λ s. IsRightState t pivots (cost_of_plan best) (c.made k).keeps (prices_above t c.made (at all k).origin) s) waits (right (cost_of_plan best) (no_more_same (cost_of_plan best)) k less)
 
       there : Contains ranks (record { worth = worth; number = k })
       there = ranked.every k worth less (subst (λ s. IsWaitingAt s worth) (sym waits) (one_ceiling _ _ g.worth worth own.split.best.good.proper.scale.some own.rounded rounded))
@@ -240,7 +240,7 @@ module _ (t : Tables) (root : Domains) (pivots : Option ℕ) (best mid after : O
         with_pair = ap (λ i. (made i).keeps) parts_here ∙ ap (λ w. w.keeps) made_first ∙ step true ∙ ap (λ d. part d f.pair.leg f.pair.choice true) (sym own);
         without = ap (λ i. (made (suc i)).keeps) parts_here ∙ ap (λ w. w.keeps) made_second ∙ step false ∙ ap (λ d. part d f.pair.leg f.pair.choice false) (sym own);
         below = subst (λ i. IsBelowBest t (made b).keeps f.best.prices (best_before found i)) (sym parts_here)
-            (subst (λ x. IsBelowBest t (made b).keeps f.best.prices x) (sym best_now) (subst (λ d. IsBelowBest t d f.best.prices (cost_of best)) (sym own) (below_now (cost_of best) below)));
+            (subst (λ x. IsBelowBest t (made b).keeps f.best.prices x) (sym best_now) (subst (λ d. IsBelowBest t d f.best.prices (cost_of_plan best)) (sym own) (below_now (cost_of_plan best) below)));
         first = λ j worth another before rounded waits.
             let soon : j < n = omega (arith, before, parts_here) in
             let is_worth : worth ≡ f.worth = its_worth worth (subst (λ d. IsCeiling (worth_of t d f.best.prices 1) f.best.prices.scale worth) own rounded) in
@@ -289,7 +289,7 @@ module _ (t : Tables) (root : Domains) (pivots : Option ℕ) (best mid after : O
   level_part taken (state.Leaf leaf) before end made_as = leaf_level t _ (Some f.worth) leaf made_as.fresh
   level_part taken (state.Stopped s) before end made_as = stopped_level t _ (Some f.worth) s.prices s.why made_as.fresh
   level_part taken (state.Waiting g) before end made_as = λ worth rounded.
-      let own : IsFractional t (narrowed keeps (step_into pair taken)) g = made_as.right (cost_of end) (no_more_same (cost_of end)) in
+      let own : IsFractional t (narrowed keeps (step_into pair taken)) g = made_as.right (cost_of_plan end) (no_more_same (cost_of_plan end)) in
       part_no_less t keeps (step_into pair taken) f.best.prices g.best f.worth worth fraction.split.best.good.proper own.split.best fraction.rounded rounded
   level_part taken (state.Split g) before end made_as = absurd made_as.fresh
 
@@ -299,28 +299,28 @@ module _ (t : Tables) (root : Domains) (pivots : Option ℕ) (best mid after : O
       (λ k less other. subst (λ m. IsAtLevel t (Some f.worth) (c.made k).keeps m) (sym (numbered k less).node) (level_old k (at all k).state less other refl (singles k less)))
       (level_part true yes best mid one) (level_part false no mid after two)
 
-  cost_grown : IfSome (cost_of after) (λ cost. f.worth ≤ℤ cost)
+  cost_grown : IfSome (cost_of_plan after) (λ cost. f.worth ≤ℤ cost)
   cost_grown =
       let proper = fraction.split.best.good.proper in
       cost_no_less t pivots keeps (step_into pair false) f.best.prices f.best.prices f.worth mid after no proper fraction.rounded
-      (cost_no_less t pivots keeps (step_into pair true) f.best.prices f.best.prices f.worth best mid yes proper fraction.rounded (not_above (cost_of best) below) one) two
+      (cost_no_less t pivots keeps (step_into pair true) f.best.prices f.best.prices f.worth best mid yes proper fraction.rounded (not_above (cost_of_plan best) below) one) two
     where
       not_above : (x : Option ℤ) → IfSome x (λ cost. rank.worth <ℤ cost) → IfSome x (λ cost. f.worth ≤ℤ cost)
       not_above None less = tt
       not_above (Some x) less = omega (arith, ints, less, worth_is)
 
   -- ---- where the plan is found
-  place_grown : IfSome after (λ plan. IsPlaced t plan (suc (suc n)) goes_on)
+  place_grown : IfSome after (λ plan. IsPlanPlaced t plan (suc (suc n)) goes_on)
   place_grown = by_second two.place
     where
-      placed : (plan : Plan) (k : ℕ) (w : Worked) → k < suc (suc n) → made k ≡ w → IsEndOf t plan.assignment plan.cost w → IsPlaced t plan (suc (suc n)) goes_on
+      placed : (plan : Plan) (k : ℕ) (w : Worked) → k < suc (suc n) → made k ≡ w → IsEndOf t plan.assignment plan.cost w → IsPlanPlaced t plan (suc (suc n)) goes_on
       placed plan k w less same end = record { number = k; within = less; end = subst (IsEndOf t plan.assignment plan.cost) (sym same) end }
 
-      at_new : (x : Option Plan) (k : ℕ) (d : Domains) (m : Node) → k < suc (suc n) → made k ≡ record { keeps = d; node = m } → IsFoundHere t d m x → IfSome x (λ plan. IsPlaced t plan (suc (suc n)) goes_on)
+      at_new : (x : Option Plan) (k : ℕ) (d : Domains) (m : Node) → k < suc (suc n) → made k ≡ record { keeps = d; node = m } → IsFoundHere t d m x → IfSome x (λ plan. IsPlanPlaced t plan (suc (suc n)) goes_on)
       at_new None k d m less same found_here = tt
       at_new (Some plan) k d m less same found_here = placed plan k (record { keeps = d; node = m }) less same found_here
 
-      at_old : (x : Option Plan) → IfSome x (λ plan. IsPlaced t plan n c) → IfSome x (λ plan. IsPlaced t plan (suc (suc n)) goes_on)
+      at_old : (x : Option Plan) → IfSome x (λ plan. IsPlanPlaced t plan n c) → IfSome x (λ plan. IsPlanPlaced t plan (suc (suc n)) goes_on)
       at_old None old = tt
       at_old (Some plan) old = elim (cases_eq old.number b) [
         | inl same ↦
@@ -330,15 +330,15 @@ module _ (t : Tables) (root : Domains) (pivots : Option ℕ) (best mid after : O
         | inr other ↦ placed plan old.number (c.made old.number) (omega (arith, old.within)) (made_old old.number old.within other) old.end
       ]
 
-      by_first : (mid ≡ best) ⊎ IsFoundHere t (narrowed keeps (step_into pair true)) (node_of yes) mid → IfSome mid (λ plan. IsPlaced t plan (suc (suc n)) goes_on)
-      by_first (inl same) = subst (λ x. IfSome x (λ plan. IsPlaced t plan (suc (suc n)) goes_on)) (sym same) (at_old best told.place)
+      by_first : (mid ≡ best) ⊎ IsFoundHere t (narrowed keeps (step_into pair true)) (node_of yes) mid → IfSome mid (λ plan. IsPlanPlaced t plan (suc (suc n)) goes_on)
+      by_first (inl same) = subst (λ x. IfSome x (λ plan. IsPlanPlaced t plan (suc (suc n)) goes_on)) (sym same) (at_old best told.place)
       by_first (inr found_here) = at_new mid n _ _ (omega arith) made_first found_here
 
-      by_second : (after ≡ mid) ⊎ IsFoundHere t (narrowed keeps (step_into pair false)) (node_of no) after → IfSome after (λ plan. IsPlaced t plan (suc (suc n)) goes_on)
-      by_second (inl same) = subst (λ x. IfSome x (λ plan. IsPlaced t plan (suc (suc n)) goes_on)) (sym same) (by_first one.place)
+      by_second : (after ≡ mid) ⊎ IsFoundHere t (narrowed keeps (step_into pair false)) (node_of no) after → IfSome after (λ plan. IsPlanPlaced t plan (suc (suc n)) goes_on)
+      by_second (inl same) = subst (λ x. IfSome x (λ plan. IsPlanPlaced t plan (suc (suc n)) goes_on)) (sym same) (by_first one.place)
       by_second (inr found_here) = at_new after (suc n) _ _ (omega arith) made_second found_here
 
-  told_grown : IsTold t after (suc (suc n)) goes_on
+  told_grown : IsChronicleTold t after (suc (suc n)) goes_on
   told_grown = record { each = each_grown; turns = turns_grown; cheapest = sym best_after; levels = levels_grown; cost_from = cost_grown; place = place_grown }
 
   -- ---- the list
@@ -353,30 +353,30 @@ module _ (t : Tables) (root : Domains) (pivots : Option ℕ) (best mid after : O
   above_part : (taken : Bool) → prices_above t made (Some (record { parent = b; step = step_into pair taken })) ≡ f.best.prices
   above_part taken = ap (λ w. prices_in t w.node) made_here
 
-  module _ (final : Option ℤ) (less_than : IsNoMore (cost_of after) final) where
-    mid_less : IsNoMore (cost_of mid) final
-    mid_less = no_more_on (cost_of mid) (cost_of after) final (subst (IsNoMore (cost_of mid)) (sym two.cheapest) (lesser_no_more (cost_of mid) two.found).0) less_than
+  module _ (final : Option ℤ) (less_than : IsNoMore (cost_of_plan after) final) where
+    mid_less : IsNoMore (cost_of_plan mid) final
+    mid_less = no_more_on (cost_of_plan mid) (cost_of_plan after) final (subst (IsNoMore (cost_of_plan mid)) (sym two.cheapest) (lesser_no_more (cost_of_plan mid) two.found).0) less_than
 
-    best_less : IsNoMore (cost_of best) final
-    best_less = no_more_on (cost_of best) (cost_of mid) final (subst (IsNoMore (cost_of best)) (sym one.cheapest) (lesser_no_more (cost_of best) one.found).0) mid_less
+    best_less : IsNoMore (cost_of_plan best) final
+    best_less = no_more_on (cost_of_plan best) (cost_of_plan mid) final (subst (IsNoMore (cost_of_plan best)) (sym one.cheapest) (lesser_no_more (cost_of_plan best) one.found).0) mid_less
 
     right_old : (k : ℕ) → k < n → k ≢ b → IsRightAt t pivots final grown goes_on k
     right_old k less other =
         let same = is.same k less other in
-        subst (λ x. IsRight t pivots final (made k).keeps (prices_above t made x.origin) x.state) (sym same)
-        (subst (λ d. IsRight t pivots final d (prices_above t made (at all k).origin) (at all k).state) (sym (keeps_old k less))
-        (subst (λ p. IsRight t pivots final (c.made k).keeps p (at all k).state) (sym (above_old k (at all k).origin less (numbered k less).linked.from)) (right final best_less k less)))
+        subst (λ x. IsRightState t pivots final (made k).keeps (prices_above t made x.origin) x.state) (sym same)
+        (subst (λ d. IsRightState t pivots final d (prices_above t made (at all k).origin) (at all k).state) (sym (keeps_old k less))
+        (subst (λ p. IsRightState t pivots final (c.made k).keeps p (at all k).state) (sym (above_old k (at all k).origin less (numbered k less).linked.from)) (right final best_less k less)))
 
     right_here : IsRightAt t pivots final grown goes_on b
     right_here =
-        subst (λ s. IsRight t pivots final (made b).keeps (prices_above t made (at grown b).origin) s) (sym new_state) (subst (λ d. IsFractional t d f) (sym (keeps_old b within)) fraction)
+        subst (λ s. IsRightState t pivots final (made b).keeps (prices_above t made (at grown b).origin) s) (sym new_state) (subst (λ d. IsFractional t d f) (sym (keeps_old b within)) fraction)
 
     right_part : (k : ℕ) (taken : Bool) (s : State) → at grown k ≡ record { origin = Some (record { parent = b; step = step_into pair taken }); state = s } → made k ≡ record { keeps = narrowed keeps (step_into pair taken); node = node_of s }
-        → IsRight t pivots final (narrowed keeps (step_into pair taken)) f.best.prices s → IsRightAt t pivots final grown goes_on k
+        → IsRightState t pivots final (narrowed keeps (step_into pair taken)) f.best.prices s → IsRightAt t pivots final grown goes_on k
     right_part k taken s there same is_right =
-        subst (λ x. IsRight t pivots final (made k).keeps (prices_above t made x.origin) x.state) (sym there)
-        (subst (λ w. IsRight t pivots final w.keeps (prices_above t made (Some (record { parent = b; step = step_into pair taken }))) s) (sym same)
-        (subst (λ p. IsRight t pivots final (narrowed keeps (step_into pair taken)) p s) (sym (above_part taken)) is_right))
+        subst (λ x. IsRightState t pivots final (made k).keeps (prices_above t made x.origin) x.state) (sym there)
+        (subst (λ w. IsRightState t pivots final w.keeps (prices_above t made (Some (record { parent = b; step = step_into pair taken }))) s) (sym same)
+        (subst (λ p. IsRightState t pivots final (narrowed keeps (step_into pair taken)) p s) (sym (above_part taken)) is_right))
 
     right_grown : (k : ℕ) → k < suc (suc n) → IsRightAt t pivots final grown goes_on k
     right_grown = by_new (λ k. IsRightAt t pivots final grown goes_on k) b n right_here right_old

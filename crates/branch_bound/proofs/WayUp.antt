@@ -6,7 +6,7 @@ use Rattle.fleet_model.specs.declared.limits.TheConstants.{MAX_CHOICES, MAX_LEGS
 use Rattle.fleet_model.specs.declared.tables.Tables.{Tables}
 use Rattle.fleet_model.proofs.FewChoices.{few_choices}
 use Rattle.branch_bound.specs.History.{KeepsBy}
-use Rattle.branch_bound.specs.Search.{HaveOrigins, IsLater, at}
+use Rattle.branch_bound.specs.Search.{HaveOrigins, IsMadeLater, at}
 use Rattle.node_bounding.specs.Worked.{Worked}
 use Rattle.branch_bound.specs.declared.subproblems.Origin.{Origin}
 use Rattle.branch_bound.specs.declared.subproblems.Subproblem.{Subproblem}
@@ -47,7 +47,7 @@ begins t root all number within = record {
 module _ (t : Tables) (root : Domains) (all : List Subproblem) (number here : ℕ) (kept : Domains) (way : IsOnTheWay t root all number here kept) where
   pub goes_on : (origin : Origin) (after : Domains) → HaveOrigins t all → (at all here).origin ≡ Some origin → after ≡ narrowed kept origin.step → IsOnTheWay t root all number origin.parent after
   goes_on origin after have from is =
-      let later : IsLater t here origin = subst (λ o. IfSome o (IsLater t here)) from (have.each here way.within) in
+      let later : IsMadeLater t here origin = subst (λ o. IfSome o (IsMadeLater t here)) from (have.each here way.within) in
       record {
         within = omega (arith, way.within, later.earlier);
         left = λ p. leaves origin.step p && way.left p;
@@ -63,11 +63,11 @@ module _ (t : Tables) (root : Domains) (all : List Subproblem) (number here : �
       way.kept_is ∙ sym (way.rest made keep ∙ ap (λ (k : Domains). (λ p. k p && way.left p)) own)
 
 -- what a subproblem is a part of
-pub later_at : (t : Tables) (all : List Subproblem) (here : ℕ) (origin : Origin) → HaveOrigins t all → here < length all → (at all here).origin ≡ Some origin → IsLater t here origin
-later_at t all here origin have within from = subst (λ o. IfSome o (IsLater t here)) from (have.each here within)
+pub later_at : (t : Tables) (all : List Subproblem) (here : ℕ) (origin : Origin) → HaveOrigins t all → here < length all → (at all here).origin ≡ Some origin → IsMadeLater t here origin
+later_at t all here origin have within from = subst (λ o. IfSome o (IsMadeLater t here)) from (have.each here within)
 
-pub leg_fits : (t : Tables) (here : ℕ) (origin : Origin) → IsLater t here origin → origin.step.leg < MAX_LEGS
+pub leg_fits : (t : Tables) (here : ℕ) (origin : Origin) → IsMadeLater t here origin → origin.step.leg < MAX_LEGS
 leg_fits t here origin later = omega (arith, later.pair.leg, t.in_range.legs_fit.few)
 
-pub choice_fits : (t : Tables) (here : ℕ) (origin : Origin) → IsLater t here origin → origin.step.choice < MAX_CHOICES
+pub choice_fits : (t : Tables) (here : ℕ) (origin : Origin) → IsMadeLater t here origin → origin.step.choice < MAX_CHOICES
 choice_fits t here origin later = omega (arith, later.pair.choice, few_choices t origin.step.leg)

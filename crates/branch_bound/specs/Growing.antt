@@ -37,7 +37,7 @@ tree_by cost (state.Waiting f) = leaf_by cost f.worth f.best.prices (cause.Nodes
 tree_by cost (state.Split f) = leaf_by cost f.worth f.best.prices (cause.Nodes f.best.mixed)
 
 -- a subproblem was split, and this is its tree with those of its parts
-pub record IsJoined (f : Fraction) (with_pair without : Tree) (joined : State) : Type 0 where
+pub record IsTreeJoined (f : Fraction) (with_pair without : Tree) (joined : State) : Type 0 where
   pub yes_box : Box Tree Global
   pub no_box : Box Tree Global
   pub is : joined ≡ state.Leaf (Split f.pair.leg f.pair.choice f.best.prices f.best.mixed yes_box no_box)
@@ -48,7 +48,7 @@ abbrev pub IsJoinedFrom : State → Tree → Tree → State → Type 0
 IsJoinedFrom (state.Leaf leaf) with_pair without joined = ⊥
 IsJoinedFrom (state.Stopped s) with_pair without joined = ⊥
 IsJoinedFrom (state.Waiting f) with_pair without joined = ⊥
-IsJoinedFrom (state.Split f) with_pair without joined = IsJoined f with_pair without joined
+IsJoinedFrom (state.Split f) with_pair without joined = IsTreeJoined f with_pair without joined
 
 -- a subproblem was split, or was not
 abbrev pub IsSplitState : State → Type 0
@@ -88,7 +88,7 @@ pub record AreSingle (all : List Subproblem) : Type 0 where
   pub each : (k : ℕ) → k < length all → IsSingle (at all k).state
 
 -- some parts link it
-pub record AreLinked (all : List Subproblem) : Type 0 where
+pub record AreSplitsLinked (all : List Subproblem) : Type 0 where
   pub some : 0 < length all
   pub parts : ℕ → ℕ
   pub each : (k : ℕ) → k < length all → IsLinked all parts k

@@ -17,8 +17,8 @@ use Rattle.node_bounding.specs.Causes.{zero_prices}
 use Rattle.node_bounding.specs.Examined.{IsDoneLeaf, IsStoppedBy}
 use Rattle.node_bounding.specs.Found.{IsEndOf}
 use Rattle.node_bounding.specs.Made.{IsInTurn, IsMadeAs, best_before}
-use Rattle.branch_bound.specs.Ranks.{AreRanks, ComesBefore, IsOver, ranks_with}
-use Rattle.node_bounding.specs.Subproblems.{IsNoMore, IsPart, IsPlan, IsRight, cost_of, node_of}
+use Rattle.branch_bound.specs.Ranks.{AreRanks, IsOver, RankComesBefore, ranks_with}
+use Rattle.node_bounding.specs.Subproblems.{IsNoMore, IsPart, IsPlan, IsRightState, cost_of_plan, node_of}
 use Rattle.branch_bound.specs.Search.{IsSplitBy, at, step_into}
 use Rattle.node_bounding.specs.Trims.{AreSearched}
 use Rattle.node_bounding.specs.Worked.{IsOpenWorth, Worked, worked_in}
@@ -50,19 +50,19 @@ IsAtLevel t level keeps (node.Priced prices) = ⊤
 IsAtLevel t level keeps (node.Trim leg choice) = ⊤
 
 -- a plan is found at one of the subproblems
-pub record IsPlaced (t : Tables) (plan : Plan) (count : ℕ) (c : Chronicle) : Type 0 where
+pub record IsPlanPlaced (t : Tables) (plan : Plan) (count : ℕ) (c : Chronicle) : Type 0 where
   pub number : ℕ
   pub within : number < count
   pub end : IsEndOf t plan.assignment plan.cost (c.made number)
 
 -- what so many subproblems were made as, in which order, and what the cheapest plan is behind them
-pub record IsTold (t : Tables) (best : Option Plan) (count : ℕ) (c : Chronicle) : Type 0 where
+pub record IsChronicleTold (t : Tables) (best : Option Plan) (count : ℕ) (c : Chronicle) : Type 0 where
   pub each : (k : ℕ) → k < count → IsMadeAs t (best_before c.found k) (c.made k).keeps (c.made k).node (c.found k)
   pub turns : (k : ℕ) → k < count → IsInTurn t count c.made c.found c.parts k (c.made k).node
-  pub cheapest : cost_of best ≡ best_before c.found count
+  pub cheapest : cost_of_plan best ≡ best_before c.found count
   pub levels : (k : ℕ) → k < count → IsAtLevel t c.level (c.made k).keeps (c.made k).node
-  pub cost_from : IfSome c.level (λ l. IfSome (cost_of best) (λ cost. l ≤ℤ cost))
-  pub place : IfSome best (λ plan. IsPlaced t plan count c)
+  pub cost_from : IfSome c.level (λ l. IfSome (cost_of_plan best) (λ cost. l ≤ℤ cost))
+  pub place : IfSome best (λ plan. IsPlanPlaced t plan count c)
 
 -- ---- the list
 -- where a subproblem is in the list by what it is a part of
@@ -76,7 +76,7 @@ IsFrom all parts k None = k ≡ 0
 IsFrom all parts k (Some origin) = IsPartOf all parts k origin
 
 -- both parts of a split are in the list
-pub record HasParts (all : List Subproblem) (parts : ℕ → ℕ) (k : ℕ) (pair : Pair) : Type 0 where
+pub record HasSplitParts (all : List Subproblem) (parts : ℕ → ℕ) (k : ℕ) (pair : Pair) : Type 0 where
   pub within : suc (parts k) < length all
   pub with_pair : (at all (parts k)).origin ≡ Some (record { parent = k; step = step_into pair true })
   pub without : (at all (suc (parts k))).origin ≡ Some (record { parent = k; step = step_into pair false })
@@ -85,7 +85,7 @@ abbrev pub HasItsParts : List Subproblem → (ℕ → ℕ) → ℕ → State →
 HasItsParts all parts k (state.Leaf leaf) = ⊤
 HasItsParts all parts k (state.Stopped s) = ⊤
 HasItsParts all parts k (state.Waiting f) = ⊤
-HasItsParts all parts k (state.Split f) = HasParts all parts k f.pair
+HasItsParts all parts k (state.Split f) = HasSplitParts all parts k f.pair
 
 -- a subproblem is linked to what it is a part of, and to its own parts
 pub record IsLinked (all : List Subproblem) (parts : ℕ → ℕ) (k : ℕ) : Type 0 where
@@ -116,7 +116,7 @@ prices_above t made (Some origin) = prices_in t (made origin.parent).node
 
 -- what is known of the subproblem with a number, where the plan in the end has this cost
 abbrev pub IsRightAt : Tables → Option ℕ → Option ℤ → List Subproblem → Chronicle → ℕ → Type 0
-IsRightAt t pivots final all c k = IsRight t pivots final (c.made k).keeps (prices_above t c.made (at all k).origin) (at all k).state
+IsRightAt t pivots final all c k = IsRightState t pivots final (c.made k).keeps (prices_above t c.made (at all k).origin) (at all k).state
 
 -- while a search goes on, its leaves are of one node each
 abbrev pub IsSingle : State → Type 0
@@ -131,14 +131,14 @@ pub record IsSearch (t : Tables) (root : Domains) (s : Search) : Type 0 where
   pub within : s.splits ≤ s.nodes
   pub count : length s.made.items ≡ suc (s.splits + s.splits)
   pub chronicle : Chronicle
-  pub told : IsTold t s.best (length s.made.items) chronicle
+  pub told : IsChronicleTold t s.best (length s.made.items) chronicle
   pub numbered : (k : ℕ) → k < length s.made.items → IsNumbered t root s.made.items chronicle k
-  pub right : (final : Option ℤ) → IsNoMore (cost_of s.best) final → (k : ℕ) → k < length s.made.items → IsRightAt t s.pivots final s.made.items chronicle k
+  pub right : (final : Option ℤ) → IsNoMore (cost_of_plan s.best) final → (k : ℕ) → k < length s.made.items → IsRightAt t s.pivots final s.made.items chronicle k
   pub singles : (k : ℕ) → k < length s.made.items → IsSingle (at s.made.items k).state
   pub ranks : AreRanks s.made.items s.waiting.keys
 
 -- a search of which nothing more is split
-pub record IsDone (t : Tables) (nodes : ℕ) (pivots : Option ℕ) (root : Domains) (s : Search) : Type 0 where
+pub record IsSearchDone (t : Tables) (nodes : ℕ) (pivots : Option ℕ) (root : Domains) (s : Search) : Type 0 where
   pub search : IsSearch t root s
   pub splits_allowed : s.nodes ≡ nodes
   pub pivots_allowed : s.pivots ≡ pivots
@@ -183,7 +183,7 @@ pub record IsSplitSearch (before after : Search) (number : ℕ) (pair : Pair) (y
   pub best : after.best ≡ before.best
   pub splits : after.splits ≡ suc before.splits
   pub made : IsGrown before.made.items after.made.items number pair yes no
-  pub later : (rank : Rank) (rest : List Rank) → before.waiting.keys ≡ rank ∷ rest → All (ComesBefore rank) rest
+  pub later : (rank : Rank) (rest : List Rank) → before.waiting.keys ≡ rank ∷ rest → All (RankComesBefore rank) rest
   pub ranks : (rank : Rank) (rest : List Rank) → before.waiting.keys ≡ rank ∷ rest
       → after.waiting.keys ≡ ranks_with (ranks_with rest (length before.made.items) yes) (suc (length before.made.items)) no
 
@@ -200,13 +200,13 @@ IsReachedNode t cost keeps (node.Open prices why) = (worth : ℤ) → IsOpenWort
 IsReachedNode t cost keeps other = ⊤
 
 -- what a search comes to: its tree, and its cheapest plan
-pub record ComesTo (t : Tables) (nodes : ℕ) (pivots : Option ℕ) (root : Domains) (best : Option Plan) (tree : Tree) : Type 0 where
+pub record SearchComesTo (t : Tables) (nodes : ℕ) (pivots : Option ℕ) (root : Domains) (best : Option Plan) (tree : Tree) : Type 0 where
   pub plan : IfSome best (IsPlan t)
   pub splits : ℕ
   pub few : splits ≤ nodes
   pub count : ℕ
   pub twice : count ≡ suc (splits + splits)
   pub chronicle : Chronicle
-  pub told : IsTold t best count chronicle
-  pub grown : IsGrownTree t root pivots (cost_of best) count chronicle tree
-  pub over : (splits ≡ nodes) ⊎ ((k : ℕ) → k < count → IsReachedNode t (cost_of best) (chronicle.made k).keeps (chronicle.made k).node)
+  pub told : IsChronicleTold t best count chronicle
+  pub grown : IsGrownTree t root pivots (cost_of_plan best) count chronicle tree
+  pub over : (splits ≡ nodes) ⊎ ((k : ℕ) → k < count → IsReachedNode t (cost_of_plan best) (chronicle.made k).keeps (chronicle.made k).node)

@@ -5,7 +5,7 @@ use Rattle.std.specs.BTreeSet.{insert_key}
 use Rattle.std.specs.Ordering.{int_cmp, nat_cmp, ordering_then}
 use Rattle.std.specs.declared.cmp.Ordering.{Ordering}
 use Rattle.node_bounding.specs.Made.{IsNextBefore}
-use Rattle.node_bounding.specs.Subproblems.{cost_of}
+use Rattle.node_bounding.specs.Subproblems.{cost_of_plan}
 use Rattle.branch_bound.specs.Search.{at}
 use Rattle.branch_bound.specs.declared.ranks.Rank.{Rank}
 use Rattle.branch_bound.specs.declared.search.Search.{Search}
@@ -18,7 +18,7 @@ abbrev pub rank_cmp : Rank → Rank → Ordering
 rank_cmp a b = ordering_then (int_cmp a.worth b.worth) (nat_cmp a.number b.number)
 
 -- a rank comes before another
-pub record ComesBefore (rank other : Rank) : Type 0 where
+pub record RankComesBefore (rank other : Rank) : Type 0 where
   pub is : IsNextBefore rank.worth rank.number other.worth other.number
 
 -- a rank comes before another, or is the same
@@ -51,15 +51,15 @@ ranks_with ranks number (state.Split f) = ranks
 
 -- a split is allowed, and this is the first of the subproblems that wait; its rounded worth is below the cost of the
 -- cheapest plan
-pub record IsNext (s : Search) (rank : Rank) : Type 0 where
+pub record IsNextRank (s : Search) (rank : Rank) : Type 0 where
   pub room : s.splits < s.nodes
   pub head : slice_get s.waiting.keys 0 ≡ Some rank
   pub least : All (IsNoLater rank) s.waiting.keys
-  pub below : IfSome (cost_of s.best) (λ c. rank.worth <ℤ c)
+  pub below : IfSome (cost_of_plan s.best) (λ c. rank.worth <ℤ c)
 
 -- there is a plan that costs no more than the rounded worth of a rank
 pub record IsReachedBy (s : Search) (rank : Rank) : Type 0 where
-  pub cost : IsSomeAnd (cost_of s.best) (λ c. c ≤ℤ rank.worth)
+  pub cost : IsSomeAnd (cost_of_plan s.best) (λ c. c ≤ℤ rank.worth)
 
 -- nothing more is split: all splits are made, or the rounded worth of each subproblem that waits reaches the best cost
 abbrev pub IsOver : Search → Type 0

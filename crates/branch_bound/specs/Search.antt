@@ -11,11 +11,11 @@ use Rattle.node_bounding.specs.declared.states.State.TheVariants as state
 use Rattle.branch_bound.specs.declared.subproblems.Subproblem.{Subproblem}
 
 -- the subproblem with a number
-abbrev pub nothing : Subproblem
-nothing = record { origin = None; state = state.Leaf tree.Sole }
+abbrev pub no_subproblem : Subproblem
+no_subproblem = record { origin = None; state = state.Leaf tree.Sole }
 
 abbrev pub at : List Subproblem → ℕ → Subproblem
-at all k = slice_index_or all k nothing
+at all k = slice_index_or all k no_subproblem
 
 -- the step into a part by a pair
 abbrev pub step_into : Pair → Bool → Step
@@ -29,9 +29,9 @@ IsSplitBy step (state.Waiting f) = ⊥
 IsSplitBy step (state.Split f) = (step.leg ≡ f.pair.leg) × (step.choice ≡ f.pair.choice)
 
 -- a part was made after the subproblem that it is a part of, by a step of a pair of the tables
-pub record IsLater (t : Tables) (k : ℕ) (origin : Origin) : Type 0 where
+pub record IsMadeLater (t : Tables) (k : ℕ) (origin : Origin) : Type 0 where
   pub earlier : origin.parent < k
   pub pair : IsPair t (leg_on origin.step.leg origin.step.choice)
 
 pub record HaveOrigins (t : Tables) (all : List Subproblem) : Type 0 where
-  pub each : (k : ℕ) → k < length all → IfSome (at all k).origin (IsLater t k)
+  pub each : (k : ℕ) → k < length all → IfSome (at all k).origin (IsMadeLater t k)

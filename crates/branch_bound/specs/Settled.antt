@@ -4,15 +4,15 @@ use Rattle.fleet_model.specs.Kept.{all_pairs}
 use Rattle.fleet_model.specs.declared.tables.Tables.{Tables}
 use Rattle.dual_bound.specs.OfTables.{IsOfTables}
 use Rattle.dual_bound.specs.declared.trees.Tree.{Tree}
-use Rattle.cert_check.specs.Nodes.{nodes_of}
+use Rattle.cert_check.specs.Nodes.{nodes_of_tree}
 use Rattle.cert_check.specs.Verdicts.{AreSound}
 use Rattle.presolve.specs.Removals.{AreRefuted, AreRemovals, first_place, kept_after}
 use Rattle.presolve.specs.declared.trims.Trim.{Trim as Removal}
 use Rattle.node_bounding.specs.Closing.{closed_by}
 use Rattle.node_bounding.specs.Found.{AnswersSole, LeavesGap}
-use Rattle.branch_bound.specs.History.{ComesTo}
+use Rattle.branch_bound.specs.History.{SearchComesTo}
 use Rattle.node_bounding.specs.Trims.{AreBelow}
-use Rattle.node_bounding.specs.Subproblems.{IsPlan, cost_of}
+use Rattle.node_bounding.specs.Subproblems.{IsPlan, cost_of_plan}
 use Rattle.node_bounding.specs.declared.plans.Plan.{Plan}
 use Rattle.dual_bound.specs.declared.solved.Solved.{Solved}
 use Rattle.dual_bound.specs.declared.solved.Solved.TheVariants as solved
@@ -27,9 +27,9 @@ plan_of (solved.Unsettled bound tree) = None
 pub record IsProvedBy (t : Tables) (best : Option Plan) (tree : Tree) : Type 0 where
   pub plan : IfSome best (IsPlan t)
   pub known : IsOfTables t tree
-  pub sound : AreSound t (cost_of best) (all_pairs t) tree
-  pub soles : All (AnswersSole t (cost_of best)) (nodes_of t tree)
-  pub gaps : All (LeavesGap t (cost_of best)) (nodes_of t tree)
+  pub sound : AreSound t (cost_of_plan best) (all_pairs t) tree
+  pub soles : All (AnswersSole t (cost_of_plan best)) (nodes_of_tree t tree)
+  pub gaps : All (LeavesGap t (cost_of_plan best)) (nodes_of_tree t tree)
 
 -- The tree of all pairs as it would be with no open leaf closed, and the cheapest plan: below the removals it is that of a
 -- search with at most so many splits, and so many pivots for each subproblem.
@@ -39,10 +39,10 @@ pub record IsAllFound (t : Tables) (nodes : ℕ) (pivots : Option ℕ) (best : O
   pub rest : Tree
   pub below : AreBelow removals rest whole
   pub refuted : AreRefuted t (all_pairs t) removals
-  pub comes : ComesTo t nodes pivots (kept_after (all_pairs t) removals) best rest
+  pub comes : SearchComesTo t nodes pivots (kept_after (all_pairs t) removals) best rest
 
 -- the tree of all pairs, with each open leaf closed whose rounded worth reaches the cost of the cheapest plan
 pub record IsAllClosed (t : Tables) (nodes : ℕ) (pivots : Option ℕ) (best : Option Plan) (tree : Tree) : Type 0 where
   pub left : Tree
   pub found : IsAllFound t nodes pivots best left
-  pub closed : tree ≡ closed_by t (cost_of best) left
+  pub closed : tree ≡ closed_by t (cost_of_plan best) left

@@ -9,7 +9,7 @@ use Rattle.dual_bound.specs.Leaves.{has_open, open_nodes, open_pivots, splits_in
 use Rattle.dual_bound.specs.OfTables.{IsOfTables}
 use Rattle.dual_bound.specs.WrittenOrder.{InWrittenOrder, IsShallow}
 use Rattle.dual_bound.specs.declared.trees.Tree.{Tree}
-use Rattle.cert_check.specs.Nodes.{Node, nodes_of}
+use Rattle.cert_check.specs.Nodes.{Node, nodes_of_tree}
 use Rattle.cert_check.specs.Splits.{IsSplitWorth}
 use Rattle.cert_check.specs.Verdicts.{AreSound}
 use Rattle.node_bounding.specs.Causes.{AreCaused, zero_prices}
@@ -51,10 +51,10 @@ IsRight t (solved.Infeasible tree) = IsRefuted t tree
 IsRight t (solved.Unsettled bound tree) = IsUnsettled t bound tree
 
 -- the plan of a solution is found at a leaf of its tree
-abbrev pub IsFound : Tables → Solved → Type 0
-IsFound t (solved.Planned plan cost bound tree) = Any (IsFoundAt t plan cost) (nodes_of t tree)
-IsFound t (solved.Infeasible tree) = ⊤
-IsFound t (solved.Unsettled bound tree) = ⊤
+abbrev pub IsPlanFound : Tables → Solved → Type 0
+IsPlanFound t (solved.Planned plan cost bound tree) = Any (IsFoundAt t plan cost) (nodes_of_tree t tree)
+IsPlanFound t (solved.Infeasible tree) = ⊤
+IsPlanFound t (solved.Unsettled bound tree) = ⊤
 
 -- The tree as the search left it, with so many pivots allowed for each subproblem, whose cheapest plan has this cost. Its
 -- nodes keep all rules, its leaves and splits have their causes, its subproblems were made one by one, and in the end open
@@ -68,9 +68,9 @@ pub record IsLeft (t : Tables) (pivots : Option ℕ) (cost : Option ℤ) (tree :
 
 -- No split has a greater rounded worth than a leaf that is open for splits, or than the plan costs.
 pub record IsLeastFirst (t : Tables) (cost : Option ℤ) (tree : Tree) : Type 0 where
-  pub waiting : (split leaf : Node) (worth other : ℤ) → Contains (nodes_of t tree) split → Contains (nodes_of t tree) leaf
+  pub waiting : (split leaf : Node) (worth other : ℤ) → Contains (nodes_of_tree t tree) split → Contains (nodes_of_tree t tree) leaf
       → IsSplitWorth t split.keeps split.tree worth → IsWaitingWorth t leaf.keeps leaf.tree other → worth ≤ℤ other
-  pub within_cost : (split : Node) (worth : ℤ) → Contains (nodes_of t tree) split → IsSplitWorth t split.keeps split.tree worth → IfSome cost (λ c. worth ≤ℤ c)
+  pub within_cost : (split : Node) (worth : ℤ) → Contains (nodes_of_tree t tree) split → IsSplitWorth t split.keeps split.tree worth → IfSome cost (λ c. worth ≤ℤ c)
 
 -- A tree whose plan, if any, has this cost. It is of the tables, in written order and no deeper than a reader takes,
 -- and its nodes keep all rules. It has at most so many splits, and just so many where a leaf is open for them. Leaves
@@ -86,8 +86,8 @@ pub record IsTreeOf (t : Tables) (nodes : ℕ) (pivots : Option ℕ) (cost : Opt
   pub all_spent : 0 < open_nodes tree → splits_in tree ≡ nodes
   pub caused : AreCaused t pivots (all_pairs t) (zero_prices t) tree
   pub no_budget : pivots ≡ None → open_pivots tree ≡ 0
-  pub soles : All (AnswersSole t cost) (nodes_of t tree)
-  pub gaps : All (LeavesGap t cost) (nodes_of t tree)
+  pub soles : All (AnswersSole t cost) (nodes_of_tree t tree)
+  pub gaps : All (LeavesGap t cost) (nodes_of_tree t tree)
   pub trimmed : IsTrimmed t tree
   pub left : IsLeft t pivots cost tree
   pub least_first : IsLeastFirst t cost tree
@@ -96,4 +96,4 @@ pub record IsTreeOf (t : Tables) (nodes : ℕ) (pivots : Option ℕ) (cost : Opt
 pub record IsSolved (t : Tables) (nodes : ℕ) (pivots : Option ℕ) (s : Solved) : Type 0 where
   pub right : IsRight t s
   pub proved : IsTreeOf t nodes pivots (plan_cost s) (tree_of s)
-  pub found : IsFound t s
+  pub found : IsPlanFound t s

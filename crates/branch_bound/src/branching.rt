@@ -4,8 +4,8 @@ ghost use Rattle.fleet_model.specs.Kept.{kept_by, narrowed};
 ghost use Rattle.fleet_model.specs.Schedule.{IsPair, leg_on};
 ghost use Rattle.fleet_model.specs.Whole.{KeepAllowed};
 ghost use Rattle.node_bounding.specs.Examined.{IsExamined};
-ghost use Rattle.branch_bound.specs.History.{IsDone, IsPut, IsSearch, IsSplitSearch, WaitsWith};
-ghost use Rattle.branch_bound.specs.Ranks.{IsNext, IsOver, ranks_with};
+ghost use Rattle.branch_bound.specs.History.{IsPut, IsSearch, IsSearchDone, IsSplitSearch, WaitsWith};
+ghost use Rattle.branch_bound.specs.Ranks.{IsNextRank, IsOver, ranks_with};
 ghost use Rattle.node_bounding.specs.Subproblems.{IsPlan};
 ghost use Rattle.branch_bound.specs.Search.{at};
 ghost use Rattle.node_bounding.specs.Relaxed.{AreGood};
@@ -32,7 +32,7 @@ pub(crate) fn branch<S: EndFinder<Program>>(
     first: &Kept,
 ) -> Result<Search, NoMemory>
     requires { KeepAllowed tables.now (kept_by first.now) }
-    ensures { IfOk result (IsDone tables.now nodes pivots (kept_by first.now)) }
+    ensures { IfOk result (IsSearchDone tables.now nodes pivots (kept_by first.now)) }
 {
     let mut search = begun::<S>(alloc, tables, nodes, pivots, first)?;
     while let Some(rank) = next(&search) {
@@ -71,7 +71,7 @@ fn begun<S: EndFinder<Program>>(
 
 // The subproblem that is split next, unless nothing more is.
 fn next(search: &Search) -> Option<Rank>
-    ensures { MatchOption result (IsOver search.now) (IsNext search.now) }
+    ensures { MatchOption result (IsOver search.now) (IsNextRank search.now) }
 {
     if search.splits >= search.nodes {
         return None;
@@ -97,7 +97,7 @@ fn split_next<S: EndFinder<Program>>(
     rank: Rank,
 ) -> Result<(), NoMemory>
     requires search { IsSearch tables.now (kept_by first.now) search.old }
-    requires next { IsNext search.old rank }
+    requires next { IsNextRank search.old rank }
     ensures search { OnOk result (IsSearch tables.now (kept_by first.now) search.new) }
     ensures nodes { OnOk result (search.new.nodes ≡ search.old.nodes) }
     ensures pivots { OnOk result (search.new.pivots ≡ search.old.pivots) }

@@ -4,8 +4,8 @@ ghost use Rattle.std.specs.Prelude.{◌≡◌, ◌<◌, ℕ, suc, length, IfOk, 
 ghost use Rattle.dual_bound.specs.declared.trees.Tree.{Tree};
 ghost use Rattle.fleet_model.specs.Kept.{Domains};
 ghost use Rattle.fleet_model.specs.declared.tables.Tables.{Tables};
-ghost use Rattle.node_bounding.specs.Subproblems.{cost_of};
-ghost use Rattle.branch_bound.specs.Growing.{AreGathered, AreLinked, AreSingle, IsClosedTree, IsFolded, IsJoinedFrom, IsSplitState, leaf_by, tree_by};
+ghost use Rattle.node_bounding.specs.Subproblems.{cost_of_plan};
+ghost use Rattle.branch_bound.specs.Growing.{AreGathered, AreSingle, AreSplitsLinked, IsClosedTree, IsFolded, IsJoinedFrom, IsSplitState, leaf_by, tree_by};
 ghost use Rattle.branch_bound.specs.History.{Chronicle};
 ghost use Rattle.branch_bound.specs.Search.{at};
 
@@ -23,8 +23,8 @@ pub(crate) fn grown(
     made: Vec<Subproblem>,
     best: &Option<Plan>,
 ) -> Result<Tree, NoMemory>
-    requires { AreLinked made.items }
-    ensures { IfOk result (λ tree. (t : Tables) (root : Domains) (pivots : Option ℕ) (count : ℕ) (c : Chronicle) → AreGathered t root pivots (cost_of best.now) count c made.items → AreSingle made.items → IsClosedTree t root pivots (cost_of best.now) count c tree) }
+    requires { AreSplitsLinked made.items }
+    ensures { IfOk result (λ tree. (t : Tables) (root : Domains) (pivots : Option ℕ) (count : ℕ) (c : Chronicle) → AreGathered t root pivots (cost_of_plan best.now) count c made.items → AreSingle made.items → IsClosedTree t root pivots (cost_of_plan best.now) count c tree) }
 {
     let mut rest = made;
     while let Some(last) = rest.pop() {
@@ -47,7 +47,7 @@ fn fold(
 ) -> Result<(), NoMemory>
     requires parent { suc parent < length rest.old.items }
     requires split { IsSplitState (at rest.old.items parent).state }
-    ensures { OnOk result (IsFolded (tree_by (cost_of best.now)) rest.old.items rest.new.items parent without) }
+    ensures { OnOk result (IsFolded (tree_by (cost_of_plan best.now)) rest.old.items rest.new.items parent without) }
 {
     match rest.pop() {
         Some(with_pair) => {
@@ -81,7 +81,7 @@ fn joined(alloc: Global, state: State, with_pair: Tree, without: Tree) -> Result
 // The tree of a subproblem whose parts, if any, were put into it: one that stays open, or still waits, is open, unless the
 // cost of the plan closes it.
 fn tree_of(state: State, best: &Option<Plan>) -> Tree
-    ensures { result ≡ tree_by (cost_of best.now) state }
+    ensures { result ≡ tree_by (cost_of_plan best.now) state }
 {
     match state {
         State::Leaf(tree) => tree,
@@ -95,7 +95,7 @@ fn tree_of(state: State, best: &Option<Plan>) -> Tree
 
 // A leaf with prices of this rounded worth: it is open, unless the worth reaches the cost of the plan.
 fn leaf(prices: Prices, why: Cause, worth: &i128, best: &Option<Plan>) -> Tree
-    ensures { result ≡ leaf_by (cost_of best.now) worth.now prices why }
+    ensures { result ≡ leaf_by (cost_of_plan best.now) worth.now prices why }
 {
     if is_reached(worth, best) {
         Tree::Priced(prices)

@@ -12,10 +12,10 @@ use Rattle.dual_bound.specs.Prices.{ArePrices, AreWithin, NeverRise, RiseByRent}
 use Rattle.dual_bound.specs.Worth.{worth_of}
 use Rattle.dual_bound.specs.declared.mixed.Mixed.{Mixed}
 use Rattle.dual_bound.specs.declared.prices.Prices.{Prices}
-use Rattle.dual_bound.specs.Fractions.{AreParts, IsMixedAt}
+use Rattle.dual_bound.specs.Fractions.{AreMixedParts, IsMixedAt}
 use Rattle.cert_check.specs.Nodes.{Node, prices_at}
 use Rattle.plan_judge.specs.Sizes.{IsLegalAt}
-use Rattle.cert_check.specs.Rules.{HasScale, IsSoleLegal, IsSound, KeepsBefore, Reaches}
+use Rattle.cert_check.specs.Rules.{HasScale, IsSoleLegal, IsSound, KeepsBefore, ReachesCost}
 use Rattle.cert_check.specs.declared.rules.Rule.TheVariants as rule
 
 -- prices are proper where they keep the first four rules
@@ -37,7 +37,7 @@ pub one_on_more : (count : ℕ → ℕ) (n : ℕ) → ((m : ℕ) → m < n → c
 one_on_more count n before here m below = grind arith
 
 pub reached : (t : Tables) (keeps : Domains) (prices : Prices) (cost least : ℤ) (b : Bool) → pos 1 ≤ℤ prices.scale → IsCeiling (worth_of t keeps prices 1) prices.scale least
-    → MatchBool b (cost ≤ℤ least) (least <ℤ cost) → MatchBool b (Reaches t keeps prices cost) (¬ (Reaches t keeps prices cost))
+    → MatchBool b (cost ≤ℤ least) (least <ℤ cost) → MatchBool b (ReachesCost t keeps prices cost) (¬ (ReachesCost t keeps prices cost))
 reached t keeps prices cost least true some rounded test = record { least = least; rounded = rounded; reaches = test }
 reached t keeps prices cost least false some rounded test =
     λ other. absurd (omega (arith, ints, test, other.reaches, same_ceiling _ _ other.least least some other.rounded rounded))
@@ -76,6 +76,6 @@ pub prices_known : (t : Tables) (cost : Option ℤ) (node : Node) (prices : Pric
 prices_known t cost node prices sound e = rw e at (sound_proper t cost node sound)
 
 -- a fractional assignment of a subproblem has its parts within their limits
-pub parts_within : (t : Tables) (keeps : Domains) (o : Option Mixed) → IfSome o (IsMixedAt t keeps) → IfSome o (AreParts t)
+pub parts_within : (t : Tables) (keeps : Domains) (o : Option Mixed) → IfSome o (IsMixedAt t keeps) → IfSome o (AreMixedParts t)
 parts_within t keeps None is = tt
 parts_within t keeps (Some mixed) is = is.parts

@@ -10,7 +10,7 @@ use Rattle.dual_bound.specs.Leaves.{held_count}
 use Rattle.dual_bound.specs.Nodes.{nodes_of}
 use Rattle.dual_bound.specs.declared.trees.Tree.{Tree}
 use Rattle.cert_check.specs.Nodes.{Node, nodes_in}
-use Rattle.cert_check.specs.OtherSizes.{IsAsked, IsFallenAt, Stands, StandsWith, answer_of}
+use Rattle.cert_check.specs.OtherSizes.{IsAskedOfTree, IsFallenAt, Stands, StandsWith, answer_of}
 use Rattle.cert_check.specs.Rules.{IsSoundBut}
 use Rattle.cert_check.specs.Splits.{AreSoundButPriced}
 use Rattle.cert_check.specs.declared.rules.Rule.TheVariants as rule
@@ -59,7 +59,7 @@ module _ (u : Tables) where
     stands_not b found stands =
         none_fallen (nodes_in (all_pairs u) y) 1 found (all_same u None (Stands u) stands_too (nodes_in (all_pairs u) x) (nodes_in (all_pairs u) y) (same_nodes u None (all_pairs u) x y same) stands.stand)
 
-    by_answer : (a b : WhatIf) → IsAsked u x a → IsAsked u y b → a ≡ b
+    by_answer : (a b : WhatIf) → IsAskedOfTree u x a → IsAskedOfTree u y b → a ≡ b
     by_answer (what.Fallen n) (what.Fallen m) first second = ap what.Fallen (one_fallen (nodes_in (all_pairs u) x) (nodes_in (all_pairs u) y) 1 n m (same_nodes u None (all_pairs u) x y same) first second)
     by_answer (what.Fallen n) what.NoPlan first second = absurd (falls_not n None first second)
     by_answer (what.Fallen n) (what.Bound least) first second = absurd (falls_not n (Some least) first second)
@@ -72,7 +72,7 @@ module _ (u : Tables) where
 
 -- on tables of another size of those on which the tree was judged
 pub one_asked : (t : Tables) (fleet count : ℕ) (u : Tables) → IsOtherSize t fleet count u → (x y : Tree) (a b : WhatIf) → nodes_of x ≡ nodes_of y → AreSoundButPriced t (all_pairs t) y
-    → IsAsked u x a → IsAsked u y b → a ≡ b
+    → IsAskedOfTree u x a → IsAskedOfTree u y b → a ≡ b
 one_asked t fleet count u is x y a b e sound first second = by_answer u x y (same_by_nodes x y e) (same_by_nodes y x (sym e)) single a b first second
   where
     single_there : (one : Node) → IsSoundBut t None rule.Priced one → IsSingle u one

@@ -17,7 +17,7 @@ use Rattle.dual_bound.specs.declared.trees.Tree.{Tree}
 use Rattle.dual_bound.specs.declared.trees.Tree.TheVariants as tree
 use Rattle.cert_check.specs.Nodes.{Node, nodes_in, prices_at}
 use Rattle.dual_bound.specs.Prices.{IsScale}
-use Rattle.cert_check.specs.Rules.{HasScale, IsFirstBroken, IsFirstFault, IsSound, number_of}
+use Rattle.cert_check.specs.Rules.{HasScale, IsFirstBroken, IsFirstBrokenRule, IsSound, rule_number}
 use Rattle.cert_check.specs.Verdicts.{AreSound, BreaksAt, HoldsWith, IsChecked}
 use Rattle.cert_check.specs.declared.checked.Checked.{Checked}
 use Rattle.cert_check.specs.declared.checked.Checked.TheVariants as checked
@@ -102,11 +102,11 @@ module _ (t : Tables) (cost : Option ℤ) where
 
   -- ---- one first fault
 
-  sound_or_not : (n m : Node) (one : Rule) → SameNode t cost n m → IsSound t cost n → ¬ (IsFirstFault t cost m one)
+  sound_or_not : (n m : Node) (one : Rule) → SameNode t cost n m → IsSound t cost n → ¬ (IsFirstBrokenRule t cost m one)
   sound_or_not n m one same sound fault = fault.broken ((same_sound t cost n m same sound).each one)
 
-  one_rule : (n m : Node) (one other : Rule) → SameNode t cost n m → IsFirstFault t cost n one → IsFirstFault t cost m other → number_of one ≡ number_of other
-  one_rule n m one other same x y = elim (cases_order (number_of one) (number_of other)) [
+  one_rule : (n m : Node) (one other : Rule) → SameNode t cost n m → IsFirstBrokenRule t cost n one → IsFirstBrokenRule t cost m other → rule_number one ≡ rule_number other
+  one_rule n m one other same x y = elim (cases_order (rule_number one) (rule_number other)) [
     | inl equal ↦ equal
     | inr differ ↦ elim differ [
       | inl before ↦ absurd (x.broken (same_keeps t cost m n (same_node_back t cost n m same) one (y.before.each one before)))
@@ -117,10 +117,10 @@ module _ (t : Tables) (cost : Option ℤ) where
   -- the first broken nodes of two lists of the same nodes stand at one place and break one rule first
   pub record SameFault (place other : ℕ) (one two : Rule) : Type 0 where
     pub places : place ≡ other
-    pub rules_are : number_of one ≡ number_of two
+    pub rules_are : rule_number one ≡ rule_number two
 
   one_place : (front past back behind : List Node) (n m : Node) (one two : Rule) → AllZip (SameNode t cost) (front ++ n ∷ past) (back ++ m ∷ behind)
-      → All (IsSound t cost) front → All (IsSound t cost) back → IsFirstFault t cost n one → IsFirstFault t cost m two → SameFault (length front) (length back) one two
+      → All (IsSound t cost) front → All (IsSound t cost) back → IsFirstBrokenRule t cost n one → IsFirstBrokenRule t cost m two → SameFault (length front) (length back) one two
   one_place [] past [] behind n m one two same sound good x y = record { places = refl; rules_are = one_rule n m one two same.0 x y }
   one_place [] past (k ∷ back) behind n m one two same sound good x y =
       absurd (sound_or_not k n one (same_node_back t cost n k same.0) (All-head (IsSound t cost) k back good) x)

@@ -27,7 +27,7 @@ use Rattle.dual_bound.specs.declared.trees.Tree.{Tree}
 use Rattle.dual_bound.specs.declared.trees.Tree.TheVariants as tree
 use Rattle.dual_bound.proofs.TablesBy.{Fits, tables_by}
 use Rattle.cert_check.specs.Nodes.{Node, mixed_at, mixed_of, nodes_in, prices_at}
-use Rattle.cert_check.specs.Rules.{EndsAtOnce, HasFraction, HasItsPairs, HasParts, IsPricedAt, IsRefutedAt, IsSoleLegal, Keeps, OneEnds, Reaches}
+use Rattle.cert_check.specs.Rules.{EndsAtOnce, HasFraction, HasItsPairs, HasParts, IsPricedAt, IsRefutedAt, IsSoleLegal, Keeps, OneEnds, ReachesCost}
 use Rattle.cert_check.specs.Verdicts.{HoldsWith}
 use Rattle.cert_check.specs.declared.rules.Rule.{Rule}
 use Rattle.cert_check.specs.declared.rules.Rule.TheVariants as rule
@@ -116,7 +116,7 @@ module _ (s : List Station) (f : List Fleet) (l : List Leg) (c : List PairCost) 
   unfolding period_of
   rise a b prices are = record { each = are.each }
 
-  reaches : (a b : Settled) (keeps : Domains) (prices : Prices) (cost : ℤ) → Reaches (by a) keeps prices cost → Reaches (by b) keeps prices cost
+  reaches : (a b : Settled) (keeps : Domains) (prices : Prices) (cost : ℤ) → ReachesCost (by a) keeps prices cost → ReachesCost (by b) keeps prices cost
   unfolding leg_worth worth_of less_charges period_of days_in parking_of choices_in cost_of departure slot_by fleet_by
   reaches a b keeps prices cost is = record { least = is.least; rounded = is.rounded; reaches = is.reaches }
 
@@ -159,7 +159,7 @@ module _ (s : List Station) (f : List Fleet) (l : List Leg) (c : List PairCost) 
   refuted a b keeps (tree.Split' leg choice prices m p with_pair q without) is = is
 
   priced : (a b : Settled) (cost : Option ℤ) (keeps : Domains) (v : Tree) → IsPricedAt (by a) cost keeps v → IsPricedAt (by b) cost keeps v
-  priced a b cost keeps (tree.Priced prices) is = some_and cost (Reaches (by a) keeps prices) (Reaches (by b) keeps prices) (reaches a b keeps prices) is
+  priced a b cost keeps (tree.Priced prices) is = some_and cost (ReachesCost (by a) keeps prices) (ReachesCost (by b) keeps prices) (reaches a b keeps prices) is
   priced a b cost keeps (tree.Bare leg) is = is
   priced a b cost keeps tree.Sole is = is
   priced a b cost keeps (tree.Refuted prices) is = is

@@ -11,7 +11,7 @@ use Rattle.dual_bound.specs.declared.prices.Prices.{Prices}
 use Rattle.dual_bound.specs.declared.trees.Tree.{Tree}
 use Rattle.dual_bound.specs.declared.trees.Tree.TheVariants as tree
 use Rattle.dual_bound.proofs.OtherSizes.{prices_same}
-use Rattle.cert_check.specs.Nodes.{Node, nodes_in, nodes_of, prices_at}
+use Rattle.cert_check.specs.Nodes.{Node, nodes_in, nodes_of_tree, prices_at}
 use Rattle.cert_check.specs.OtherSizes.{Stands}
 use Rattle.plan_judge.specs.Sizes.{IsLegalAt}
 use Rattle.cert_check.specs.Rules.{IsSoundBut}
@@ -54,7 +54,7 @@ module _ (t : Tables) (fleet count : ℕ) (u : Tables) (is : IsOtherSize t fleet
   }
 
   -- where all nodes stand, the bound of the tree is one of all legal assignments
-  pub bounds_there : (whole : Tree) (bound : Option ℤ) → AreSoundButPriced t (all_pairs t) whole → All (Stands u) (nodes_of u whole) → IsBound u whole bound → BoundsAll u bound
+  pub bounds_there : (whole : Tree) (bound : Option ℤ) → AreSoundButPriced t (all_pairs t) whole → All (Stands u) (nodes_of_tree u whole) → IsBound u whole bound → BoundsAll u bound
   bounds_there whole bound sound stand bounded = bounds_by u (all_pairs u) whole bound refl (λ k d below. node_there _ (all k d below) (stand k d below)) bounded
     where
       all : All (IsSoundBut t None rule.Priced) (nodes_in (all_pairs u) whole)

@@ -11,7 +11,7 @@ use Rattle.fleet_model.specs.Schedule.{fleets_in, last_of, period_of, stations_i
 use Rattle.fleet_model.specs.declared.tables.Tables.{Tables}
 use Rattle.fleet_model.proofs.PeriodMinutes.{last_in}
 use Rattle.dual_bound.specs.OfTables.{ArePricesOf}
-use Rattle.dual_bound.specs.Prices.{AreCharges, AreRents, AreWithin, IsPrice, IsRent, NeverRise, RiseByRent, RisesOverEnd, has_come, price_after, price_of, rent_of, with_charge}
+use Rattle.dual_bound.specs.Prices.{AreCharges, AreRents, AreWithin, IsPrice, IsRent, NeverRise, RiseByRent, RisesOverEnd, price_after, price_of, rent_of, step_has_come, with_charge}
 use Rattle.dual_bound.specs.Rising.{no_step, step_at}
 use Rattle.dual_bound.specs.declared.prices.Prices.{Prices}
 use Rattle.dual_bound.specs.declared.prices.PriceStep.{PriceStep}
@@ -49,10 +49,10 @@ module _ (P : PriceStep → Type 0) (f s : ℕ) where
       → ((step : PriceStep) × IsAtMinute P f s (m + 1) step) ⊎ (price_after v steps f s (m + 1) ≡ price_after v steps f s m)
   unfolding price_after
   stands_or_stays m [] v all = inr refl
-  stands_or_stays m (step ∷ steps) v all = by_test (λ w. stands_or_stays m steps w (All-tail P step steps all)) (has_come step f s (m + 1)) (has_come step f s m) refl refl
+  stands_or_stays m (step ∷ steps) v all = by_test (λ w. stands_or_stays m steps w (All-tail P step steps all)) (step_has_come step f s (m + 1)) (step_has_come step f s m) refl refl
     where
       by_test : ((w : ℤ) → ((other : PriceStep) × IsAtMinute P f s (m + 1) other) ⊎ (price_after w steps f s (m + 1) ≡ price_after w steps f s m))
-          → (b c : Bool) → has_come step f s (m + 1) ≡ b → has_come step f s m ≡ c
+          → (b c : Bool) → step_has_come step f s (m + 1) ≡ b → step_has_come step f s m ≡ c
           → ((step : PriceStep) × IsAtMinute P f s (m + 1) step) ⊎ (price_after (if b then step.value else v) steps f s (m + 1) ≡ price_after (if c then step.value else v) steps f s m)
       by_test later true true e g = later step.value
       by_test later false false e g = later v
@@ -66,9 +66,9 @@ module _ (P : PriceStep → Type 0) (f s : ℕ) where
       → ((step : PriceStep) × IsAtMinute P f s 0 step) ⊎ (price_after v steps f s 0 ≡ v)
   unfolding price_after
   stands_or_begins [] v all = inr refl
-  stands_or_begins (step ∷ steps) v all = by_test (stands_or_begins steps v (All-tail P step steps all)) (has_come step f s 0) refl
+  stands_or_begins (step ∷ steps) v all = by_test (stands_or_begins steps v (All-tail P step steps all)) (step_has_come step f s 0) refl
     where
-      by_test : ((other : PriceStep) × IsAtMinute P f s 0 other) ⊎ (price_after v steps f s 0 ≡ v) → (b : Bool) → has_come step f s 0 ≡ b
+      by_test : ((other : PriceStep) × IsAtMinute P f s 0 other) ⊎ (price_after v steps f s 0 ≡ v) → (b : Bool) → step_has_come step f s 0 ≡ b
           → ((step : PriceStep) × IsAtMinute P f s 0 step) ⊎ (price_after (if b then step.value else v) steps f s 0 ≡ v)
       by_test later false e = later
       by_test later true e =
@@ -80,9 +80,9 @@ module _ (P : PriceStep → Type 0) (f s : ℕ) where
       → ((step : PriceStep) × IsAt P f s step) ⊎ (price_after v steps f s m ≡ v)
   unfolding price_after
   some_or_none m [] v all = inr refl
-  some_or_none m (step ∷ steps) v all = by_test (some_or_none m steps v (All-tail P step steps all)) (has_come step f s m) refl
+  some_or_none m (step ∷ steps) v all = by_test (some_or_none m steps v (All-tail P step steps all)) (step_has_come step f s m) refl
     where
-      by_test : ((other : PriceStep) × IsAt P f s other) ⊎ (price_after v steps f s m ≡ v) → (b : Bool) → has_come step f s m ≡ b
+      by_test : ((other : PriceStep) × IsAt P f s other) ⊎ (price_after v steps f s m ≡ v) → (b : Bool) → step_has_come step f s m ≡ b
           → ((step : PriceStep) × IsAt P f s step) ⊎ (price_after (if b then step.value else v) steps f s m ≡ v)
       by_test later false e = later
       by_test later true e =

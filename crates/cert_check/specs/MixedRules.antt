@@ -35,13 +35,13 @@ abbrev pub UsesNoMore : Tables → Mixed → Type 0
 UsesNoMore t mixed = (f : ℕ) → f < fleets_in t → used_of t (parts_in mixed) f ≤ parts_of_leg mixed * (fleet_of t f).aircraft
 
 -- at the end of a day no more aircraft stand at a station than may, so many parts each
-abbrev pub HasRoomOn : Tables → Mixed → ℕ → ℕ → Type 0
-HasRoomOn t mixed s d = (limit : ℕ) → parking_of t s ≡ Some limit → parked t (parts_in mixed) s d ≤ parts_of_leg mixed * limit
+abbrev pub HasMixedRoomOn : Tables → Mixed → ℕ → ℕ → Type 0
+HasMixedRoomOn t mixed s d = (limit : ℕ) → parking_of t s ≡ Some limit → parked t (parts_in mixed) s d ≤ parts_of_leg mixed * limit
 
 -- at the end of each of the first days no more than so many parts of aircraft stand there
-abbrev pub HasRoomUntil : Tables → Mixed → ℕ → ℕ → ℕ → Type 0
-HasRoomUntil t mixed s most days = (d : ℕ) → 0 < d → d ≤ days → parked t (parts_in mixed) s d ≤ most
+abbrev pub HasMixedRoomUntil : Tables → Mixed → ℕ → ℕ → ℕ → Type 0
+HasMixedRoomUntil t mixed s most days = (d : ℕ) → 0 < d → d ≤ days → parked t (parts_in mixed) s d ≤ most
 
 -- .. of each day
-abbrev pub HasRoomAt : Tables → Mixed → ℕ → ℕ → Type 0
-HasRoomAt t mixed s most = HasRoomUntil t mixed s most (days_in t)
+abbrev pub HasMixedRoomAt : Tables → Mixed → ℕ → ℕ → Type 0
+HasMixedRoomAt t mixed s most = HasMixedRoomUntil t mixed s most (days_in t)

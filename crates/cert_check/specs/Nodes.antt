@@ -27,8 +27,8 @@ nodes_in keeps (tree.Split' leg choice prices mixed p with_pair q without) =
 nodes_in keeps leaf = record { keeps = keeps; tree = leaf } ∷ []
 
 -- the nodes of a tree over all pairs that may be flown
-abbrev pub nodes_of : Tables → Tree → List Node
-nodes_of t tree = nodes_in (all_pairs t) tree
+abbrev pub nodes_of_tree : Tables → Tree → List Node
+nodes_of_tree t tree = nodes_in (all_pairs t) tree
 
 -- the nodes below a trim or a split by a pair
 abbrev pub nodes_below : Domains → Pair → Tree → Tree → List Node

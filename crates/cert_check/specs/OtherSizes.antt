@@ -6,7 +6,7 @@ use Rattle.fleet_model.specs.Schedule.{fleet_of}
 use Rattle.dual_bound.specs.Bound.{IsBound, IsInfeasible, IsLowerBound}
 use Rattle.dual_bound.specs.Leaves.{held_count}
 use Rattle.dual_bound.specs.declared.trees.Tree.{Tree}
-use Rattle.cert_check.specs.Nodes.{Node, nodes_of}
+use Rattle.cert_check.specs.Nodes.{Node, nodes_of_tree}
 use Rattle.cert_check.specs.Rules.{IsRefutedAt}
 use Rattle.cert_check.specs.Verdicts.{HoldsWith}
 use Rattle.cert_check.specs.declared.what_if.WhatIf.{WhatIf}
@@ -34,14 +34,14 @@ pub record IsFallenAt (u : Tables) (nodes : List Node) (number found : ℕ) : Ty
 
 -- all nodes of a tree stand, and this is its bound
 pub record StandsWith (u : Tables) (tree : Tree) (bound : Option ℤ) : Type 0 where
-  pub stand : All (Stands u) (nodes_of u tree)
+  pub stand : All (Stands u) (nodes_of_tree u tree)
   pub bounded : IsBound u tree bound
 
 -- what is answered of a tree
-abbrev pub IsAsked : Tables → Tree → WhatIf → Type 0
-IsAsked u tree (what.Fallen node) = IsFallenAt u (nodes_of u tree) 1 node
-IsAsked u tree what.NoPlan = StandsWith u tree None
-IsAsked u tree (what.Bound bound) = StandsWith u tree (Some bound)
+abbrev pub IsAskedOfTree : Tables → Tree → WhatIf → Type 0
+IsAskedOfTree u tree (what.Fallen node) = IsFallenAt u (nodes_of_tree u tree) 1 node
+IsAskedOfTree u tree what.NoPlan = StandsWith u tree None
+IsAskedOfTree u tree (what.Bound bound) = StandsWith u tree (Some bound)
 
 -- what an answer says of all assignments: none is legal, or each legal one costs at least so much
 abbrev pub IsProofOf : Tables → WhatIf → Type 0
@@ -57,4 +57,4 @@ answer_of (Some bound) = what.Bound bound
 -- asked by a fleet's own number of aircraft, a tree that holds has the bound with which it holds
 abbrev pub OwnNumberIsChecked : Type 0
 OwnNumberIsChecked = (t : Tables) (cost bound : Option ℤ) (fleet : ℕ) (tree : Tree) (answer : WhatIf) → HoldsWith t cost tree bound
-    → ((u : Tables) → IsOtherSize t fleet (fleet_of t fleet).aircraft u → IsAsked u tree answer) → answer ≡ answer_of bound
+    → ((u : Tables) → IsOtherSize t fleet (fleet_of t fleet).aircraft u → IsAskedOfTree u tree answer) → answer ≡ answer_of bound

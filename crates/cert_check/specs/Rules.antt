@@ -40,14 +40,14 @@ IsRefutedAt t keeps (tree.Refuted prices) = pos 0 <ℤ worth_of t keeps prices 0
 IsRefutedAt t keeps other = ⊤
 
 -- the rounded worth of prices reaches a cost
-pub record Reaches (t : Tables) (keeps : Domains) (prices : Prices) (cost : ℤ) : Type 0 where
+pub record ReachesCost (t : Tables) (keeps : Domains) (prices : Prices) (cost : ℤ) : Type 0 where
   pub least : ℤ
   pub rounded : IsCeiling (worth_of t keeps prices 1) prices.scale least
   pub reaches : cost ≤ℤ least
 
 -- at a priced leaf there is a plan, and the rounded worth of the prices reaches its cost
 abbrev pub IsPricedAt : Tables → Option ℤ → Domains → Tree → Type 0
-IsPricedAt t cost keeps (tree.Priced prices) = IsSomeAnd cost (Reaches t keeps prices)
+IsPricedAt t cost keeps (tree.Priced prices) = IsSomeAnd cost (ReachesCost t keeps prices)
 IsPricedAt t cost keeps other = ⊤
 
 -- each leg keeps one choice, and that assignment is legal
@@ -103,21 +103,21 @@ Keeps t cost node rule.Mixed = IfSome (mixed_at node.tree) (IsMixedAt t node.kee
 Keeps t cost node rule.Fraction = HasFraction t node.keeps node.tree
 
 -- the number of a rule
-abbrev pub number_of : Rule → ℕ
-number_of rule.Scale = 1
-number_of rule.Limits = 2
-number_of rule.Fall = 3
-number_of rule.Rent = 4
-number_of rule.Pairs = 5
-number_of rule.Refuted = 6
-number_of rule.Priced = 7
-number_of rule.Parts = 8
-number_of rule.Mixed = 9
-number_of rule.Fraction = 10
+abbrev pub rule_number : Rule → ℕ
+rule_number rule.Scale = 1
+rule_number rule.Limits = 2
+rule_number rule.Fall = 3
+rule_number rule.Rent = 4
+rule_number rule.Pairs = 5
+rule_number rule.Refuted = 6
+rule_number rule.Priced = 7
+rule_number rule.Parts = 8
+rule_number rule.Mixed = 9
+rule_number rule.Fraction = 10
 
 -- a node keeps all rules before one
 pub record KeepsBefore (t : Tables) (cost : Option ℤ) (node : Node) (bound : ℕ) : Type 0 where
-  pub each : (other : Rule) → number_of other < bound → Keeps t cost node other
+  pub each : (other : Rule) → rule_number other < bound → Keeps t cost node other
 
 -- a node keeps all rules
 pub record IsSound (t : Tables) (cost : Option ℤ) (node : Node) : Type 0 where
@@ -128,8 +128,8 @@ pub record IsSoundBut (t : Tables) (cost : Option ℤ) (but : Rule) (node : Node
   pub each : (rule : Rule) → rule ≢ but → Keeps t cost node rule
 
 -- the first rule that a node breaks
-pub record IsFirstFault (t : Tables) (cost : Option ℤ) (node : Node) (rule : Rule) : Type 0 where
-  pub before : KeepsBefore t cost node (number_of rule)
+pub record IsFirstBrokenRule (t : Tables) (cost : Option ℤ) (node : Node) (rule : Rule) : Type 0 where
+  pub before : KeepsBefore t cost node (rule_number rule)
   pub broken : ¬ (Keeps t cost node rule)
 
 -- the first of some nodes that breaks a rule, by its place from 0, and the first rule that it breaks
@@ -140,4 +140,4 @@ pub record IsFirstBroken (t : Tables) (cost : Option ℤ) (nodes : List Node) (p
   pub order : nodes ≡ before ++ node ∷ after
   pub sound : All (IsSound t cost) before
   pub there : place ≡ length before
-  pub fault : IsFirstFault t cost node rule
+  pub fault : IsFirstBrokenRule t cost node rule

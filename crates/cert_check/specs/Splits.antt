@@ -7,7 +7,7 @@ use Rattle.dual_bound.specs.Leaves.{held_count}
 use Rattle.dual_bound.specs.Worth.{worth_of}
 use Rattle.dual_bound.specs.declared.trees.Tree.{Tree}
 use Rattle.dual_bound.specs.declared.trees.Tree.TheVariants as tree
-use Rattle.cert_check.specs.Nodes.{Node, nodes_in, nodes_of}
+use Rattle.cert_check.specs.Nodes.{Node, nodes_in, nodes_of_tree}
 use Rattle.cert_check.specs.Rules.{IsSoundBut}
 use Rattle.cert_check.specs.declared.rules.Rule.TheVariants as rule
 
@@ -32,7 +32,7 @@ pub record IsNoneAbove (t : Tables) (cost : ℤ) (node : Node) : Type 0 where
 
 -- no split of a tree is above a cost
 abbrev pub NoSplitIsAbove : Tables → ℤ → Tree → Type 0
-NoSplitIsAbove t cost tree = All (IsNoneAbove t cost) (nodes_of t tree)
+NoSplitIsAbove t cost tree = All (IsNoneAbove t cost) (nodes_of_tree t tree)
 
 -- the first split above a cost of some nodes, by its place from 0
 pub record IsFirstAbove (t : Tables) (cost : ℤ) (nodes : List Node) (place : ℕ) : Type 0 where
@@ -52,4 +52,4 @@ pub record IsAboveAt (t : Tables) (cost : ℤ) (nodes : List Node) (number found
 
 -- the number of the first split of a tree that is above a cost
 abbrev pub IsFirstSplitAbove : Tables → ℤ → Tree → ℕ → Type 0
-IsFirstSplitAbove t cost tree found = IsAboveAt t cost (nodes_of t tree) 1 found
+IsFirstSplitAbove t cost tree found = IsAboveAt t cost (nodes_of_tree t tree) 1 found

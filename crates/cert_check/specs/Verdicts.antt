@@ -5,8 +5,8 @@ use Rattle.fleet_model.specs.declared.tables.Tables.{Tables}
 use Rattle.dual_bound.specs.Bound.{IsBound, IsInfeasible, IsLowerBound}
 use Rattle.dual_bound.specs.Leaves.{held_count}
 use Rattle.dual_bound.specs.declared.trees.Tree.{Tree}
-use Rattle.cert_check.specs.Nodes.{nodes_in, nodes_of}
-use Rattle.cert_check.specs.Rules.{IsFirstBroken, IsSound, number_of}
+use Rattle.cert_check.specs.Nodes.{nodes_in, nodes_of_tree}
+use Rattle.cert_check.specs.Rules.{IsFirstBroken, IsSound, rule_number}
 use Rattle.cert_check.specs.declared.checked.Checked.{Checked}
 use Rattle.cert_check.specs.declared.checked.Checked.TheVariants as checked
 use Rattle.cert_check.specs.declared.rules.Rule.{Rule}
@@ -24,9 +24,9 @@ pub record HoldsWith (t : Tables) (cost : Option ℤ) (tree : Tree) (bound : Opt
 pub record BreaksAt (t : Tables) (cost : Option ℤ) (tree : Tree) (node number : ℕ) : Type 0 where
   pub place : ℕ
   pub rule : Rule
-  pub first : IsFirstBroken t cost (nodes_of t tree) place rule
+  pub first : IsFirstBroken t cost (nodes_of_tree t tree) place rule
   pub node_is : node ≡ held_count (1 + place)
-  pub rule_is : number ≡ number_of rule
+  pub rule_is : number ≡ rule_number rule
 
 -- what the checker says of a tree that comes with a plan of this cost, or with none
 abbrev pub IsChecked : Tables → Option ℤ → Tree → Checked → Type 0

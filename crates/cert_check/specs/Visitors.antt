@@ -5,7 +5,7 @@ use Rattle.fleet_model.specs.declared.sizes.Sizes.{Sizes}
 use Rattle.fleet_model.specs.declared.tables.Tables.{Tables}
 use Rattle.cert_check.specs.Nodes.{Node}
 use Rattle.cert_check.specs.OtherSizes.{Stands}
-use Rattle.cert_check.specs.Rules.{IsFirstFault, IsSound, IsSoundBut}
+use Rattle.cert_check.specs.Rules.{IsFirstBrokenRule, IsSound, IsSoundBut}
 use Rattle.cert_check.specs.Splits.{IsNoneAbove, IsSplitAbove}
 use Rattle.cert_check.specs.Walking.{IsFoundOf, IsOwnBound}
 use Rattle.cert_check.specs.declared.reached.Reached.{Reached}
@@ -13,7 +13,7 @@ use Rattle.cert_check.specs.declared.rules.Rule.TheVariants as rule
 
 -- it keeps all rules, or that is the first rule that it breaks
 abbrev pub IsJudged : Tables → Option ℤ → Node → Reached → Reached → Bool → Type 0
-IsJudged t cost node before after ended = IsFoundOf (IsSound t cost node) (IsOwnBound t node.keeps node.tree) (IsSomeAnd after.rule (IsFirstFault t cost node)) before after ended
+IsJudged t cost node before after ended = IsFoundOf (IsSound t cost node) (IsOwnBound t node.keeps node.tree) (IsSomeAnd after.rule (IsFirstBrokenRule t cost node)) before after ended
 
 -- a node may be asked by some sizes: it keeps all rules but the one on priced leaves
 pub record MayBeSized (t : Tables) (by : Sizes) (node : Node) : Type 0 where

@@ -10,7 +10,7 @@ ghost use Rattle.dual_bound.specs.OfTables.{IsOfTables};
 ghost use Rattle.dual_bound.specs.Prices.{ArePrices};
 ghost use Rattle.dual_bound.specs.Worth.{worth_of};
 ghost use Rattle.cert_check.specs.Nodes.{node_at};
-ghost use Rattle.cert_check.specs.OtherSizes.{IsAsked, IsProofOf, Stands, answer_of};
+ghost use Rattle.cert_check.specs.OtherSizes.{IsAskedOfTree, IsProofOf, Stands, answer_of};
 ghost use Rattle.cert_check.specs.Rules.{IsSoundBut};
 ghost use Rattle.cert_check.specs.Splits.{AreSoundButPriced};
 ghost use Rattle.cert_check.specs.Visitors.{IsSized, MayBeSized};
@@ -34,7 +34,7 @@ pub fn whatif(tables: &Tables, fleet: u32, count: u32, tree: &Tree) -> WhatIf
     requires sound { AreSoundButPriced tables.now (all_pairs tables.now) tree.now }
 
     // The first refuted leaf that isn't refuted there, else the tree's bound there, on whichever tables have that number.
-    ensures asked { (u : Tables) → IsOtherSize tables.now fleet count u → IsAsked u tree.now result }
+    ensures asked { (u : Tables) → IsOtherSize tables.now fleet count u → IsAskedOfTree u tree.now result }
 
     // With a bound each assignment that is legal there costs at least so much, with no plan none is legal.
     ensures proof { (u : Tables) → IsOtherSize tables.now fleet count u → IsProofOf u result }

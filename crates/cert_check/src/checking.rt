@@ -3,7 +3,7 @@ ghost use Rattle.std.specs.Prelude.{◌≡◌, IfSome, IsSomeAnd, Option, ℤ, �
 ghost use Rattle.fleet_model.specs.Legal.{IsLegal, total_cost};
 ghost use Rattle.dual_bound.specs.OfTables.{IsOfTables};
 ghost use Rattle.cert_check.specs.Verdicts.{IsChecked, IsProof};
-ghost use Rattle.cert_check.specs.Rules.{number_of};
+ghost use Rattle.cert_check.specs.Rules.{rule_number};
 ghost use Rattle.cert_check.specs.Visitors.{IsJudged};
 ghost use Rattle.cert_check.specs.declared.checked.Checked.TheVariants as checked;
 
@@ -53,7 +53,7 @@ pub fn check_with_cost(tables: &Tables, cost: Option<i128>, tree: &Tree) -> Chec
 // The verdict on a tree where the walk has ended.
 fn broken(reached: &Reached) -> Checked
     requires { IsSomeAnd reached.now.rule (λ rule. ⊤) }
-    ensures { IsSomeAnd reached.now.rule (λ rule. result ≡ checked.Broken reached.now.number (number_of rule)) }
+    ensures { IsSomeAnd reached.now.rule (λ rule. result ≡ checked.Broken reached.now.number (rule_number rule)) }
 {
     match reached.rule {
         Some(rule) => Checked::Broken {

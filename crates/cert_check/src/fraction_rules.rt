@@ -10,7 +10,7 @@ ghost use Rattle.dual_bound.specs.Mixed.{weight_in};
 ghost use Rattle.dual_bound.specs.Prices.{ArePrices};
 ghost use Rattle.dual_bound.specs.Sizes.{IsUpTo};
 ghost use Rattle.dual_bound.specs.Worth.{cost_units};
-ghost use Rattle.dual_bound.specs.Fractions.{AreParts, IsFraction, IsWhole, IsWholeLeg, IsWholePair, IsEnd, IsWorth, parts_in};
+ghost use Rattle.dual_bound.specs.Fractions.{AreMixedParts, IsFraction, IsMixedWhole, IsWholeLeg, IsWholePair, IsEndOfScale, IsWorth, parts_in};
 ghost use Rattle.cert_check.specs.MixedRules.{IsSmallWeight};
 
 use dual_bound::worth::worth;
@@ -22,7 +22,7 @@ use std::cmp::Ordering;
 /// Whether a fractional assignment is not whole, and costs what the prices are worth. Takes no memory.
 pub(crate) fn is_fraction(tables: &Tables, kept: &Kept, prices: &Prices, mixed: &Mixed) -> bool
     requires proper { ArePrices tables.now prices.now }
-    requires parts { AreParts tables.now mixed.now }
+    requires parts { AreMixedParts tables.now mixed.now }
     ensures { MatchBool result (IsFraction tables.now (kept_by kept.now) prices.now mixed.now) (¬ (IsFraction tables.now (kept_by kept.now) prices.now mixed.now)) }
 {
     let mixed = WeightFinder::new(mixed);
@@ -38,14 +38,14 @@ pub(crate) fn is_whole_pair(mixed: &WeightFinder<'_>, leg: u32, choice: u32) -> 
 
 // Whether a weight is 0 or the scale.
 fn is_end(scale: &i128, weight: &i128) -> bool
-    ensures { MatchBool result (IsEnd scale.now weight.now) (¬ (IsEnd scale.now weight.now)) }
+    ensures { MatchBool result (IsEndOfScale scale.now weight.now) (¬ (IsEndOfScale scale.now weight.now)) }
 {
     *weight == 0 || *weight == *scale
 }
 
 // Whether each pair is flown wholly or not at all.
 fn is_whole(tables: &Tables, mixed: &WeightFinder<'_>) -> bool
-    ensures { MatchBool result (IsWhole tables.now mixed.now) (¬ (IsWhole tables.now mixed.now)) }
+    ensures { MatchBool result (IsMixedWhole tables.now mixed.now) (¬ (IsMixedWhole tables.now mixed.now)) }
 {
     for leg in 0..tables.leg_count() {
         if !is_whole_leg(tables, mixed, leg) {
@@ -72,7 +72,7 @@ fn is_whole_leg(tables: &Tables, mixed: &WeightFinder<'_>, leg: u32) -> bool
 // for 128 bits, and so are not formed.
 fn is_worth(tables: &Tables, kept: &Kept, prices: &Prices, mixed: &WeightFinder<'_>) -> bool
     requires proper { ArePrices tables.now prices.now }
-    requires parts { AreParts tables.now mixed.now }
+    requires parts { AreMixedParts tables.now mixed.now }
     ensures { MatchBool result (IsWorth tables.now (kept_by kept.now) prices.now mixed.now) (¬ (IsWorth tables.now (kept_by kept.now) prices.now mixed.now)) }
 {
     let cost = cost_of(tables, mixed);
@@ -86,7 +86,7 @@ fn is_worth(tables: &Tables, kept: &Kept, prices: &Prices, mixed: &WeightFinder<
 // What a fractional assignment costs, times its scale.
 #[tactic(auto, unfolding(fleet_model::specs::Mixed::mixed_cost))]
 fn cost_of(tables: &Tables, mixed: &WeightFinder<'_>) -> i128
-    requires { AreParts tables.now mixed.now }
+    requires { AreMixedParts tables.now mixed.now }
     ensures { result ≡ mixed_cost tables.now (parts_in mixed.now) }
 {
     let mut sum = 0;
@@ -98,7 +98,7 @@ fn cost_of(tables: &Tables, mixed: &WeightFinder<'_>) -> i128
 
 // What a leg costs by the weights of its pairs.
 fn leg_cost(tables: &Tables, mixed: &WeightFinder<'_>, leg: u32) -> i128
-    requires parts { AreParts tables.now mixed.now }
+    requires parts { AreMixedParts tables.now mixed.now }
     requires leg { leg < legs_in tables.now }
     ensures value { result ≡ sum_below_ℤ (weighted_cost tables.now (parts_in mixed.now) leg) (choices_in tables.now leg) }
     ensures size { IsUpTo (3 * MAX_CHOICES) result }
@@ -112,7 +112,7 @@ fn leg_cost(tables: &Tables, mixed: &WeightFinder<'_>, leg: u32) -> i128
 
 // What a pair costs by its weight.
 fn weighted_cost(tables: &Tables, mixed: &WeightFinder<'_>, pair: Pair) -> i128
-    requires parts { AreParts tables.now mixed.now }
+    requires parts { AreMixedParts tables.now mixed.now }
     requires pair { IsPair tables.now pair }
     ensures value { result ≡ weighted_cost tables.now (parts_in mixed.now) pair.leg pair.choice }
     ensures size { IsUpTo 3 result }
@@ -122,7 +122,7 @@ fn weighted_cost(tables: &Tables, mixed: &WeightFinder<'_>, pair: Pair) -> i128
 
 // The weight of a pair, which is within its limits.
 fn weight(tables: &Tables, mixed: &WeightFinder<'_>, pair: Pair) -> i128
-    requires parts { AreParts tables.now mixed.now }
+    requires parts { AreMixedParts tables.now mixed.now }
     requires pair { IsPair tables.now pair }
     ensures value { result ≡ weight_in mixed.now pair }
     ensures size { IsSmallWeight result }

@@ -3,7 +3,7 @@ ghost use Rattle.std.specs.Prelude.{◌≡◌, ◌<◌, ◌≤◌};
 ghost use Rattle.fleet_model.specs.Mixed.{weight_on};
 ghost use Rattle.fleet_model.specs.Schedule.{IsPair, fleets_in, legs_in};
 ghost use Rattle.dual_bound.specs.Prices.{max_scale};
-ghost use Rattle.dual_bound.specs.Fractions.{AreParts, parts_in, parts_of_leg};
+ghost use Rattle.dual_bound.specs.Fractions.{AreMixedParts, parts_in, parts_of_leg};
 ghost use Rattle.stand_counts.specs.Flights.{of_fleet};
 
 use dual_bound::WeightFinder;
@@ -12,7 +12,7 @@ use stand_counts::Flights;
 
 /// How many parts a leg has.
 pub(crate) fn leg_parts(tables: &Tables, mixed: &WeightFinder<'_>) -> u128
-    requires { AreParts tables.now mixed.now }
+    requires { AreMixedParts tables.now mixed.now }
     ensures value { result ≡ parts_of_leg mixed.now }
     ensures few { result ≤ max_scale }
 {
@@ -21,7 +21,7 @@ pub(crate) fn leg_parts(tables: &Tables, mixed: &WeightFinder<'_>) -> u128
 
 /// How many parts of its leg a pair has.
 pub(crate) fn parts(tables: &Tables, mixed: &WeightFinder<'_>, pair: Pair) -> u128
-    requires parts { AreParts tables.now mixed.now }
+    requires parts { AreMixedParts tables.now mixed.now }
     requires pair { IsPair tables.now pair }
     ensures value { result ≡ parts_in mixed.now pair }
     ensures few { result ≤ max_scale }
@@ -31,7 +31,7 @@ pub(crate) fn parts(tables: &Tables, mixed: &WeightFinder<'_>, pair: Pair) -> u1
 
 /// How many parts all pairs of a leg have.
 pub(crate) fn weight_on(tables: &Tables, mixed: &WeightFinder<'_>, leg: u32) -> u128
-    requires parts { AreParts tables.now mixed.now }
+    requires parts { AreMixedParts tables.now mixed.now }
     requires leg { leg < legs_in tables.now }
     ensures { result ≡ weight_on tables.now (parts_in mixed.now) leg }
 {
@@ -52,7 +52,7 @@ pub(crate) struct Parted<'a, 'b> {
 impl Flights for Parted<'_, '_> {
     ghost flights = { λ t it. of_fleet t (parts_in it.mixed.now) it.fleet };
 
-    ghost fit = { λ t it. AreParts t it.mixed.now × (it.fleet < fleets_in t) };
+    ghost fit = { λ t it. AreMixedParts t it.mixed.now × (it.fleet < fleets_in t) };
 
     ghost most = { max_scale };
 

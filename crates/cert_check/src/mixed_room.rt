@@ -4,9 +4,9 @@ ghost use Rattle.fleet_model.specs.Legal.{HasRoom};
 ghost use Rattle.fleet_model.specs.Schedule.{fleets_in, stations_in};
 ghost use Rattle.fleet_model.specs.Use.{parked, stand_of};
 ghost use Rattle.fleet_model.specs.declared.limits.TheConstants.{MAX_DEPARTURES};
-ghost use Rattle.dual_bound.specs.Fractions.{AreParts, parts_in, parts_of_leg};
+ghost use Rattle.dual_bound.specs.Fractions.{AreMixedParts, parts_in, parts_of_leg};
 ghost use Rattle.dual_bound.specs.Prices.{max_scale};
-ghost use Rattle.cert_check.specs.MixedRules.{HasRoomAt};
+ghost use Rattle.cert_check.specs.MixedRules.{HasMixedRoomAt};
 
 use crate::mixed_counts::{Parted, leg_parts};
 use dual_bound::WeightFinder;
@@ -17,7 +17,7 @@ use stand_counts::{need, stand};
 /// Whether at each station with a limit no more aircraft stand at the end of a day than may, so many parts each. Takes no
 /// memory.
 pub(crate) fn has_room(tables: &Tables, mixed: &WeightFinder<'_>) -> bool
-    requires { AreParts tables.now mixed.now }
+    requires { AreMixedParts tables.now mixed.now }
     ensures { MatchBool result (HasRoom tables.now (parts_of_leg mixed.now) (parts_in mixed.now)) (¬ (HasRoom tables.now (parts_of_leg mixed.now) (parts_in mixed.now))) }
 {
     for station in 0..tables.station_count() {
@@ -33,9 +33,9 @@ pub(crate) fn has_room(tables: &Tables, mixed: &WeightFinder<'_>) -> bool
 
 // Whether no more than so many parts of aircraft stand at a station at the end of a day.
 fn has_room_at(tables: &Tables, mixed: &WeightFinder<'_>, station: u32, most: u128) -> bool
-    requires parts { AreParts tables.now mixed.now }
+    requires parts { AreMixedParts tables.now mixed.now }
     requires station { station < stations_in tables.now }
-    ensures { MatchBool result (HasRoomAt tables.now mixed.now station most) (¬ (HasRoomAt tables.now mixed.now station most)) }
+    ensures { MatchBool result (HasMixedRoomAt tables.now mixed.now station most) (¬ (HasMixedRoomAt tables.now mixed.now station most)) }
 {
     for before in 0..tables.day_count() {
         if parked(tables, mixed, station, before + 1) > most {
@@ -48,7 +48,7 @@ fn has_room_at(tables: &Tables, mixed: &WeightFinder<'_>, station: u32, most: u1
 // The aircraft of all fleets at a station at the end of a day, in parts; a period has seven days at most.
 #[tactic(auto, unfolding(fleet_model::specs::Use::parked))]
 fn parked(tables: &Tables, mixed: &WeightFinder<'_>, station: u32, day: u32) -> u128
-    requires parts { AreParts tables.now mixed.now }
+    requires parts { AreMixedParts tables.now mixed.now }
     requires some { 0 < day }
     requires week { day ≤ 7 }
     ensures { result ≡ parked tables.now (parts_in mixed.now) station day }
@@ -70,7 +70,7 @@ fn standing(
     station: u32,
     minute: u16,
 ) -> u128
-    requires parts { AreParts tables.now mixed.now }
+    requires parts { AreMixedParts tables.now mixed.now }
     requires fleet { fleet < fleets_in tables.now }
     ensures value { result ≡ stand_of tables.now (parts_in mixed.now) fleet station minute }
     ensures few { result ≤ 2 * max_scale * MAX_DEPARTURES }

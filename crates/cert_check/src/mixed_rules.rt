@@ -6,7 +6,7 @@ ghost use Rattle.std.specs.Prelude.{◌≡◌, ◌*◌, ◌<◌, MatchBool};
 ghost use Rattle.fleet_model.specs.Kept.{kept_by};
 ghost use Rattle.fleet_model.specs.Schedule.{fleet_of, fleets_in, legs_in};
 ghost use Rattle.fleet_model.specs.Use.{IsBalanced};
-ghost use Rattle.dual_bound.specs.Fractions.{AreParts, HasAllWeights, HasWeights, IsMixedAt, IsWeight, parts_in, parts_of_leg};
+ghost use Rattle.dual_bound.specs.Fractions.{AreMixedParts, HasAllWeights, HasWeights, IsMixedAt, IsWeight, parts_in, parts_of_leg};
 ghost use Rattle.cert_check.specs.MixedRules.{BalancesFleet, Covers, FliesKept, FliesKeptOn, UsesNoMore};
 
 use crate::mixed_counts::{Parted, leg_parts, parts, weight_on};
@@ -32,7 +32,7 @@ pub(crate) fn is_mixed(tables: &Tables, kept: &Kept, mixed: &Mixed) -> bool
 
 // Whether the scale and all weights are within their limits.
 fn are_parts(tables: &Tables, mixed: &WeightFinder<'_>) -> bool
-    ensures { MatchBool result (AreParts tables.now mixed.now) (¬ (AreParts tables.now mixed.now)) }
+    ensures { MatchBool result (AreMixedParts tables.now mixed.now) (¬ (AreMixedParts tables.now mixed.now)) }
 {
     is_scale(mixed.scale()) && have_weights(tables, mixed)
 }
@@ -71,7 +71,7 @@ fn is_weight(scale: &i128, weight: &i128) -> bool
 
 // Whether no part is flown of pairs that are not kept.
 fn flies_kept(tables: &Tables, kept: &Kept, mixed: &WeightFinder<'_>) -> bool
-    requires { AreParts tables.now mixed.now }
+    requires { AreMixedParts tables.now mixed.now }
     ensures { MatchBool result (FliesKept tables.now (kept_by kept.now) mixed.now) (¬ (FliesKept tables.now (kept_by kept.now) mixed.now)) }
 {
     for leg in 0..tables.leg_count() {
@@ -84,7 +84,7 @@ fn flies_kept(tables: &Tables, kept: &Kept, mixed: &WeightFinder<'_>) -> bool
 
 // Whether no part is flown of a leg's pairs that are not kept.
 fn flies_kept_on(tables: &Tables, kept: &Kept, mixed: &WeightFinder<'_>, leg: u32) -> bool
-    requires parts { AreParts tables.now mixed.now }
+    requires parts { AreMixedParts tables.now mixed.now }
     requires leg { leg < legs_in tables.now }
     ensures { MatchBool result (FliesKeptOn tables.now (kept_by kept.now) mixed.now leg) (¬ (FliesKeptOn tables.now (kept_by kept.now) mixed.now leg)) }
 {
@@ -98,7 +98,7 @@ fn flies_kept_on(tables: &Tables, kept: &Kept, mixed: &WeightFinder<'_>, leg: u3
 
 // Whether the weights of each leg sum to the scale.
 fn covers(tables: &Tables, mixed: &WeightFinder<'_>) -> bool
-    requires { AreParts tables.now mixed.now }
+    requires { AreMixedParts tables.now mixed.now }
     ensures { MatchBool result (Covers tables.now mixed.now) (¬ (Covers tables.now mixed.now)) }
 {
     let scale = leg_parts(tables, mixed);
@@ -112,7 +112,7 @@ fn covers(tables: &Tables, mixed: &WeightFinder<'_>) -> bool
 
 // Whether each fleet balances at each station.
 fn is_balanced(tables: &Tables, mixed: &WeightFinder<'_>) -> bool
-    requires { AreParts tables.now mixed.now }
+    requires { AreMixedParts tables.now mixed.now }
     ensures { MatchBool result (IsBalanced tables.now (parts_in mixed.now)) (¬ (IsBalanced tables.now (parts_in mixed.now))) }
 {
     for fleet in 0..tables.fleet_count() {
@@ -126,7 +126,7 @@ fn is_balanced(tables: &Tables, mixed: &WeightFinder<'_>) -> bool
 // Whether a fleet balances at each station.
 #[tactic(auto, using(stand_counts::proofs::FleetCounts::arrivals_of_fleet, stand_counts::proofs::FleetCounts::departures_of_fleet))]
 fn balances(tables: &Tables, mixed: &WeightFinder<'_>, fleet: u32) -> bool
-    requires parts { AreParts tables.now mixed.now }
+    requires parts { AreMixedParts tables.now mixed.now }
     requires fleet { fleet < fleets_in tables.now }
     ensures { MatchBool result (BalancesFleet tables.now mixed.now fleet) (¬ (BalancesFleet tables.now mixed.now fleet)) }
 {
@@ -144,7 +144,7 @@ fn balances(tables: &Tables, mixed: &WeightFinder<'_>, fleet: u32) -> bool
 // Whether no fleet uses more aircraft than it has, so many parts each.
 #[tactic(auto, using(stand_counts::proofs::FleetCounts::use_of_fleet))]
 fn uses_no_more(tables: &Tables, mixed: &WeightFinder<'_>) -> bool
-    requires { AreParts tables.now mixed.now }
+    requires { AreMixedParts tables.now mixed.now }
     ensures { MatchBool result (UsesNoMore tables.now mixed.now) (¬ (UsesNoMore tables.now mixed.now)) }
 {
     for fleet in 0..tables.fleet_count() {
@@ -157,7 +157,7 @@ fn uses_no_more(tables: &Tables, mixed: &WeightFinder<'_>) -> bool
 
 // The aircraft of a fleet, in parts.
 fn aircraft_parts(tables: &Tables, mixed: &WeightFinder<'_>, fleet: u32) -> u128
-    requires parts { AreParts tables.now mixed.now }
+    requires parts { AreMixedParts tables.now mixed.now }
     requires fleet { fleet < fleets_in tables.now }
     ensures { result ≡ parts_of_leg mixed.now * (fleet_of tables.now fleet).aircraft }
 {

@@ -4,9 +4,9 @@ ghost use Rattle.fleet_model.specs.Kept.{kept_by, narrowed};
 ghost use Rattle.fleet_model.specs.Schedule.{IsPair, leg_on};
 ghost use Rattle.dual_bound.specs.OfTables.{ArePricesOf, IsOfTables};
 ghost use Rattle.dual_bound.specs.Prices.{ArePrices, AreWithin, NeverRise, RiseByRent};
-ghost use Rattle.dual_bound.specs.Fractions.{AreParts, IsFraction, IsMixedAt};
+ghost use Rattle.dual_bound.specs.Fractions.{AreMixedParts, IsFraction, IsMixedAt};
 ghost use Rattle.cert_check.specs.Nodes.{mixed_at, mixed_of, node_at, prices_at};
-ghost use Rattle.cert_check.specs.Rules.{EndsAtOnce, HasFraction, HasItsPairs, HasParts, HasScale, IsFirstFault, IsPricedAt, IsRefutedAt, IsSound, Keeps, IsSoleLegal, KeepsBefore, OneEnds, Reaches, number_of};
+ghost use Rattle.cert_check.specs.Rules.{EndsAtOnce, HasFraction, HasItsPairs, HasParts, HasScale, IsFirstBrokenRule, IsPricedAt, IsRefutedAt, IsSound, Keeps, IsSoleLegal, KeepsBefore, OneEnds, ReachesCost, rule_number};
 
 use crate::fraction_rules::{is_fraction, is_whole_pair};
 use crate::leaves::{have_all_pairs, is_bare, is_sole, is_sole_legal};
@@ -28,7 +28,7 @@ pub(crate) fn first_fault(
     node: &Tree,
 ) -> Option<Rule>
     requires { IsOfTables tables.now node.now }
-    ensures { MatchOption result (IsSound tables.now cost.now (node_at kept.now node.now)) (IsFirstFault tables.now cost.now (node_at kept.now node.now)) }
+    ensures { MatchOption result (IsSound tables.now cost.now (node_at kept.now node.now)) (IsFirstBrokenRule tables.now cost.now (node_at kept.now node.now)) }
 {
     for rule in RULES {
         if !keeps(tables, kept, cost, node, rule) {
@@ -41,7 +41,7 @@ pub(crate) fn first_fault(
 // Whether a node keeps a rule, where it keeps those before.
 fn keeps(tables: &Tables, kept: &Kept, cost: &Option<i128>, node: &Tree, rule: Rule) -> bool
     requires known { IsOfTables tables.now node.now }
-    requires before { KeepsBefore tables.now cost.now (node_at kept.now node.now) (number_of rule) }
+    requires before { KeepsBefore tables.now cost.now (node_at kept.now node.now) (rule_number rule) }
     ensures { MatchBool result (Keeps tables.now cost.now (node_at kept.now node.now) rule) (¬ (Keeps tables.now cost.now (node_at kept.now node.now) rule)) }
 {
     match rule {
@@ -170,7 +170,7 @@ fn is_priced(tables: &Tables, kept: &Kept, cost: &Option<i128>, node: &Tree) -> 
 // Whether there is a cost, and the rounded worth of prices reaches it.
 fn reaches(tables: &Tables, kept: &Kept, prices: &Prices, cost: &Option<i128>) -> bool
     requires { ArePrices tables.now prices.now }
-    ensures { MatchBool result (IsSomeAnd cost.now (Reaches tables.now (kept_by kept.now) prices.now)) (¬ (IsSomeAnd cost.now (Reaches tables.now (kept_by kept.now) prices.now))) }
+    ensures { MatchBool result (IsSomeAnd cost.now (ReachesCost tables.now (kept_by kept.now) prices.now)) (¬ (IsSomeAnd cost.now (ReachesCost tables.now (kept_by kept.now) prices.now))) }
 {
     match cost {
         Some(cost) => reaches_cost(tables, kept, prices, cost),
@@ -181,7 +181,7 @@ fn reaches(tables: &Tables, kept: &Kept, prices: &Prices, cost: &Option<i128>) -
 // Whether the rounded worth of prices reaches a cost.
 fn reaches_cost(tables: &Tables, kept: &Kept, prices: &Prices, cost: &i128) -> bool
     requires { ArePrices tables.now prices.now }
-    ensures { MatchBool result (Reaches tables.now (kept_by kept.now) prices.now cost.now) (¬ (Reaches tables.now (kept_by kept.now) prices.now cost.now)) }
+    ensures { MatchBool result (ReachesCost tables.now (kept_by kept.now) prices.now cost.now) (¬ (ReachesCost tables.now (kept_by kept.now) prices.now cost.now)) }
 {
     is_no_more(cost, &rounded_worth(tables, Sizes::Own, kept, prices))
 }
@@ -276,7 +276,7 @@ fn has_mixed(tables: &Tables, kept: &Kept, node: &Tree) -> bool
 // Whether a node's fractional assignment is a best one and not whole, and flies a split's pair in part.
 fn has_fraction(tables: &Tables, kept: &Kept, node: &Tree) -> bool
     requires proper { IfSome (prices_at node.now) (ArePrices tables.now) }
-    requires parts { IfSome (mixed_at node.now) (AreParts tables.now) }
+    requires parts { IfSome (mixed_at node.now) (AreMixedParts tables.now) }
     ensures { MatchBool result (HasFraction tables.now (kept_by kept.now) node.now) (¬ (HasFraction tables.now (kept_by kept.now) node.now)) }
 {
     match node {
@@ -298,7 +298,7 @@ fn has_fraction(tables: &Tables, kept: &Kept, node: &Tree) -> bool
 // Whether the fractional assignment of an open leaf's cause, where it has one, is a best one and not whole.
 fn open_fraction(tables: &Tables, kept: &Kept, prices: &Prices, cause: &Cause) -> bool
     requires proper { ArePrices tables.now prices.now }
-    requires parts { IfSome (mixed_of cause.now) (AreParts tables.now) }
+    requires parts { IfSome (mixed_of cause.now) (AreMixedParts tables.now) }
     ensures { MatchBool result (IfSome (mixed_of cause.now) (IsFraction tables.now (kept_by kept.now) prices.now)) (¬ (IfSome (mixed_of cause.now) (IsFraction tables.now (kept_by kept.now) prices.now))) }
 {
     match cause {

@@ -1,5 +1,5 @@
 ghost use Rattle.std.specs.Prelude.{◌≡◌};
-ghost use Rattle.cert_check.specs.Rules.{number_of};
+ghost use Rattle.cert_check.specs.Rules.{rule_number};
 
 /// What is asked of a node of a tree, in the order in which it is judged.
 #[derive(Clone, Copy)]
@@ -44,7 +44,7 @@ pub(crate) const RULES: [Rule; 10] = [
 impl Rule {
     /// The number of the rule, from 1.
     pub fn number(self) -> u8
-        ensures { result ≡ number_of self }
+        ensures { result ≡ rule_number self }
     {
         match self {
             Rule::Scale => 1,

@@ -8,7 +8,7 @@ use Rattle.fleet_model.specs.declared.limits.TheConstants.{MAX_AIRCRAFT}
 use Rattle.fleet_model.specs.declared.options.TableOptions.{TableOptions}
 use Rattle.fleet_model.specs.declared.parts.Settings.{Settings}
 use Rattle.calendar_dates.specs.Reading.{date_read, ends_in_calendar}
-use Rattle.command_words.specs.Values.{minute_read, number_read, value_or}
+use Rattle.command_words.specs.Values.{minute_read, number_read, value_or_default}
 use Rattle.command_words.specs.declared.command.Dates.{Dates}
 use Rattle.command_words.specs.declared.command.RotationLimits.{RotationLimits}
 use Rattle.command_words.specs.declared.command.SearchLimits.{SearchLimits}
@@ -18,8 +18,8 @@ use Rattle.command_words.specs.declared.command.SolveOptions.{SolveOptions}
 use Rattle.command_words.specs.declared.command.TheConstants.{DEFAULT_DAYS, DEFAULT_DAY_START, DEFAULT_LEAST_NIGHT, DEFAULT_NODES, DEFAULT_PERIOD, DEFAULT_PIVOTS, DEFAULT_THROUGH_MAX, DEFAULT_VISITS, DEFAULT_WAY, MAX_DATES, MAX_DAYS, MAX_LEAST_NIGHT, MAX_MADE_LEGS, MAX_NODES, MAX_NUMBER, MAX_PERIOD, MAX_PIVOTS, MAX_THROUGH_MAX, MAX_VISITS, MIN_DATES, MIN_DAYS, MIN_PERIOD}
 
 -- what was found for the arguments
-abbrev pub rows_in : ArgMatches → List Row
-rows_in matches = rows_of (found_of matches)
+abbrev pub rows_found : ArgMatches → List Row
+rows_found matches = rows_of (found_of matches)
 
 -- the folder
 abbrev pub dir_in : List Row → Option Text
@@ -33,19 +33,19 @@ is_given name found = option_map_or (λ text. bytes_eq text (codes "true")) (fir
 
 -- the day start, where it reads
 abbrev pub day_start_in : List Row → Option ℕ
-day_start_in found = value_or DEFAULT_DAY_START minute_read (first_of (codes "day-start") found)
+day_start_in found = value_or_default DEFAULT_DAY_START minute_read (first_of (codes "day-start") found)
 
 -- the longest wait of a through pair, where it reads; a command without the option has its default
 abbrev pub through_max_in : List Row → Option ℕ
-through_max_in found = value_or DEFAULT_THROUGH_MAX (number_read 0 MAX_THROUGH_MAX) (first_of (codes "through-max") found)
+through_max_in found = value_or_default DEFAULT_THROUGH_MAX (number_read 0 MAX_THROUGH_MAX) (first_of (codes "through-max") found)
 
 -- the least minutes of a night for maintenance, where they read; a command without the option has their default
 abbrev pub least_night_in : List Row → Option ℕ
-least_night_in found = value_or DEFAULT_LEAST_NIGHT (number_read 0 MAX_LEAST_NIGHT) (first_of (codes "least-night") found)
+least_night_in found = value_or_default DEFAULT_LEAST_NIGHT (number_read 0 MAX_LEAST_NIGHT) (first_of (codes "least-night") found)
 
 -- the days of the period, where they read
 abbrev pub period_in : List Row → Option ℕ
-period_in found = value_or DEFAULT_PERIOD (number_read MIN_PERIOD MAX_PERIOD) (first_of (codes "period") found)
+period_in found = value_or_default DEFAULT_PERIOD (number_read MIN_PERIOD MAX_PERIOD) (first_of (codes "period") found)
 
 -- the settings of a day start, a longest wait, a least night and a period of so many days, where all are there
 abbrev pub settings_at : Option ℕ → Option ℕ → Option ℕ → Option ℕ → Option Settings
@@ -86,12 +86,12 @@ way_in found = way_or_default (first_of (codes "search") found)
 -- ---- limits
 
 -- the most splits, where they read
-abbrev pub nodes_in : List Row → Option ℕ
-nodes_in found = value_or DEFAULT_NODES (number_read 0 MAX_NODES) (first_of (codes "nodes") found)
+abbrev pub nodes_told : List Row → Option ℕ
+nodes_told found = value_or_default DEFAULT_NODES (number_read 0 MAX_NODES) (first_of (codes "nodes") found)
 
 -- the most pivots, where they read
-abbrev pub pivots_in : List Row → Option ℕ
-pivots_in found = value_or DEFAULT_PIVOTS (number_read 0 MAX_PIVOTS) (first_of (codes "pivots") found)
+abbrev pub pivots_told : List Row → Option ℕ
+pivots_told found = value_or_default DEFAULT_PIVOTS (number_read 0 MAX_PIVOTS) (first_of (codes "pivots") found)
 
 -- the limit of pivots: none where all are allowed, whatever number is given
 abbrev pub budget_of : Bool → ℕ → Option ℕ
@@ -106,15 +106,15 @@ search_at None p all = None
 
 -- the limits of a search, where both read
 abbrev pub search_in : List Row → Option SearchLimits
-search_in found = search_at (nodes_in found) (pivots_in found) (is_given (codes "all-pivots") found)
+search_in found = search_at (nodes_told found) (pivots_told found) (is_given (codes "all-pivots") found)
 
 -- the most days between maintenance, where they read
-abbrev pub days_in : List Row → Option ℕ
-days_in found = value_or DEFAULT_DAYS (number_read MIN_DAYS MAX_DAYS) (first_of (codes "days") found)
+abbrev pub days_told : List Row → Option ℕ
+days_told found = value_or_default DEFAULT_DAYS (number_read MIN_DAYS MAX_DAYS) (first_of (codes "days") found)
 
 -- the most prefixes that are visited, where they read
 abbrev pub visits_in : List Row → Option ℕ
-visits_in found = value_or DEFAULT_VISITS (number_read 0 MAX_VISITS) (first_of (codes "visits") found)
+visits_in found = value_or_default DEFAULT_VISITS (number_read 0 MAX_VISITS) (first_of (codes "visits") found)
 
 -- the limits of rotations, where both are there
 abbrev pub rotations_at : Option ℕ → Option ℕ → Option RotationLimits
@@ -124,7 +124,7 @@ rotations_at None v = None
 
 -- the limits of rotations, where both read
 abbrev pub rotations_in : List Row → Option RotationLimits
-rotations_in found = rotations_at (days_in found) (visits_in found)
+rotations_in found = rotations_at (days_told found) (visits_in found)
 
 -- what is asked of a search for a plan, where its way, its limits and those of rotations are there
 abbrev pub options_at : Option SearchWay → Option SearchLimits → Option RotationLimits → Bool → Option SolveOptions
@@ -183,8 +183,8 @@ abbrev pub made_number_read : Text → Option ℕ
 made_number_read text = number_read 0 MAX_NUMBER text
 
 -- the number, where it reads
-abbrev pub number_in : List Row → Option ℕ
-number_in found = option_and_then made_number_read (first_of (codes "number") found)
+abbrev pub number_told : List Row → Option ℕ
+number_told found = option_and_then made_number_read (first_of (codes "number") found)
 
 -- a number, where it is even
 abbrev pub where_even : ℕ → Option ℕ
@@ -195,22 +195,22 @@ abbrev pub legs_read : Text → Option ℕ
 legs_read text = option_and_then where_even (number_read 0 MAX_MADE_LEGS text)
 
 -- the number of legs, where it reads
-abbrev pub legs_in : List Row → Option ℕ
-legs_in found = option_and_then legs_read (first_of (codes "legs") found)
+abbrev pub legs_told : List Row → Option ℕ
+legs_told found = option_and_then legs_read (first_of (codes "legs") found)
 
 -- ---- another size of a fleet
 
 -- the fleet
-abbrev pub fleet_in : List Row → Option Text
-fleet_in found = first_of (codes "fleet") found
+abbrev pub fleet_told : List Row → Option Text
+fleet_told found = first_of (codes "fleet") found
 
 -- the number of aircraft that a text writes
 abbrev pub aircraft_read : Text → Option ℕ
 aircraft_read text = number_read 0 MAX_AIRCRAFT text
 
 -- the number of aircraft, where it reads
-abbrev pub aircraft_in : List Row → Option ℕ
-aircraft_in found = option_and_then aircraft_read (first_of (codes "count") found)
+abbrev pub aircraft_told : List Row → Option ℕ
+aircraft_told found = option_and_then aircraft_read (first_of (codes "count") found)
 
 -- ---- what holds of values that read
 

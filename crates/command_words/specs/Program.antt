@@ -45,8 +45,8 @@ abbrev pub dates : List Rule
 dates = word_named (codes "date") ∷ word_named (codes "count") ∷ option_named (codes "first-day") ∷ []
 
 -- NUMBER LEGS
-abbrev pub made : List Rule
-made = word_named (codes "number") ∷ word_named (codes "legs") ∷ []
+abbrev pub made_rules : List Rule
+made_rules = word_named (codes "number") ∷ word_named (codes "legs") ∷ []
 
 -- FLEET COUNT
 abbrev pub other_size : List Rule
@@ -78,7 +78,7 @@ abbrev pub due_app : App
 due_app = command_on_tables (codes "due") (dates ++ rotation_options)
 
 abbrev pub make_app : App
-make_app = command_named (codes "make") (folder ++ made)
+make_app = command_named (codes "make") (folder ++ made_rules)
 
 abbrev pub whatif_app : App
 whatif_app = command_on_tables (codes "whatif") other_size

@@ -29,6 +29,6 @@ abbrev pub minute_read : List ℕ → Option ℕ
 minute_read text = value_read (clock_time_of text)
 
 -- what the text of an option reads as, or its default where the option isn't there
-abbrev pub value_or : ℕ → (List ℕ → Option ℕ) → Option (List ℕ) → Option ℕ
-value_or default read None = Some default
-value_or default read (Some text) = read text
+abbrev pub value_or_default : ℕ → (List ℕ → Option ℕ) → Option (List ℕ) → Option ℕ
+value_or_default default read None = Some default
+value_or_default default read (Some text) = read text

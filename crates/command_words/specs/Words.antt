@@ -5,7 +5,7 @@ use Rattle.calendar_dates.specs.Days.{day_on}
 use Rattle.fleet_model.specs.Limits.{AreSettings}
 use Rattle.fleet_model.specs.declared.limits.TheConstants.{MAX_AIRCRAFT}
 use Rattle.fleet_model.specs.declared.options.TableOptions.{TableOptions}
-use Rattle.command_words.specs.Arguments.{AreDates, AreOptions, AreRotationLimits, AskedDates, CanBeAsked, aircraft_in, dates_in, dir_in, fleet_in, legs_in, number_in, options_in, reading_in, rotations_in}
+use Rattle.command_words.specs.Arguments.{AreDates, AreOptions, AreRotationLimits, AskedDates, CanBeAsked, aircraft_told, dates_in, dir_in, fleet_told, legs_told, number_told, options_in, reading_in, rotations_in}
 use Rattle.command_words.specs.Found.{found}
 use Rattle.command_words.specs.declared.command.Command.{Command}
 use Rattle.command_words.specs.declared.command.Command.TheVariants as command
@@ -74,7 +74,7 @@ make_at number legs dir = option_and_then (λ n. option_map (make dir n) legs) n
 
 -- making tables, where all values read
 abbrev pub make_in : List Row → Option Asked
-make_in found = option_and_then (make_at (number_in found) (legs_in found)) (dir_in found)
+make_in found = option_and_then (make_at (number_told found) (legs_told found)) (dir_in found)
 
 -- asking of a folder's proof what it says of so many aircraft of a fleet, where all are there
 abbrev pub whatif_at : Option TableOptions → Option Text → Option ℕ → Text → Option Asked
@@ -83,7 +83,7 @@ whatif_at reading fleet count dir =
 
 -- asking about another size, where all values read
 abbrev pub whatif_in : List Row → Option Asked
-whatif_in found = option_and_then (whatif_at (reading_in found) (fleet_in found) (aircraft_in found)) (dir_in found)
+whatif_in found = option_and_then (whatif_at (reading_in found) (fleet_told found) (aircraft_told found)) (dir_in found)
 
 -- the command of a subcommand's name and what was found for its arguments
 abbrev pub command_in : Text × List Row → Option Asked

@@ -2,8 +2,8 @@
 ghost use Rattle.std.specs.Prelude.{◌≡◌, ◌≤◌, ◌<◌, IfSome, Some, codes, option_map};
 ghost use Rattle.calendar_dates.specs.Days.{day_on};
 ghost use Rattle.clap.specs.Words.{first_of};
-ghost use Rattle.command_words.specs.Arguments.{AreDates, AreLimits, AreOptions, AreRotationLimits, IsLegCount, aircraft_in, budget_of, dates_in, day_start_in, is_given, least_night_in, legs_in, legs_read, number_in, options_in, past_at, period_in, reading_in, rotations_in, rows_in, search_in, settings_in, through_max_in, way_in, way_read};
-ghost use Rattle.command_words.specs.Values.{number_read, value_or};
+ghost use Rattle.command_words.specs.Arguments.{AreDates, AreLimits, AreOptions, AreRotationLimits, IsLegCount, aircraft_told, budget_of, dates_in, day_start_in, is_given, least_night_in, legs_read, legs_told, number_told, options_in, past_at, period_in, reading_in, rotations_in, rows_found, search_in, settings_in, through_max_in, way_in, way_read};
+ghost use Rattle.command_words.specs.Values.{number_read, value_or_default};
 ghost use Rattle.command_words.specs.Words.{dates_by};
 ghost use Rattle.fleet_model.specs.Limits.{AreSettings};
 ghost use Rattle.fleet_model.specs.declared.limits.TheConstants.{MAX_AIRCRAFT, MINUTES_PER_DAY};
@@ -24,7 +24,7 @@ use fleet_model::{Settings, TableOptions};
 
 /// How the tables are read, as the options say.
 pub(crate) fn reading_of(found: &ArgMatches<'_>) -> Option<TableOptions>
-    ensures read { result ≡ reading_in (rows_in found.now) }
+    ensures read { result ≡ reading_in (rows_found found.now) }
     ensures fit { IfSome result (λ reading. AreSettings reading.settings) }
 {
     let settings = settings_of(found)?;
@@ -37,7 +37,7 @@ pub(crate) fn reading_of(found: &ArgMatches<'_>) -> Option<TableOptions>
 
 /// The settings that the options give.
 fn settings_of(found: &ArgMatches<'_>) -> Option<Settings>
-    ensures read { result ≡ settings_in (rows_in found.now) }
+    ensures read { result ≡ settings_in (rows_found found.now) }
     ensures fit { IfSome result AreSettings }
 {
     let day_start = day_start_of(found)?;
@@ -54,7 +54,7 @@ fn settings_of(found: &ArgMatches<'_>) -> Option<Settings>
 
 /// The day start that an option gives, or its default.
 fn day_start_of(found: &ArgMatches<'_>) -> Option<u16>
-    ensures read { result ≡ day_start_in (rows_in found.now) }
+    ensures read { result ≡ day_start_in (rows_found found.now) }
     ensures fits { IfSome result (λ minute. minute < MINUTES_PER_DAY) }
 {
     match value_of(found, "day-start") {
@@ -65,7 +65,7 @@ fn day_start_of(found: &ArgMatches<'_>) -> Option<u16>
 
 /// The longest wait of a through pair that an option gives, or its default, as where the command has no such option.
 fn through_max_of(found: &ArgMatches<'_>) -> Option<u16>
-    ensures read { result ≡ through_max_in (rows_in found.now) }
+    ensures read { result ≡ through_max_in (rows_found found.now) }
     ensures fits { IfSome result (λ wait. wait < MINUTES_PER_DAY) }
 {
     let default = u64::from(DEFAULT_THROUGH_MAX);
@@ -76,7 +76,7 @@ fn through_max_of(found: &ArgMatches<'_>) -> Option<u16>
 /// The least minutes of a night for maintenance that an option gives, or their default, as where the command has no such
 /// option.
 fn least_night_of(found: &ArgMatches<'_>) -> Option<u16>
-    ensures read { result ≡ least_night_in (rows_in found.now) }
+    ensures read { result ≡ least_night_in (rows_found found.now) }
     ensures fits { IfSome result (λ least. least ≤ MAX_LEAST_NIGHT) }
 {
     let default = u64::from(DEFAULT_LEAST_NIGHT);
@@ -86,7 +86,7 @@ fn least_night_of(found: &ArgMatches<'_>) -> Option<u16>
 
 /// The days of the period that an option gives, or their default.
 fn period_of(found: &ArgMatches<'_>) -> Option<u16>
-    ensures read { result ≡ period_in (rows_in found.now) }
+    ensures read { result ≡ period_in (rows_found found.now) }
     ensures some { IfSome result (λ days. MIN_PERIOD ≤ days) }
     ensures few { IfSome result (λ days. days ≤ MAX_PERIOD) }
 {
@@ -103,7 +103,7 @@ fn period_of(found: &ArgMatches<'_>) -> Option<u16>
 
 /// How a plan is searched for, as the options say.
 pub(crate) fn options_of(found: &ArgMatches<'_>) -> Option<SolveOptions>
-    ensures read { result ≡ options_in (rows_in found.now) }
+    ensures read { result ≡ options_in (rows_found found.now) }
     ensures fit { IfSome result AreOptions }
 {
     let way = way_of(found)?;
@@ -120,7 +120,7 @@ pub(crate) fn options_of(found: &ArgMatches<'_>) -> Option<SolveOptions>
 
 /// How a search makes its choices, as an option says, or its default.
 fn way_of(found: &ArgMatches<'_>) -> Option<SearchWay>
-    ensures { result ≡ way_in (rows_in found.now) }
+    ensures { result ≡ way_in (rows_found found.now) }
 {
     match value_of(found, "search") {
         Some(text) => way_named(text),
@@ -141,7 +141,7 @@ fn way_named(text: &str) -> Option<SearchWay>
 
 /// The limits of a search that the options give.
 fn search_of(found: &ArgMatches<'_>) -> Option<SearchLimits>
-    ensures read { result ≡ search_in (rows_in found.now) }
+    ensures read { result ≡ search_in (rows_found found.now) }
     ensures fit { IfSome result AreLimits }
 {
     let nodes = number_of(found, "nodes", DEFAULT_NODES, 0, MAX_NODES)?;
@@ -159,7 +159,7 @@ fn budget_of(all: bool, pivots: u64) -> Option<u64>
 
 /// The limits of rotations that the options give.
 pub(crate) fn rotations_of(found: &ArgMatches<'_>) -> Option<RotationLimits>
-    ensures read { result ≡ rotations_in (rows_in found.now) }
+    ensures read { result ≡ rotations_in (rows_found found.now) }
     ensures fit { IfSome result AreRotationLimits }
 {
     let days = small_number_of(found, "days", DEFAULT_DAYS, MIN_DAYS, MAX_DAYS)?;
@@ -169,7 +169,7 @@ pub(crate) fn rotations_of(found: &ArgMatches<'_>) -> Option<RotationLimits>
 
 /// The dates that the words give.
 pub(crate) fn dates_of(found: &ArgMatches<'_>) -> Option<Dates>
-    ensures read { option_map dates_by result ≡ dates_in (rows_in found.now) }
+    ensures read { option_map dates_by result ≡ dates_in (rows_found found.now) }
     ensures fit { IfSome result AreDates }
 {
     let first = civil_date(value_of(found, "date")?)?;
@@ -183,7 +183,7 @@ pub(crate) fn dates_of(found: &ArgMatches<'_>) -> Option<Dates>
 
 /// How many days a date comes after the first day of a period that an option gives. It is one itself where none is given.
 fn past_of(found: &ArgMatches<'_>, date: Date) -> Option<u32>
-    ensures read { result ≡ past_at (first_of (codes "first-day") (rows_in found.now)) (Some (day_on date)) }
+    ensures read { result ≡ past_at (first_of (codes "first-day") (rows_found found.now)) (Some (day_on date)) }
     ensures few { IfSome result (λ days. days ≤ 3652058) }
 {
     match value_of(found, "first-day") {
@@ -204,7 +204,7 @@ fn count_of(text: &str) -> Option<u32>
 
 /// The number that tables are made of.
 pub(crate) fn made_number_of(found: &ArgMatches<'_>) -> Option<u32>
-    ensures read { result ≡ number_in (rows_in found.now) }
+    ensures read { result ≡ number_told (rows_found found.now) }
     ensures fits { IfSome result (λ number. number ≤ MAX_NUMBER) }
 {
     let number = number_between(value_of(found, "number")?, 0, u64::from(MAX_NUMBER))?;
@@ -213,7 +213,7 @@ pub(crate) fn made_number_of(found: &ArgMatches<'_>) -> Option<u32>
 
 /// How many legs are made.
 pub(crate) fn made_legs_of(found: &ArgMatches<'_>) -> Option<u32>
-    ensures read { result ≡ legs_in (rows_in found.now) }
+    ensures read { result ≡ legs_told (rows_found found.now) }
     ensures fits { IfSome result IsLegCount }
 {
     made_legs(value_of(found, "legs")?)
@@ -234,7 +234,7 @@ fn made_legs(text: &str) -> Option<u32>
 
 /// The number of aircraft that a word gives.
 pub(crate) fn aircraft_of(found: &ArgMatches<'_>) -> Option<u32>
-    ensures read { result ≡ aircraft_in (rows_in found.now) }
+    ensures read { result ≡ aircraft_told (rows_found found.now) }
     ensures fits { IfSome result (λ count. count ≤ MAX_AIRCRAFT) }
 {
     let count = number_between(value_of(found, "count")?, 0, u64::from(MAX_AIRCRAFT))?;
@@ -251,7 +251,7 @@ fn small_number_of(
 ) -> Option<u32>
     requires default_least { least ≤ default }
     requires default_greatest { default ≤ greatest }
-    ensures read { result ≡ value_or default (number_read least greatest) (first_of option.now (rows_in found.now)) }
+    ensures read { result ≡ value_or_default default (number_read least greatest) (first_of option.now (rows_found found.now)) }
     ensures least { IfSome result (λ number. least ≤ number) }
     ensures greatest { IfSome result (λ number. number ≤ greatest) }
 {
@@ -276,7 +276,7 @@ fn number_of(
 ) -> Option<u64>
     requires default_least { least ≤ default }
     requires default_greatest { default ≤ greatest }
-    ensures read { result ≡ value_or default (number_read least greatest) (first_of option.now (rows_in found.now)) }
+    ensures read { result ≡ value_or_default default (number_read least greatest) (first_of option.now (rows_found found.now)) }
     ensures least { IfSome result (λ number. least ≤ number) }
     ensures greatest { IfSome result (λ number. number ≤ greatest) }
 {
@@ -288,7 +288,7 @@ fn number_of(
 
 /// Whether a flag is given.
 fn is_given(found: &ArgMatches<'_>, flag: &str) -> bool
-    ensures { result ≡ is_given flag.now (rows_in found.now) }
+    ensures { result ≡ is_given flag.now (rows_found found.now) }
 {
     match value_of(found, flag) {
         Some(text) => text == "true",
@@ -298,7 +298,7 @@ fn is_given(found: &ArgMatches<'_>, flag: &str) -> bool
 
 /// The value of an argument, where it was given one.
 pub(crate) fn value_of<'a>(found: &ArgMatches<'a>, argument: &str) -> Option<&'a str>
-    ensures { option_map (λ text. text.now) result ≡ first_of argument.now (rows_in found.now) }
+    ensures { option_map (λ text. text.now) result ≡ first_of argument.now (rows_found found.now) }
 {
     found.get_str(argument)
 }

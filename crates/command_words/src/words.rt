@@ -1,6 +1,6 @@
 ghost use Rattle.std.specs.Prelude.{◌≡◌, IfOk, IfSome, map, option_and_then, option_map, string_bytes};
 ghost use Rattle.clap.specs.Words.{subcommand_rows_of};
-ghost use Rattle.command_words.specs.Arguments.{rows_in};
+ghost use Rattle.command_words.specs.Arguments.{rows_found};
 ghost use Rattle.command_words.specs.Words.{HasDates, HasLimits, HasSettings, IsInRange, asked, asked_by, check_in, command_in, judge_in, make_in, solve_in, tails_in, whatif_in, due_in};
 
 use crate::arguments::{
@@ -48,14 +48,14 @@ fn command_met<'a>(matches: &ArgMatches<'a>) -> Option<Command<'a>>
 
 /// The command's name, and what was found for its arguments.
 fn named<'a, 'm>(matches: &'m ArgMatches<'a>) -> Option<(&'a str, &'m ArgMatches<'a>)>
-    ensures { option_map (λ command. (command.0.now, rows_in command.1.now)) result ≡ subcommand_rows_of matches.now }
+    ensures { option_map (λ command. (command.0.now, rows_found command.1.now)) result ≡ subcommand_rows_of matches.now }
 {
     matches.subcommand()
 }
 
 /// Judging, with what was found for it.
 fn judge_of<'a>(found: &ArgMatches<'a>) -> Option<Command<'a>>
-    ensures asked { option_map asked_by result ≡ judge_in (rows_in found.now) }
+    ensures asked { option_map asked_by result ≡ judge_in (rows_found found.now) }
     ensures fit { IfSome result IsInRange }
 {
     let dir = value_of(found, "dir")?;
@@ -65,7 +65,7 @@ fn judge_of<'a>(found: &ArgMatches<'a>) -> Option<Command<'a>>
 
 /// Solving, with what was found for it.
 fn solve_of<'a>(found: &ArgMatches<'a>) -> Option<Command<'a>>
-    ensures asked { option_map asked_by result ≡ solve_in (rows_in found.now) }
+    ensures asked { option_map asked_by result ≡ solve_in (rows_found found.now) }
     ensures fit { IfSome result IsInRange }
 {
     let dir = value_of(found, "dir")?;
@@ -80,7 +80,7 @@ fn solve_of<'a>(found: &ArgMatches<'a>) -> Option<Command<'a>>
 
 /// Checking, with what was found for it.
 fn check_of<'a>(found: &ArgMatches<'a>) -> Option<Command<'a>>
-    ensures asked { option_map asked_by result ≡ check_in (rows_in found.now) }
+    ensures asked { option_map asked_by result ≡ check_in (rows_found found.now) }
     ensures fit { IfSome result IsInRange }
 {
     let dir = value_of(found, "dir")?;
@@ -90,7 +90,7 @@ fn check_of<'a>(found: &ArgMatches<'a>) -> Option<Command<'a>>
 
 /// Printing tails, with what was found for it.
 fn tails_of<'a>(found: &ArgMatches<'a>) -> Option<Command<'a>>
-    ensures asked { option_map asked_by result ≡ tails_in (rows_in found.now) }
+    ensures asked { option_map asked_by result ≡ tails_in (rows_found found.now) }
     ensures fit { IfSome result IsInRange }
 {
     let dir = value_of(found, "dir")?;
@@ -107,7 +107,7 @@ fn tails_of<'a>(found: &ArgMatches<'a>) -> Option<Command<'a>>
 
 /// Printing what named tails fly, with what was found for it.
 fn due_of<'a>(found: &ArgMatches<'a>) -> Option<Command<'a>>
-    ensures asked { option_map asked_by result ≡ due_in (rows_in found.now) }
+    ensures asked { option_map asked_by result ≡ due_in (rows_found found.now) }
     ensures fit { IfSome result IsInRange }
 {
     let dir = value_of(found, "dir")?;
@@ -124,7 +124,7 @@ fn due_of<'a>(found: &ArgMatches<'a>) -> Option<Command<'a>>
 
 /// Making tables, with what was found for it.
 fn make_of<'a>(found: &ArgMatches<'a>) -> Option<Command<'a>>
-    ensures asked { option_map asked_by result ≡ make_in (rows_in found.now) }
+    ensures asked { option_map asked_by result ≡ make_in (rows_found found.now) }
     ensures fit { IfSome result IsInRange }
 {
     let dir = value_of(found, "dir")?;
@@ -135,7 +135,7 @@ fn make_of<'a>(found: &ArgMatches<'a>) -> Option<Command<'a>>
 
 /// Asking about another size of a fleet, with what was found for it.
 fn whatif_of<'a>(found: &ArgMatches<'a>) -> Option<Command<'a>>
-    ensures asked { option_map asked_by result ≡ whatif_in (rows_in found.now) }
+    ensures asked { option_map asked_by result ≡ whatif_in (rows_found found.now) }
     ensures fit { IfSome result IsInRange }
 {
     let dir = value_of(found, "dir")?;

@@ -2,8 +2,8 @@
 use Rattle.std.proofs.Common.{ℕ, List}
 use Rattle.fleet_model.specs.Schedule.{legs_in}
 use Rattle.cycle_join.specs.Joins.{IsApart, IsFirstLeg, IsJoined}
-use Rattle.cycle_join.specs.Labels.{label_of, legs_of}
-use Rattle.cycle_join.specs.Meetings.{AreApart, AreCycles, HasOneLabel, HasOtherLabel}
+use Rattle.cycle_join.specs.Labels.{label_of, legs_labelled}
+use Rattle.cycle_join.specs.Meetings.{AreCycles, AreCyclesApart, HasOneLabel, HasOtherLabel}
 use Rattle.cycle_join.specs.Rounds.{IsRound}
 use Rattle.cycle_join.specs.declared.cycles.Cycles.{Cycles}
 use Rattle.cycle_join.specs.declared.ground.Ground.{Ground}
@@ -18,8 +18,8 @@ module _ (g : Ground) (c : Cycles) (is : AreCycles g c) (first : ℕ) (least : I
       is_joined g.tables.now g.plan.now g.fleet c.turns.items is.fitting.map first least.flies legs round g.pairs.now c.labels.items is.fitting is.holds is.labels.each_leg
       is.cycles.whole least one.each
 
-  pub answer_apart : AreApart g c → HasOtherLabel g c first
-      → IsApart g.tables.now g.plan.now g.fleet g.pairs.now (legs_of c.labels.items (label_of c.labels.items first) (legs_in g.tables.now))
+  pub answer_apart : AreCyclesApart g c → HasOtherLabel g c first
+      → IsApart g.tables.now g.plan.now g.fleet g.pairs.now (legs_labelled c.labels.items (label_of c.labels.items first) (legs_in g.tables.now))
   answer_apart apart other =
       is_apart g.tables.now g.plan.now g.fleet g.pairs.now c.turns.items c.labels.items first is.fitting is.holds is.labels.each_leg is.cycles least
       (λ inside by_label. never_touches g.tables.now g.plan.now g.fleet g.pairs.now c.turns.items c.labels.items is.fitting.map inside by_label

@@ -12,7 +12,7 @@ use Rattle.ground_turns.specs.Turns.{ready_at, station_at, touches, wait_of}
 use Rattle.ground_turns.proofs.Waits.{ready_within}
 use Rattle.ground_turns.proofs.WalkRound.{touches_ready}
 use Rattle.cycle_join.specs.Labels.{label_of}
-use Rattle.cycle_join.specs.Meetings.{meets, share_minute}
+use Rattle.cycle_join.specs.Meetings.{meets_cycle, share_minute}
 use Rattle.cycle_join.proofs.Arcs.{one_touches}
 
 -- what it says that two turns meet
@@ -24,7 +24,7 @@ pub record AreMeeting (t : Tables) (f : ℕ) (pairs : List Connection) (labels :
   pub shared : share_minute t f turn other ≡ true
 
 module _ (t : Tables) (f : ℕ) (pairs : List Connection) (labels : List ℕ) (turn other : Connection) where
-  pub are_meeting : meets t f pairs labels turn other ≡ true → AreMeeting t f pairs labels turn other
+  pub are_meeting : meets_cycle t f pairs labels turn other ≡ true → AreMeeting t f pairs labels turn other
   are_meeting e =
       let last = and_parts _ _ e in
       let there = and_parts _ _ last.0 in
@@ -38,7 +38,7 @@ module _ (t : Tables) (f : ℕ) (pairs : List Connection) (labels : List ℕ) (t
         shared = last.1;
       }
 
-  pub meets_true : AreMeeting t f pairs labels turn other → meets t f pairs labels turn other ≡ true
+  pub meets_true : AreMeeting t f pairs labels turn other → meets_cycle t f pairs labels turn other ≡ true
   meets_true h = and_from _ _ (and_from _ _ (and_from _ _ (and_from _ _ (lt-ltb _ _ h.lower) (eq-eqb _ _ h.free)) (eq-eqb _ _ h.other_free)) (eq-eqb _ _ h.together)) h.shared
 
 -- two turns share a minute where the first touches that of the other, and else just where the other does
@@ -96,7 +96,7 @@ module _ (t : Tables) (a : List ℕ) (f : ℕ) (pairs turns : List Connection) (
       (ready_within t a f turns map j) (ready_within t a f turns map k) moment p.touching q.touching
 
   meeting : (s m j k : ℕ) → m < period_of t → TouchesFreely t f pairs turns s m j → TouchesFreely t f pairs turns s m k
-      → label_of labels (turn_at turns k).arriving < label_of labels (turn_at turns j).arriving → meets t f pairs labels (turn_at turns j) (turn_at turns k) ≡ true
+      → label_of labels (turn_at turns k).arriving < label_of labels (turn_at turns j).arriving → meets_cycle t f pairs labels (turn_at turns j) (turn_at turns k) ≡ true
   meeting s m j k moment p q lower =
       meets_true t f pairs labels (turn_at turns j) (turn_at turns k)
       (record { lower = lower; free = p.free; other_free = q.free; together = p.there ∙ sym q.there; shared = shared s m j k moment p q })
@@ -104,7 +104,7 @@ module _ (t : Tables) (a : List ℕ) (f : ℕ) (pairs turns : List Connection) (
   -- where no turns meet, no label's legs touch others
   pub never_touches : (inside : ℕ → Bool) → ((j k : ℕ) → j < length turns → k < length turns → label_of labels (turn_at turns j).arriving ≡ label_of labels (turn_at turns k).arriving
       → inside (turn_at turns j).arriving ≡ inside (turn_at turns k).arriving)
-      → ((j k : ℕ) → j < length turns → k < length turns → meets t f pairs labels (turn_at turns j) (turn_at turns k) ≡ false) → NeverTouches t f pairs turns inside
+      → ((j k : ℕ) → j < length turns → k < length turns → meets_cycle t f pairs labels (turn_at turns j) (turn_at turns k) ≡ false) → NeverTouches t f pairs turns inside
   never_touches inside by_label none = record {
     each = λ s m j k moment p q.
         by_order s m j k moment p q (cases_order (label_of labels (turn_at turns j).arriving) (label_of labels (turn_at turns k).arriving));

@@ -14,7 +14,7 @@ use Rattle.ground_turns.proofs.ApartMaps.{apart_for_all, tour_is_whole}
 use Rattle.ground_turns.proofs.Totals.{some_counted}
 use Rattle.sums.proofs.Places.{get_or-list_below, length-list_below}
 use Rattle.cycle_join.specs.Joins.{Flies, IsAlwaysKept, IsApart, IsFirstLeg, is_listed}
-use Rattle.cycle_join.specs.Labels.{AreLinked, label_of, legs_of}
+use Rattle.cycle_join.specs.Labels.{AreLinked, label_of, legs_labelled}
 use Rattle.cycle_join.proofs.Listed.{listed_at, where_listed}
 use Rattle.cycle_join.proofs.Paths.{arrives_once}
 
@@ -79,16 +79,16 @@ module _ (labels : List ℕ) (label : ℕ) where
     ];
   }
 
-  pub are_of : (n : ℕ) → AreOf labels label (legs_of labels label n) n
+  pub are_of : (n : ℕ) → AreOf labels label (legs_labelled labels label n) n
   are_of zero = record { below = λ k lt. absurd (omega arith); each = λ k lt. absurd (omega arith); rise = λ j k order lt. absurd (omega arith); all = λ l less is. absurd (omega arith) }
   are_of (suc n) = by_last (label_of labels n == label) refl (are_of n)
     where
-      by_last : (b : Bool) → (label_of labels n == label) ≡ b → AreOf labels label (legs_of labels label n) n
-          → AreOf labels label (legs_of labels label n ++ (if b then n ∷ [] else [])) (suc n)
-      by_last true e h = one_more (legs_of labels label n) n (eqb-true _ _ e) h
+      by_last : (b : Bool) → (label_of labels n == label) ≡ b → AreOf labels label (legs_labelled labels label n) n
+          → AreOf labels label (legs_labelled labels label n ++ (if b then n ∷ [] else [])) (suc n)
+      by_last true e h = one_more (legs_labelled labels label n) n (eqb-true _ _ e) h
       by_last false e h =
-          subst (λ legs. AreOf labels label legs (suc n)) (sym (append-nil (legs_of labels label n)))
-          (no_more (legs_of labels label n) n (λ is. no_both e (eq-eqb _ _ is)) h)
+          subst (λ legs. AreOf labels label legs (suc n)) (sym (append-nil (legs_labelled labels label n)))
+          (no_more (legs_labelled labels label n) n (λ is. no_both e (eq-eqb _ _ is)) h)
 
 -- a tour has each of the fleet's legs
 in_tour : (t : Tables) (a : List ℕ) (f : ℕ) (tour : List ℕ) → IsTour t a f tour → (l : ℕ) → Flies t a f l → (k : ℕ) × (k < length tour) × (slice_index tour k ≡ l)
@@ -107,7 +107,7 @@ module _ (t : Tables) (a : List ℕ) (f : ℕ) (pairs turns : List Connection) (
     (apart : (inside : ℕ → Bool) → ((j k : ℕ) → j < length turns → k < length turns → label_of labels (turn_at turns j).arriving ≡ label_of labels (turn_at turns k).arriving
     → inside (turn_at turns j).arriving ≡ inside (turn_at turns k).arriving) → NeverTouches t f pairs turns inside) where
   legs : List ℕ
-  legs = legs_of labels (label_of labels first) (legs_in t)
+  legs = legs_labelled labels (label_of labels first) (legs_in t)
 
   are : AreOf labels (label_of labels first) legs (legs_in t)
   unfolding legs
@@ -183,7 +183,7 @@ module _ (t : Tables) (a : List ℕ) (f : ℕ) (pairs turns : List Connection) (
         let there : is_listed legs first ≡ true = ap (is_listed legs) (sym first_at) ∙ listed_at legs 0 some in
         no_both outside (ap (is_listed legs) (sym j.2) ∙ same ∙ ap (is_listed legs) k.2 ∙ there)
 
-    pub is_apart : IsApart t a f pairs (legs_of labels (label_of labels first) (legs_in t))
+    pub is_apart : IsApart t a f pairs (legs_labelled labels (label_of labels first) (legs_in t))
     unfolding legs
     is_apart = record {
       rise = are.rise;

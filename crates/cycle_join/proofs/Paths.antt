@@ -11,7 +11,7 @@ use Rattle.ground_turns.specs.Maps.{HasTurn, IsSuccessorMap, arrivals_of, depart
 use Rattle.ground_turns.specs.Turns.{IsTurn}
 use Rattle.ground_turns.proofs.Rounds.{bit}
 use Rattle.cycle_join.specs.Joins.{Flies}
-use Rattle.cycle_join.specs.Rounds.{IsPath, IsRound, last_of, turn_between}
+use Rattle.cycle_join.specs.Rounds.{IsPath, IsRound, final_leg, turn_between}
 use Rattle.sums.proofs.Terms.{few_apart}
 
 module _ (t : Tables) (a : List ℕ) (f : ℕ) (turns : List Connection) (map : IsSuccessorMap t a f turns) where
@@ -43,14 +43,14 @@ module _ (t : Tables) (a : List ℕ) (f : ℕ) (turns : List Connection) (map : 
 
   module _ (first : ℕ) (legs : List ℕ) (path : IsPath turns first legs) where
     -- a leg that follows the last is the first or none of them
-    new_leg : (q : ℕ) → HasTurn turns (turn_between (last_of legs) q) → q ≢ first → (k : ℕ) → k < length legs → slice_index legs k ≢ q
+    new_leg : (q : ℕ) → HasTurn turns (turn_between (final_leg legs) q) → q ≢ first → (k : ℕ) → k < length legs → slice_index legs k ≢ q
     new_leg q turn other zero lt same = other (sym same ∙ path.begins)
     new_leg q turn other (suc k) lt same =
         let before = subst (λ r. HasTurn turns (turn_between (slice_index legs k) r)) same (path.steps k lt) in
-        path.once k (length legs - 1) (omega arith) (omega arith) (same_before (slice_index legs k) (last_of legs) q before turn)
+        path.once k (length legs - 1) (omega arith) (omega arith) (same_before (slice_index legs k) (final_leg legs) q before turn)
 
     -- one leg more
-    pub path_more : (q : ℕ) → HasTurn turns (turn_between (last_of legs) q) → q ≢ first → IsPath turns first (legs ++ q ∷ [])
+    pub path_more : (q : ℕ) → HasTurn turns (turn_between (final_leg legs) q) → q ≢ first → IsPath turns first (legs ++ q ∷ [])
     path_more q turn other =
         let some = path.some in
         record {
@@ -89,7 +89,7 @@ module _ (t : Tables) (a : List ℕ) (f : ℕ) (turns : List Connection) (map : 
 
 -- a path that ends with a leg goes on with the one that follows, or has come round
 module _ (t : Tables) (a : List ℕ) (f : ℕ) (turns : List Connection) (map : IsSuccessorMap t a f turns) (first leg : ℕ) (legs : List ℕ) where
-  last_leg : last_of (legs ++ leg ∷ []) ≡ leg
+  last_leg : final_leg (legs ++ leg ∷ []) ≡ leg
   last_leg = get_or_push legs leg 0 (length (legs ++ leg ∷ []) - 1) (omega (arith, length-append legs (leg ∷ [])))
 
   pub path_on : (pushed : List ℕ) (q : ℕ) → pushed ≡ legs ++ leg ∷ [] → IsPath turns first (legs ++ leg ∷ []) → HasTurn turns (turn_between leg q) → q ≢ first

@@ -35,6 +35,6 @@ pub record AreLinked (turns : List Connection) (labels : List ℕ) (first : ℕ)
   pub whole : (inside : ℕ → Bool) → KeepsPart turns inside → IsOfLabels labels inside
 
 -- the legs of a label, by number
-abbrev pub legs_of : List ℕ → ℕ → ℕ → List ℕ
-legs_of labels label zero = []
-legs_of labels label (suc n) = legs_of labels label n ++ (if label_of labels n == label then n ∷ [] else [])
+abbrev pub legs_labelled : List ℕ → ℕ → ℕ → List ℕ
+legs_labelled labels label zero = []
+legs_labelled labels label (suc n) = legs_labelled labels label n ++ (if label_of labels n == label then n ∷ [] else [])

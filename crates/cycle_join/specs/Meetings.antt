@@ -16,7 +16,7 @@ pub record AreFree (pairs : List Connection) (legs : ℕ) (marks : List Bool) : 
   pub each_leg : length marks ≡ legs
   pub each : (l : ℕ) → l < legs → slice_index_or marks l false ≡ (arrivals_of pairs l == 0)
 
-pub record IsGround (g : Ground) : Type 0 where
+pub record IsMeetingGround (g : Ground) : Type 0 where
   pub plan : IsAssignment g.tables.now g.plan.now
   pub fleet : g.fleet < fleets_in g.tables.now
   pub free : AreFree g.pairs.now (legs_in g.tables.now) g.free.items
@@ -34,25 +34,25 @@ unfoldable pub share_minute : Tables → ℕ → Connection → Connection → B
 share_minute t f turn other = touches t f turn (ready_at t f other) || touches t f other (ready_at t f turn)
 
 -- a turn and one of a cycle with a lower label, neither of a given pair, that touch one minute at one station
-abbrev pub meets : Tables → ℕ → List Connection → List ℕ → Connection → Connection → Bool
-meets t f pairs labels turn other =
+abbrev pub meets_cycle : Tables → ℕ → List Connection → List ℕ → Connection → Connection → Bool
+meets_cycle t f pairs labels turn other =
     nat_lt (label_of labels other.arriving) (label_of labels turn.arriving) && (arrivals_of pairs turn.arriving == 0) && (arrivals_of pairs other.arriving == 0)
     && (station_at t turn == station_at t other) && share_minute t f turn other
 
 abbrev pub meet : Ground → Cycles → ℕ → ℕ → Bool
-meet g c i j = meets g.tables.now g.fleet g.pairs.now c.labels.items (turn_at c.turns.items i) (turn_at c.turns.items j)
+meet g c i j = meets_cycle g.tables.now g.fleet g.pairs.now c.labels.items (turn_at c.turns.items i) (turn_at c.turns.items j)
 
--- the turn meets none of a lower label
+-- the turn meets_cycle none of a lower label
 pub record MeetsNone (g : Ground) (c : Cycles) (i : ℕ) : Type 0 where
   pub each : (j : ℕ) → j < length c.turns.items → meet g c i j ≡ false
 
--- it meets this one
+-- it meets_cycle this one
 pub record Meets (g : Ground) (c : Cycles) (i j : ℕ) : Type 0 where
   pub within : j < length c.turns.items
   pub meeting : meet g c i j ≡ true
 
--- no turn meets another: no two cycles touch
-pub record AreApart (g : Ground) (c : Cycles) : Type 0 where
+-- no turn meets_cycle another: no two cycles touch
+pub record AreCyclesApart (g : Ground) (c : Cycles) : Type 0 where
   pub each : (i : ℕ) → i < length c.turns.items → MeetsNone g c i
 
 -- all the fleet's legs have the label of the first, or one has another

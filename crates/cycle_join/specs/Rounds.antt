@@ -7,8 +7,8 @@ use Rattle.ground_turns.specs.Maps.{HasTurn}
 abbrev pub turn_between : ℕ → ℕ → Connection
 turn_between l q = record { arriving = l; departing = q }
 
-abbrev pub last_of : List ℕ → ℕ
-last_of legs = slice_index legs (length legs - 1)
+abbrev pub final_leg : List ℕ → ℕ
+final_leg legs = slice_index legs (length legs - 1)
 
 -- legs from the first on, each followed by the next in the map, none twice
 pub record IsPath (turns : List Connection) (first : ℕ) (legs : List ℕ) : Type 0 where
@@ -20,4 +20,4 @@ pub record IsPath (turns : List Connection) (first : ℕ) (legs : List ℕ) : Ty
 -- and from the last to the first
 pub record IsRound (turns : List Connection) (first : ℕ) (legs : List ℕ) : Type 0 where
   pub path : IsPath turns first legs
-  pub closes : HasTurn turns (turn_between (last_of legs) first)
+  pub closes : HasTurn turns (turn_between (final_leg legs) first)

@@ -3,7 +3,7 @@ ghost use Rattle.std.specs.Prelude.{◌≡◌, IfOk, length};
 ghost use Rattle.fleet_model.specs.Schedule.{legs_in};
 ghost use Rattle.ground_turns.specs.Maps.{Holds, IsFitting};
 ghost use Rattle.cycle_join.specs.Labels.{AreLabels, AreLinked};
-ghost use Rattle.cycle_join.specs.Meetings.{AreCycles, IsGround};
+ghost use Rattle.cycle_join.specs.Meetings.{AreCycles, IsMeetingGround};
 
 use crate::ground::Ground;
 use crate::labels::{own_labels, relabel};
@@ -24,7 +24,7 @@ pub(crate) fn cycles_of(
     ground: &Ground<'_>,
     turns: Vec<Connection>,
 ) -> Result<Cycles, NoMemory>
-    requires ground { IsGround ground.now }
+    requires ground { IsMeetingGround ground.now }
     requires fitting { IsFitting ground.now.tables.now ground.now.plan.now ground.now.fleet turns.items }
     requires holds { Holds turns.items ground.now.pairs.now }
     ensures { IfOk result (AreCycles ground.now) }
@@ -35,7 +35,7 @@ pub(crate) fn cycles_of(
 
 // By leg, a label that the legs of its cycle have, and no others.
 fn labels_of(alloc: Global, ground: &Ground<'_>, turns: &[Connection]) -> Result<Vec<u32>, NoMemory>
-    requires ground { IsGround ground.now }
+    requires ground { IsMeetingGround ground.now }
     requires fitting { IsFitting ground.now.tables.now ground.now.plan.now ground.now.fleet turns.now }
     ensures labels { IfOk result (λ labels. AreLabels labels.items (legs_in ground.now.tables.now)) }
     ensures cycles { IfOk result (λ labels. AreLinked turns.now labels.items (length turns.now)) }

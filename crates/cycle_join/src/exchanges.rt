@@ -2,7 +2,7 @@
 ghost use Rattle.std.specs.Prelude.{◌≡◌, ◌≢◌, ◌<◌, ◌≤◌, ◌+◌, true, false, MatchOption, length};
 ghost use Rattle.ground_turns.specs.Maps.{AreExchanged, turn_at};
 ghost use Rattle.cycle_join.specs.Labels.{label_of, total_of};
-ghost use Rattle.cycle_join.specs.Meetings.{AreApart, AreCycles, IsGround, Meets, MeetsNone, meet};
+ghost use Rattle.cycle_join.specs.Meetings.{AreCycles, AreCyclesApart, IsMeetingGround, Meets, MeetsNone, meet};
 
 use crate::cycles::Cycles;
 use crate::ground::Ground;
@@ -12,10 +12,10 @@ use fleet_model::Connection;
 
 /// Joins cycles until no two touch. Takes no memory.
 pub(crate) fn join_all(ground: &Ground<'_>, cycles: &mut Cycles)
-    requires ground { IsGround ground.now }
+    requires ground { IsMeetingGround ground.now }
     requires cycles { AreCycles ground.now cycles.old }
     ensures cycles { AreCycles ground.now cycles.new }
-    ensures apart { AreApart ground.now cycles.new }
+    ensures apart { AreCyclesApart ground.now cycles.new }
 {
     // each pass but the last makes labels lower
     for _ in 0..u64::MAX {
@@ -28,11 +28,11 @@ pub(crate) fn join_all(ground: &Ground<'_>, cycles: &mut Cycles)
 
 // Goes over the turns once, and joins the cycle of each with one of a lower label that it meets. Whether there were any.
 fn join_some(ground: &Ground<'_>, cycles: &mut Cycles) -> bool
-    requires ground { IsGround ground.now }
+    requires ground { IsMeetingGround ground.now }
     requires cycles { AreCycles ground.now cycles.old }
     ensures cycles { AreCycles ground.now cycles.new }
     ensures lower { result ≡ true → total_of cycles.new.labels.items < total_of cycles.old.labels.items }
-    ensures apart { result ≡ false → AreApart ground.now cycles.new }
+    ensures apart { result ≡ false → AreCyclesApart ground.now cycles.new }
 {
     let mut joined = false;
     for place in 0..cycles.turns.len() {
@@ -46,7 +46,7 @@ fn join_some(ground: &Ground<'_>, cycles: &mut Cycles) -> bool
 
 // The place of the first turn that a turn meets.
 fn met_by(ground: &Ground<'_>, cycles: &Cycles, place: usize) -> Option<usize>
-    requires ground { IsGround ground.now }
+    requires ground { IsMeetingGround ground.now }
     requires cycles { AreCycles ground.now cycles.now }
     requires place { place < length cycles.now.turns.items }
     ensures { MatchOption result (MeetsNone ground.now cycles.now place) (Meets ground.now cycles.now place) }
@@ -61,7 +61,7 @@ fn met_by(ground: &Ground<'_>, cycles: &Cycles, place: usize) -> Option<usize>
 
 // Whether the turn at one place meets that at another.
 fn meet(ground: &Ground<'_>, cycles: &Cycles, place: usize, other: usize) -> bool
-    requires ground { IsGround ground.now }
+    requires ground { IsMeetingGround ground.now }
     requires cycles { AreCycles ground.now cycles.now }
     requires place { place < length cycles.now.turns.items }
     requires other { other < length cycles.now.turns.items }
@@ -77,7 +77,7 @@ fn meet(ground: &Ground<'_>, cycles: &Cycles, place: usize, other: usize) -> boo
 
 // Makes one cycle of those of two turns that meet.
 fn join_two(ground: &Ground<'_>, cycles: &mut Cycles, place: usize, other: usize)
-    requires ground { IsGround ground.now }
+    requires ground { IsMeetingGround ground.now }
     requires cycles { AreCycles ground.now cycles.old }
     requires place { place < length cycles.old.turns.items }
     requires meets { Meets ground.now cycles.old place other }

@@ -3,7 +3,7 @@ ghost use Rattle.std.specs.Prelude.{◌≡◌, ◌<◌, IfOk};
 ghost use Rattle.fleet_model.specs.Legal.{IsAssignment};
 ghost use Rattle.fleet_model.specs.Schedule.{fleets_in};
 ghost use Rattle.ground_turns.specs.Maps.{arrivals_of};
-ghost use Rattle.cycle_join.specs.Meetings.{AreFree, IsGround};
+ghost use Rattle.cycle_join.specs.Meetings.{AreFree, IsMeetingGround};
 
 use entries::NoMemory;
 use fleet_model::{Assignment, Connection, Tables};
@@ -30,7 +30,7 @@ pub(crate) fn ground_of<'a>(
 ) -> Result<Ground<'a>, NoMemory>
     requires plan { IsAssignment tables.now plan.now }
     requires fleet { fleet < fleets_in tables.now }
-    ensures ground { IfOk result IsGround }
+    ensures ground { IfOk result IsMeetingGround }
     ensures tables { IfOk result (λ ground. ground.tables.now ≡ tables.now) }
     ensures plan { IfOk result (λ ground. ground.plan.now ≡ plan.now) }
     ensures fleet { IfOk result (λ ground. ground.fleet ≡ fleet) }

@@ -1,9 +1,9 @@
 ghost use Rattle.std.specs.Prelude.{◌<◌, IfOk};
 ghost use Rattle.fleet_model.specs.Legal.{IsAssignment};
 ghost use Rattle.fleet_model.specs.Schedule.{fleets_in};
-ghost use Rattle.ground_turns.specs.Maps.{IsHeld};
+ghost use Rattle.ground_turns.specs.Maps.{IsHeldByMap};
 ghost use Rattle.cycle_join.specs.Joins.{FliesSome, Joins};
-ghost use Rattle.cycle_join.specs.Meetings.{AreApart, AreCycles, IsGround};
+ghost use Rattle.cycle_join.specs.Meetings.{AreCycles, AreCyclesApart, IsMeetingGround};
 
 use crate::cycles::{Cycles, cycles_of};
 use crate::exchanges::join_all;
@@ -39,7 +39,7 @@ pub fn join(
 ) -> Result<Joined, NoMemory>
     requires plan { IsAssignment tables.now plan.now }
     requires fleet { fleet < fleets_in tables.now }
-    requires held { IsHeld tables.now plan.now fleet pairs.now }
+    requires held { IsHeldByMap tables.now plan.now fleet pairs.now }
     requires flies { FliesSome tables.now plan.now fleet }
     ensures { IfOk result (Joins tables.now plan.now fleet pairs.now) }
 {
@@ -52,9 +52,9 @@ pub fn join(
 
 // The answer where no two cycles touch.
 fn answer(alloc: Global, ground: &Ground<'_>, cycles: &Cycles) -> Result<Joined, NoMemory>
-    requires ground { IsGround ground.now }
+    requires ground { IsMeetingGround ground.now }
     requires cycles { AreCycles ground.now cycles.now }
-    requires apart { AreApart ground.now cycles.now }
+    requires apart { AreCyclesApart ground.now cycles.now }
     requires flies { FliesSome ground.now.tables.now ground.now.plan.now ground.now.fleet }
     ensures { IfOk result (Joins ground.now.tables.now ground.now.plan.now ground.now.fleet ground.now.pairs.now) }
 {

@@ -3,8 +3,8 @@ ghost use Rattle.std.specs.Prelude.{◌≡◌, ◌<◌, ℕ, IfOk, MatchBool, le
 ghost use Rattle.fleet_model.specs.Counts.{choice_at};
 ghost use Rattle.fleet_model.specs.Schedule.{legs_in};
 ghost use Rattle.cycle_join.specs.Joins.{Flies, FliesSome, IsFirstLeg};
-ghost use Rattle.cycle_join.specs.Labels.{label_of, legs_of};
-ghost use Rattle.cycle_join.specs.Meetings.{AreCycles, HasOneLabel, HasOtherLabel, IsGround};
+ghost use Rattle.cycle_join.specs.Labels.{label_of, legs_labelled};
+ghost use Rattle.cycle_join.specs.Meetings.{AreCycles, HasOneLabel, HasOtherLabel, IsMeetingGround};
 
 use crate::cycles::Cycles;
 use crate::ground::Ground;
@@ -13,7 +13,7 @@ use std::alloc::Global;
 
 /// The fleet's leg of the least number. Takes no memory.
 pub(crate) fn first_leg(ground: &Ground<'_>) -> u32
-    requires ground { IsGround ground.now }
+    requires ground { IsMeetingGround ground.now }
     requires flies { FliesSome ground.now.tables.now ground.now.plan.now ground.now.fleet }
     ensures { IsFirstLeg ground.now.tables.now ground.now.plan.now ground.now.fleet result }
 {
@@ -27,7 +27,7 @@ pub(crate) fn first_leg(ground: &Ground<'_>) -> u32
 
 /// Whether all legs of the fleet have the label of one of them. Takes no memory.
 pub(crate) fn has_one_label(ground: &Ground<'_>, cycles: &Cycles, first: u32) -> bool
-    requires ground { IsGround ground.now }
+    requires ground { IsMeetingGround ground.now }
     requires cycles { AreCycles ground.now cycles.now }
     requires first { first < legs_in ground.now.tables.now }
     ensures { MatchBool result (HasOneLabel ground.now cycles.now first) (HasOtherLabel ground.now cycles.now first) }
@@ -51,7 +51,7 @@ pub(crate) fn legs_of(
 ) -> Result<Entries<u32>, NoMemory>
     requires cycles { AreCycles ground.now cycles.now }
     requires first { first < legs_in ground.now.tables.now }
-    ensures { IfOk result (λ legs. legs ≡ legs_of cycles.now.labels.items (label_of cycles.now.labels.items first) (legs_in ground.now.tables.now)) }
+    ensures { IfOk result (λ legs. legs ≡ legs_labelled cycles.now.labels.items (label_of cycles.now.labels.items first) (legs_in ground.now.tables.now)) }
 {
     let mut legs = Vec::new(alloc);
     for leg in 0..ground.tables.leg_count() {

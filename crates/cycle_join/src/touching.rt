@@ -3,7 +3,7 @@ ghost use Rattle.std.specs.Prelude.{◌≡◌, ◌<◌};
 ghost use Rattle.fleet_model.specs.Schedule.{fleets_in, legs_in, period_of};
 ghost use Rattle.ground_turns.specs.Turns.{IsTurn, ready_at, touches};
 ghost use Rattle.cycle_join.specs.Labels.{AreLabels};
-ghost use Rattle.cycle_join.specs.Meetings.{IsGround, meets, share_minute};
+ghost use Rattle.cycle_join.specs.Meetings.{IsMeetingGround, meets_cycle, share_minute};
 
 use crate::ground::Ground;
 use fleet_model::{Connection, Tables};
@@ -17,11 +17,11 @@ pub(crate) fn meets(
     turn: Connection,
     other: Connection,
 ) -> bool
-    requires ground { IsGround ground.now }
+    requires ground { IsMeetingGround ground.now }
     requires labels { AreLabels labels.now (legs_in ground.now.tables.now) }
     requires turn { IsTurn ground.now.tables.now ground.now.plan.now ground.now.fleet turn }
     requires other { IsTurn ground.now.tables.now ground.now.plan.now ground.now.fleet other }
-    ensures { result ≡ meets ground.now.tables.now ground.now.fleet ground.now.pairs.now labels.now turn other }
+    ensures { result ≡ meets_cycle ground.now.tables.now ground.now.fleet ground.now.pairs.now labels.now turn other }
 {
     labels[other.arriving as usize] < labels[turn.arriving as usize]
         && ground.free[turn.arriving as usize]

@@ -7,8 +7,8 @@ use Rattle.std.specs.List.Sorted.{IsPartitionedBy}
 use Rattle.std.proofs.lemmas.Bool.{cases_lt, ltb-true}
 use Rattle.std.proofs.lemmas.Bool.Decides.{nat_tests}
 use Rattle.sums.proofs.NumberTests.{greater_differs, less_differs}
-use Rattle.dual_bound.specs.Prices.{has_come, price_after, rent_of}
-use Rattle.dual_bound.specs.Rising.{AreOfOthers, IsIdle, IsParting, StepsRise, is_by, no_step, said_before, step_before}
+use Rattle.dual_bound.specs.Prices.{price_after, rent_of, step_has_come}
+use Rattle.dual_bound.specs.Rising.{AreOfOthers, IsPartingSteps, IsUnpricedFleet, StepsRise, is_by, no_step, said_before, step_before}
 use Rattle.dual_bound.specs.declared.prices.PriceStep.{PriceStep}
 use Rattle.dual_bound.specs.declared.prices.Prices.{Prices}
 
@@ -60,45 +60,45 @@ by_earlier a b f s m before by =
     chained a.fleet b.fleet f _ _ _ (chained a.station b.station s _ _ _ (by_minute a.minute b.minute m)) before by
 
 -- a step that is not yet by a moment has not come
-late : (step : PriceStep) (f s m : ℕ) → is_by f s m step ≡ false → has_come step f s m ≡ false
+late : (step : PriceStep) (f s m : ℕ) → is_by f s m step ≡ false → step_has_come step f s m ≡ false
 late step f s m e = grind (arith, nat_tests)
 
 -- a step of the place that is by the moment has come
-come : (step : PriceStep) (f s m : ℕ) → is_by f s m step ≡ true → ((step.fleet == f) && (step.station == s)) ≡ true → has_come step f s m ≡ true
+come : (step : PriceStep) (f s m : ℕ) → is_by f s m step ≡ true → ((step.fleet == f) && (step.station == s)) ≡ true → step_has_come step f s m ≡ true
 come step f s m e here = grind (arith, nat_tests)
 
 -- a step of another place has not come, and neither has one before it, where it is by the moment
-elsewhere : (step : PriceStep) (f s m : ℕ) → ((step.fleet == f) && (step.station == s)) ≡ false → has_come step f s m ≡ false
+elsewhere : (step : PriceStep) (f s m : ℕ) → ((step.fleet == f) && (step.station == s)) ≡ false → step_has_come step f s m ≡ false
 elsewhere step f s m other = grind (arith, nat_tests)
 
-passed : (a b : PriceStep) (f s m : ℕ) → step_before a b ≡ true → is_by f s m b ≡ true → ((b.fleet == f) && (b.station == s)) ≡ false → has_come a f s m ≡ false
+passed : (a b : PriceStep) (f s m : ℕ) → step_before a b ≡ true → is_by f s m b ≡ true → ((b.fleet == f) && (b.station == s)) ≡ false → step_has_come a f s m ≡ false
 passed a b f s m before by other = grind (arith, nat_tests)
 
 -- steps of which none has come leave the price
 pub record NoneCome (steps : List PriceStep) (f s m : ℕ) : Type 0 where
-  pub each : (k : ℕ) → k < length steps → has_come (slice_index_or steps k no_step) f s m ≡ false
+  pub each : (k : ℕ) → k < length steps → step_has_come (slice_index_or steps k no_step) f s m ≡ false
 
 pub none_says : (steps : List PriceStep) (v : ℤ) (f s m : ℕ) → NoneCome steps f s m → price_after v steps f s m ≡ v
 unfolding price_after
 none_says [] v f s m none = refl
 none_says (step ∷ steps) v f s m none =
-    let here : has_come step f s m ≡ false = none.each 0 (omega arith) in
+    let here : step_has_come step f s m ≡ false = none.each 0 (omega arith) in
     rw here (none_says steps v f s m (record { each = λ k below. none.each (suc k) (omega arith) }))
 
 -- the last step that has come says the price
 pub record IsLast (steps : List PriceStep) (f s m place : ℕ) : Type 0 where
   pub within : place < length steps
-  pub come : has_come (slice_index_or steps place no_step) f s m ≡ true
-  pub later : (k : ℕ) → place < k → k < length steps → has_come (slice_index_or steps k no_step) f s m ≡ false
+  pub come : step_has_come (slice_index_or steps place no_step) f s m ≡ true
+  pub later : (k : ℕ) → place < k → k < length steps → step_has_come (slice_index_or steps k no_step) f s m ≡ false
 
 pub last_says : (steps : List PriceStep) (v : ℤ) (f s m place : ℕ) → IsLast steps f s m place → price_after v steps f s m ≡ (slice_index_or steps place no_step).value
 unfolding price_after
 last_says [] v f s m place last = absurd (omega (arith, last.within))
 last_says (step ∷ steps) v f s m zero last =
-    let here : has_come step f s m ≡ true = last.come in
+    let here : step_has_come step f s m ≡ true = last.come in
     rw here (none_says steps step.value f s m (record { each = λ k below. last.later (suc k) (omega arith) (omega arith) }))
 last_says (step ∷ steps) v f s m (suc place) last =
-    last_says steps (if has_come step f s m then step.value else v) f s m place
+    last_says steps (if step_has_come step f s m then step.value else v) f s m place
     (record { within = omega (arith, last.within); come = last.come; later = λ k above below. last.later (suc k) (omega arith) (omega arith) })
 
 -- steps that rise are parted by a moment
@@ -116,7 +116,7 @@ partitioned steps f s m rise i j d le within by =
     ∙ parted steps f s m rise i j le within (ap (is_by f s m) (sym (get_or_default steps j d no_step within)) ∙ by)
 
 -- what stands before the parting place says the price
-pub price_at_parting : (steps : List PriceStep) (f s m place : ℕ) → StepsRise steps → IsParting steps f s m place → price_after (pos 0) steps f s m ≡ said_before steps place f s
+pub price_at_parting : (steps : List PriceStep) (f s m place : ℕ) → StepsRise steps → IsPartingSteps steps f s m place → price_after (pos 0) steps f s m ≡ said_before steps place f s
 price_at_parting steps f s m zero rise part =
     none_says steps (pos 0) f s m (record { each = λ k below. late (slice_index_or steps k no_step) f s m (part.after k (omega arith) below) })
 price_at_parting steps f s m (suc place) rise part =
@@ -193,7 +193,7 @@ earlier_price steps place rise within some = at_step (slice_index_or steps place
     })
 
 -- steps of other fleets alone say nothing of a fleet
-not_of : (step : PriceStep) (f s m : ℕ) → (step.fleet == f) ≡ false → has_come step f s m ≡ false
+not_of : (step : PriceStep) (f s m : ℕ) → (step.fleet == f) ≡ false → step_has_come step f s m ≡ false
 not_of step f s m other = grind (arith, nat_tests)
 
 pub others_say_nothing : (steps : List PriceStep) (f s m : ℕ) → AreOfOthers steps f → price_after (pos 0) steps f s m ≡ pos 0
@@ -225,5 +225,5 @@ others_after steps f rise some above = behind (length steps - 1) (omega arith) (
     }
 
 -- a fleet without rent and without steps
-pub idle : (prices : Prices) (f : ℕ) → rent_of prices f ≡ pos 0 → AreOfOthers prices.steps f → IsIdle prices f
+pub idle : (prices : Prices) (f : ℕ) → rent_of prices f ≡ pos 0 → AreOfOthers prices.steps f → IsUnpricedFleet prices f
 idle prices f rent others = record { rent = rent; each = λ s m. others_say_nothing prices.steps f s m others }

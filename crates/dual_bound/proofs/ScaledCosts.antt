@@ -12,7 +12,7 @@ use Rattle.fleet_model.specs.Schedule.{IsPair, fleet_by, fleets_in, leg_of}
 use Rattle.fleet_model.specs.Times.{departure, laps_of, ready_minute}
 use Rattle.dual_bound.specs.declared.prices.Prices.{Prices}
 use Rattle.dual_bound.specs.Prices.{IsScale, price_of, rent_of}
-use Rattle.dual_bound.specs.Rising.{IsIdle}
+use Rattle.dual_bound.specs.Rising.{IsUnpricedFleet}
 use Rattle.dual_bound.specs.Sizes.{IsUpTo}
 use Rattle.dual_bound.specs.Worth.{cost_units, pair_worth, where_flown}
 use Rattle.dual_bound.proofs.Charges.{flown}
@@ -71,10 +71,10 @@ cost_alone t prices k p s z fall rent e g scale is small =
     added cost fall rent e g = omega (arith, ints, e, g)
 
 -- .. since rent and prices are 0 of its fleet
-pub idle_worth : (t : Tables) (prices : Prices) (k : ℕ) (p : Pair) (f : ℕ) (s z : ℤ) → IsPair t p → f ≡ fleet_by t p → f < fleets_in t → IsIdle prices f → s ≡ prices.scale → z ≡ pos k *ℤ s *ℤ cost_units t p → IsUpTo 3 z → held z ≡ pair_worth t prices k p
+pub idle_worth : (t : Tables) (prices : Prices) (k : ℕ) (p : Pair) (f : ℕ) (s z : ℤ) → IsPair t p → f ≡ fleet_by t p → f < fleets_in t → IsUnpricedFleet prices f → s ≡ prices.scale → z ≡ pos k *ℤ s *ℤ cost_units t p → IsUpTo 3 z → held z ≡ pair_worth t prices k p
 idle_worth t prices k p f s z pair by known none scale is small =
     let flies : fleet_by t p < fleets_in t = subst (λ n. n < fleets_in t) by known in
-    let idle : IsIdle prices (fleet_by t p) = subst (IsIdle prices) by none in
+    let idle : IsUnpricedFleet prices (fleet_by t p) = subst (IsUnpricedFleet prices) by none in
     cost_alone t prices k p s z _ _
     (flown t p _ pair flies ∙ less _ _ (idle.each (leg_of t p.leg).from (departure t p)) (idle.each (leg_of t p.leg).to (ready_minute t p)))
     (flown t p _ pair flies ∙ ap (λ y. y *ℤ pos (laps_of t p)) idle.rent ∙ zero-*ℤ (pos (laps_of t p))) scale is small

@@ -5,7 +5,7 @@ use Rattle.std.proofs.lemmas.Bool.{eq-eqb}
 use Rattle.std.proofs.lemmas.Bool.Decides.{Decides-int_eq, nat_tests}
 use Rattle.std.proofs.lemmas.Int.{ints}
 use Rattle.sums.proofs.Tests.{both_true, by_test}
-use Rattle.dual_bound.specs.Order.{place_before, same_place, step_follows}
+use Rattle.dual_bound.specs.Order.{same_place, step_follows, step_place_before}
 use Rattle.dual_bound.specs.WrittenOrder.{IsFigure}
 use Rattle.dual_bound.specs.declared.prices.PriceStep.{PriceStep}
 
@@ -35,7 +35,7 @@ follows_same a b fleet station minute value = by_same (same_place a b) (same_pla
     differs : int_eq a.value b.value ≡ false
     differs = by_test (int_eq a.value b.value) (λ e. absurd (value ((Decides-int_eq a.value b.value).0 e))) (λ e. e)
 
-    by_same : (c : Bool) → c ≡ true → (if c then nat_lt a.minute b.minute && not (int_eq a.value b.value) else place_before a b && (b.minute == 0)) ≡ true
+    by_same : (c : Bool) → c ≡ true → (if c then nat_lt a.minute b.minute && not (int_eq a.value b.value) else step_place_before a b && (b.minute == 0)) ≡ true
     by_same true e = both_true (nat_lt a.minute b.minute) (not (int_eq a.value b.value)) less (ap not differs)
     by_same false e = cc
 
@@ -50,10 +50,10 @@ apart a b (inr same) = let station = same.1 in grind (arith, nat_tests)
 pub follows_other : (a b : PriceStep) → PlaceBefore a.fleet a.station b.fleet b.station → b.minute ≡ 0 → step_follows (Some a) b ≡ true
 follows_other a b order first = by_same (same_place a b) (apart a b order)
   where
-    placed : PlaceBefore a.fleet a.station b.fleet b.station → place_before a b ≡ true
+    placed : PlaceBefore a.fleet a.station b.fleet b.station → step_place_before a b ≡ true
     placed (inl less) = grind (arith, nat_tests)
     placed (inr same) = let fleet = same.0 in let station = same.1 in grind (arith, nat_tests)
 
-    by_same : (c : Bool) → c ≡ false → (if c then nat_lt a.minute b.minute && not (int_eq a.value b.value) else place_before a b && (b.minute == 0)) ≡ true
+    by_same : (c : Bool) → c ≡ false → (if c then nat_lt a.minute b.minute && not (int_eq a.value b.value) else step_place_before a b && (b.minute == 0)) ≡ true
     by_same true e = cc
-    by_same false e = both_true (place_before a b) (b.minute == 0) (placed order) (eq-eqb b.minute 0 first)
+    by_same false e = both_true (step_place_before a b) (b.minute == 0) (placed order) (eq-eqb b.minute 0 first)

@@ -30,11 +30,11 @@ pub record HaveExchanged (whole other new_whole new_other : Tree) : Type 0 where
   pub part : load_of new_other < load_of whole
 
 -- a leaf has no part, and both stay
-pub record IsLeft (whole other new_whole new_other : Tree) : Type 0 where
+pub record IsLeafLeft (whole other new_whole new_other : Tree) : Type 0 where
   pub leaf : IsLeaf new_whole
   pub stays : new_whole ≡ whole
   pub other_stays : new_other ≡ other
 
 abbrev pub Exchanged : Tree → Tree → Tree → Tree → Bool → Type 0
 Exchanged whole other new_whole new_other true = HaveExchanged whole other new_whole new_other
-Exchanged whole other new_whole new_other false = IsLeft whole other new_whole new_other
+Exchanged whole other new_whole new_other false = IsLeafLeft whole other new_whole new_other

@@ -33,30 +33,30 @@ abbrev pub HasAllWeights : Tables → Mixed → Type 0
 HasAllWeights t mixed = (l : ℕ) → l < legs_in t → HasWeights t mixed l
 
 -- a scale and weights within their limits
-pub record AreParts (t : Tables) (mixed : Mixed) : Type 0 where
+pub record AreMixedParts (t : Tables) (mixed : Mixed) : Type 0 where
   pub scale : IsScale mixed.scale
   pub each : HasAllWeights t mixed
 
 -- a fractional assignment of a subproblem: its limits, and a mixed plan
 pub record IsMixedAt (t : Tables) (keeps : Domains) (mixed : Mixed) : Type 0 where
-  pub parts : AreParts t mixed
+  pub parts : AreMixedParts t mixed
   pub plan : IsMixedPlan t keeps (parts_of_leg mixed) (parts_in mixed)
 
 -- a weight is 0 or the scale
-abbrev pub IsEnd : ℤ → ℤ → Type 0
-IsEnd scale weight = (weight ≡ pos 0) ⊎ (weight ≡ scale)
+abbrev pub IsEndOfScale : ℤ → ℤ → Type 0
+IsEndOfScale scale weight = (weight ≡ pos 0) ⊎ (weight ≡ scale)
 
 -- a pair is flown wholly or not at all
 abbrev pub IsWholePair : Mixed → ℕ → ℕ → Type 0
-IsWholePair mixed l c = IsEnd mixed.scale (weight_in mixed (leg_on l c))
+IsWholePair mixed l c = IsEndOfScale mixed.scale (weight_in mixed (leg_on l c))
 
 -- each pair of a leg is
 abbrev pub IsWholeLeg : Tables → Mixed → ℕ → Type 0
 IsWholeLeg t mixed l = (c : ℕ) → c < choices_in t l → IsWholePair mixed l c
 
 -- each pair of all legs is
-abbrev pub IsWhole : Tables → Mixed → Type 0
-IsWhole t mixed = (l : ℕ) → l < legs_in t → IsWholeLeg t mixed l
+abbrev pub IsMixedWhole : Tables → Mixed → Type 0
+IsMixedWhole t mixed = (l : ℕ) → l < legs_in t → IsWholeLeg t mixed l
 
 -- its cost is the worth of the prices, both over their scales
 abbrev pub IsWorth : Tables → Domains → Prices → Mixed → Type 0
@@ -64,5 +64,5 @@ IsWorth t keeps prices mixed = (mixed_cost t (parts_in mixed) *ℤ prices.scale)
 
 -- a fractional assignment that is not whole, and costs what the prices are worth
 pub record IsFraction (t : Tables) (keeps : Domains) (prices : Prices) (mixed : Mixed) : Type 0 where
-  pub partial : ¬ (IsWhole t mixed)
+  pub partial : ¬ (IsMixedWhole t mixed)
   pub value : IsWorth t keeps prices mixed

@@ -10,15 +10,15 @@ abbrev pub same_place : PriceStep → PriceStep → Bool
 same_place a b = (a.fleet == b.fleet) && (a.station == b.station)
 
 -- a step's place comes before another's, by fleet and then by station
-abbrev pub place_before : PriceStep → PriceStep → Bool
-place_before a b = nat_lt a.fleet b.fleet || ((a.fleet == b.fleet) && nat_lt a.station b.station)
+abbrev pub step_place_before : PriceStep → PriceStep → Bool
+step_place_before a b = nat_lt a.fleet b.fleet || ((a.fleet == b.fleet) && nat_lt a.station b.station)
 
 -- a step may follow: at its place a later minute and another value, at the next place minute 0
 abbrev pub step_follows : Option PriceStep → PriceStep → Bool
 step_follows None step = step.minute == 0
 step_follows (Some before) step =
     if same_place before step then nat_lt before.minute step.minute && not (int_eq before.value step.value)
-    else place_before before step && (step.minute == 0)
+    else step_place_before before step && (step.minute == 0)
 
 -- a charge may follow: it isn't 0, and it is of a later station, or of a later day there
 abbrev pub charge_follows : Option Charge → Charge → Bool

@@ -8,13 +8,13 @@ use Rattle.dual_bound.specs.declared.prices.Prices.{Prices}
 use Rattle.dual_bound.specs.declared.prices.PriceStep.{PriceStep}
 
 -- the step is one of the fleet at the station, and has come by the minute
-abbrev pub has_come : PriceStep → ℕ → ℕ → ℕ → Bool
-has_come step f s m = (step.fleet == f) && (step.station == s) && nat_le step.minute m
+abbrev pub step_has_come : PriceStep → ℕ → ℕ → ℕ → Bool
+step_has_come step f s m = (step.fleet == f) && (step.station == s) && nat_le step.minute m
 
 -- the price after steps, from a price before them: what the last step says that has come
 unfoldable pub price_after : ℤ → List PriceStep → ℕ → ℕ → ℕ → ℤ
 price_after value [] f s m = value
-price_after value (step ∷ steps) f s m = price_after (if has_come step f s m then step.value else value) steps f s m
+price_after value (step ∷ steps) f s m = price_after (if step_has_come step f s m then step.value else value) steps f s m
 
 -- the price of a fleet at a station at a minute
 abbrev pub price_of : Prices → ℕ → ℕ → ℕ → ℤ

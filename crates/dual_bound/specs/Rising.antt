@@ -34,7 +34,7 @@ abbrev pub is_by : ℕ → ℕ → ℕ → PriceStep → Bool
 is_by f s m step = nat_lt step.fleet f || ((step.fleet == f) && (nat_lt step.station s || ((step.station == s) && nat_le step.minute m)))
 
 -- a place that parts steps by a moment: those before it are by then, those from it on are not
-pub record IsParting (steps : List PriceStep) (f s m place : ℕ) : Type 0 where
+pub record IsPartingSteps (steps : List PriceStep) (f s m place : ℕ) : Type 0 where
   pub within : place ≤ length steps
   pub before : (k : ℕ) → k < place → is_by f s m (slice_index_or steps k no_step) ≡ true
   pub after : (k : ℕ) → place ≤ k → k < length steps → is_by f s m (slice_index_or steps k no_step) ≡ false
@@ -58,7 +58,7 @@ abbrev pub price_before : Prices → ℕ → ℤ
 price_before prices place = price_of prices (step_at prices place).fleet (step_at prices place).station ((step_at prices place).minute - 1)
 
 -- a fleet whose rent and prices are all 0
-pub record IsIdle (prices : Prices) (f : ℕ) : Type 0 where
+pub record IsUnpricedFleet (prices : Prices) (f : ℕ) : Type 0 where
   pub rent : rent_of prices f ≡ pos 0
   pub each : (s m : ℕ) → price_of prices f s m ≡ pos 0
 

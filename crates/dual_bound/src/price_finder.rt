@@ -1,7 +1,7 @@
 //! Prices that are asked for often.
 ghost use Rattle.std.specs.Prelude.{◌≡◌, ◌<◌, IsTrue, length};
 ghost use Rattle.dual_bound.specs.Prices.{charge_of, price_of, rent_of};
-ghost use Rattle.dual_bound.specs.Rising.{IsIdle, StepsRise, price_at, price_before, step_at};
+ghost use Rattle.dual_bound.specs.Rising.{IsUnpricedFleet, StepsRise, price_at, price_before, step_at};
 
 use crate::price_at::last_come;
 use crate::prices::{PriceStep, Prices};
@@ -114,7 +114,7 @@ impl<'a> PriceFinder<'a> {
 
     // Whether it is known at once that rent and prices of a fleet are all 0.
     pub(crate) fn is_idle(&self, fleet: u32) -> bool
-        ensures { IsTrue result → IsIdle self.now fleet }
+        ensures { IsTrue result → IsUnpricedFleet self.now fleet }
     {
         self.rising && is_idle(self.prices, fleet)
     }
@@ -123,7 +123,7 @@ impl<'a> PriceFinder<'a> {
 // Whether a fleet has no rent, and no step among those that rise.
 fn is_idle(prices: &Prices, fleet: u32) -> bool
     requires { StepsRise prices.now.steps }
-    ensures { IsTrue result → IsIdle prices.now fleet }
+    ensures { IsTrue result → IsUnpricedFleet prices.now fleet }
 {
     if prices.rent(fleet) != 0 {
         return false;

@@ -1,7 +1,7 @@
 //! Lists of steps that rise by fleet, station and minute, and what they say at a moment.
 ghost use Rattle.std.specs.Prelude.{◌≡◌, ◌-◌, ◌≤◌, ◌<◌, IsTrue, length, pos, slice_index_or};
 ghost use Rattle.dual_bound.specs.Prices.{price_after};
-ghost use Rattle.dual_bound.specs.Rising.{AreOfOthers, IsParting, StepsRise, is_by, no_step, said_before, said_of, step_before};
+ghost use Rattle.dual_bound.specs.Rising.{AreOfOthers, IsPartingSteps, StepsRise, is_by, no_step, said_before, said_of, step_before};
 
 use crate::prices::PriceStep;
 
@@ -102,7 +102,7 @@ fn comes_before(a: &PriceStep, b: &PriceStep) -> bool
 // How many of the steps that rise stand at a moment or before it.
 fn parting(steps: &[PriceStep], fleet: u32, station: u32, minute: u16) -> usize
     requires { StepsRise steps.now }
-    ensures { IsParting steps.now fleet station minute result }
+    ensures { IsPartingSteps steps.now fleet station minute result }
 {
     steps.partition_point(|step| is_by(step, fleet, station, minute))
 }

@@ -11,13 +11,13 @@ use Rattle.tail_dates.proofs.OwnPlaces.{placed_in_time}
 use Rattle.tail_dates.specs.Placing.{IsPlaced, lefts_of}
 use Rattle.tail_dates.specs.declared.placing.Placed.TheVariants as placed
 use Rattle.tail_dates.specs.declared.tails.TailState.{TailState}
-use Rattle.due_report.specs.Lines.{AreBegun, names_of}
+use Rattle.due_report.specs.Lines.{AreBegun, tail_names}
 
 module _ (t : Tables) (f : ℕ) (tails : List TailState) where
-  as_many : length (lefts_of f tails) ≡ length (names_of f tails)
+  as_many : length (lefts_of f tails) ≡ length (tail_names f tails)
   as_many = length-map (filter (λ (tail : TailState). tail.fleet == f) tails) (λ (tail : TailState). tail.left) ∙ sym (length-map (filter (λ (tail : TailState). tail.fleet == f) tails) (λ (tail : TailState). tail.name))
 
-  pub placed_begin : (a tour : List ℕ) (day : ℕ) (lines : List ℕ) → day < days_in t → IsPlaced t a f tour day tails (placed.Lines lines) → AreBegun t (lines_by t a f tour) (names_of f tails) lines
+  pub placed_begin : (a tour : List ℕ) (day : ℕ) (lines : List ℕ) → day < days_in t → IsPlaced t a f tour day tails (placed.Lines lines) → AreBegun t (lines_by t a f tour) (tail_names f tails) lines
   placed_begin a tour day lines inside is =
       let own = (placed_in_time t a f tour day tails inside (placed.Lines lines) is).in_time in
       record {

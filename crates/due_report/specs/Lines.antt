@@ -19,8 +19,8 @@ use Rattle.tail_dates.specs.declared.tails.TailState.{TailState}
 use Rattle.due_report.specs.Placings.{placing_of}
 
 -- the names of a fleet's tails, in their order
-abbrev pub names_of : ℕ → List TailState → List (List ℕ)
-names_of f tails = map (λ tail. tail.name) (filter (λ tail. tail.fleet == f) tails)
+abbrev pub tail_names : ℕ → List TailState → List (List ℕ)
+tail_names f tails = map (λ tail. tail.name) (filter (λ tail. tail.fleet == f) tails)
 
 -- each tail begins with one of the lines
 pub record AreBegun (t : Tables) (flown : FleetLines) (names : List (List ℕ)) (starts : List ℕ) : Type 0 where
@@ -83,7 +83,7 @@ late_at_line t f at within tails starts =
 
 -- those of a fleet, whose tails begin with these lines of its tour
 abbrev pub begun_lines : Tables → List ℕ → ℕ → List ℕ → List TailState → List Day → List ℕ → List ℕ
-begun_lines t a f tour tails days starts = days_tails t (lines_by t a f tour) (names_of f tails) starts days (length days)
+begun_lines t a f tour tails days starts = days_tails t (lines_by t a f tour) (tail_names f tails) starts days (length days)
 
 -- the lines of a fleet with a tour, on some days
 abbrev pub placed_lines : Tables → List ℕ → ℕ → List ℕ → List TailState → List Day → Placed → List ℕ

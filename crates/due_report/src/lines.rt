@@ -1,14 +1,14 @@
 //! What each named tail flies on each date.
 ghost use Rattle.std.specs.Prelude.{◌≡◌, ◌++◌, ◌*◌, ◌<◌, ◌^◌, IfOk, OnOk, length, map};
 ghost use Rattle.calendar_dates.specs.Days.{HasDays, day_on};
-ghost use Rattle.due_report.specs.Lines.{AreBegun, begun_lines, days_tails, due_text, fleet_due, fleets_due, names_of, placed_lines, tail_line, tails_on};
+ghost use Rattle.due_report.specs.Lines.{AreBegun, begun_lines, days_tails, due_text, fleet_due, fleets_due, placed_lines, tail_line, tail_names, tails_on};
 ghost use Rattle.due_report.specs.Placings.{ArePlacings, IsPlacing, OnSomeDay};
 ghost use Rattle.fleet_model.specs.Legal.{IsAssignment};
 ghost use Rattle.fleet_model.specs.Schedule.{days_in, fleets_in};
-ghost use Rattle.euler_rotation.specs.FleetRotations.{AreFlown, AreRotations, IsFleetRotation, IsFlown, last_made};
+ghost use Rattle.euler_rotation.specs.FleetRotations.{AreFlown, AreRotations, IsFleetRotation, IsRotationFlown, last_made};
 ghost use Rattle.ground_turns.specs.Maps.{IsTour};
 ghost use Rattle.lines_of_flying.specs.Lines.{BeginsAfterStart};
-ghost use Rattle.rotation_report.specs.Tails.{AreLinesOf, lines_by};
+ghost use Rattle.rotation_report.specs.Tails.{AreFleetLines, lines_by};
 ghost use Rattle.tail_dates.specs.Placing.{IsPlaced};
 
 use crate::unplaced::{push_lacking, push_late, push_late_at, push_number, push_some_at};
@@ -89,7 +89,7 @@ fn push_due(
     requires plan { IsAssignment tables.now plan.now }
     requires fleet { fleet < fleets_in tables.now }
     requires made { IsFleetRotation tables.now made.now }
-    requires tour { IsFlown tables.now plan.now fleet (last_made made.now) }
+    requires tour { IsRotationFlown tables.now plan.now fleet (last_made made.now) }
     requires placing { OnSomeDay tables.now (λ day. IsPlacing tables.now plan.now fleet day tails.now (last_made made.now) placing.now) }
     requires few { length dates.now < 2 ^ 32 }
     ensures { OnOk result (text.new.items ≡ text.old.items ++ fleet_due tables.now plan.now fleet made.now tails.now placing.now (map day_on dates.now)) }
@@ -170,7 +170,7 @@ fn push_begun(
     requires fleet { fleet < fleets_in tables.now }
     requires tour { IsTour tables.now plan.now fleet tour.now }
     requires begins { BeginsAfterStart tables.now fleet tour.now }
-    requires begun { AreBegun tables.now (lines_by tables.now plan.now fleet tour.now) (names_of fleet tails.now) starts.now }
+    requires begun { AreBegun tables.now (lines_by tables.now plan.now fleet tour.now) (tail_names fleet tails.now) starts.now }
     requires few { length dates.now < 2 ^ 32 }
     ensures { OnOk result (text.new.items ≡ text.old.items ++ begun_lines tables.now plan.now fleet tour.now tails.now (map day_on dates.now) starts.now) }
 {
@@ -181,7 +181,7 @@ fn push_begun(
 
 /// The names of a fleet's tails, in their order.
 fn names_of(alloc: Global, tails: &[TailState], fleet: u32) -> Result<Vec<Entries<u8>>, NoMemory>
-    ensures { IfOk result (λ names. names.items ≡ names_of fleet tails.now) }
+    ensures { IfOk result (λ names. names.items ≡ tail_names fleet tails.now) }
 {
     let mut names = Vec::new(alloc);
     for place in 0..tails.len() {
@@ -203,7 +203,7 @@ fn push_days(
     starts: &[u64],
     dates: &[Date],
 ) -> Result<(), NoMemory>
-    requires flown { AreLinesOf tables.now flown.now }
+    requires flown { AreFleetLines tables.now flown.now }
     requires begun { AreBegun tables.now flown.now names.now starts.now }
     requires few { length dates.now < 2 ^ 32 }
     ensures { OnOk result (text.new.items ≡ text.old.items ++ days_tails tables.now flown.now names.now starts.now (map day_on dates.now) (length dates.now)) }
@@ -226,7 +226,7 @@ fn push_day(
     date: Date,
     day: u32,
 ) -> Result<(), NoMemory>
-    requires flown { AreLinesOf tables.now flown.now }
+    requires flown { AreFleetLines tables.now flown.now }
     requires begun { AreBegun tables.now flown.now names.now starts.now }
     ensures { OnOk result (text.new.items ≡ text.old.items ++ tails_on tables.now flown.now names.now starts.now (day_on date) day (length names.now)) }
 {
@@ -249,7 +249,7 @@ fn push_tail(
     name: &[u8],
     first: u64,
 ) -> Result<(), NoMemory>
-    requires flown { AreLinesOf tables.now flown.now }
+    requires flown { AreFleetLines tables.now flown.now }
     requires first { first < flown.now.used * days_in tables.now }
     ensures { OnOk result (text.new.items ≡ text.old.items ++ tail_line tables.now flown.now date.now day name.now first) }
 {

@@ -3,7 +3,7 @@ ghost use Rattle.std.specs.Prelude.{◌≡◌, ◌<◌, IfOk};
 ghost use Rattle.due_report.specs.Placings.{ArePlacings, IsPlacing, are_unplaced, is_unplaced};
 ghost use Rattle.fleet_model.specs.Legal.{IsAssignment};
 ghost use Rattle.fleet_model.specs.Schedule.{days_in, fleets_in};
-ghost use Rattle.euler_rotation.specs.FleetRotations.{AreFlown, AreKept, AreRotations, IsFlown, IsKept};
+ghost use Rattle.euler_rotation.specs.FleetRotations.{AreFlown, AreKept, AreRotations, IsKept, IsRotationFlown};
 
 use entries::NoMemory;
 use euler_rotation::{FleetRotation, Rotation};
@@ -48,7 +48,7 @@ fn placing(
 ) -> Result<Option<Placed>, NoMemory>
     requires plan { IsAssignment tables.now plan.now }
     requires fleet { fleet < fleets_in tables.now }
-    requires tour { IsFlown tables.now plan.now fleet rotation.now }
+    requires tour { IsRotationFlown tables.now plan.now fleet rotation.now }
     requires kept { IsKept tables.now fleet rotation.now }
     requires day { day < days_in tables.now }
     ensures { IfOk result (IsPlacing tables.now plan.now fleet day tails.now rotation.now) }

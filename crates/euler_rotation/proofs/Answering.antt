@@ -24,11 +24,11 @@ use Rattle.euler_rotation.specs.declared.search.Found.{Found}
 use Rattle.euler_rotation.specs.declared.search.Found.TheVariants as found
 use Rattle.euler_rotation.specs.declared.rotation.Rotation.{Rotation}
 use Rattle.euler_rotation.specs.declared.rotation.Rotation.TheVariants as rotation
-use Rattle.euler_rotation.specs.Answers.{AreEnough, IsComplete, IsRotation, IsUnused, Suffice}
+use Rattle.euler_rotation.specs.Answers.{AreEnough, IsRotation, IsRotationComplete, IsUnused, Suffice}
 use Rattle.euler_rotation.specs.Asked.{IsAsked}
 use Rattle.euler_rotation.specs.Prefixes.{preorder}
 use Rattle.euler_rotation.specs.Searches.{EndNoneOf, IsFoundUnder}
-use Rattle.euler_rotation.specs.Tours.{IsKeptTour, IsOrder, IsTourWith, nights_maintained, nights_used, times_in, turned}
+use Rattle.euler_rotation.specs.Tours.{IsKeptTour, IsOrder, IsTourWith, nights_maintained, nights_used, times_in, turned_tour}
 use Rattle.euler_rotation.proofs.Gaps.{at, kept_round, some_place}
 use Rattle.euler_rotation.proofs.InPreorder.{reached}
 use Rattle.euler_rotation.proofs.Turning.{entry_turned, kept_turned}
@@ -97,7 +97,7 @@ module _ (t : Tables) (a : List ℕ) (f : ℕ) where
     -- where no prefix ends a kept tour, there is none
     pub none_ends : (order legs : List ℕ) → IsOrder t a f order → 0 < length order → 0 < days → EndNoneOf t a f pairs days order (length (preorder t a f pairs days order)) → IsKeptTour t a f pairs days legs → ⊥
     none_ends order legs is some some_days none kept =
-        reached t a f pairs days some_days (turned place.0 legs) turned_kept order is (λ p. IsKeptTour t a f pairs days p → ⊥) begins
+        reached t a f pairs days some_days (turned_tour place.0 legs) turned_kept order is (λ p. IsKeptTour t a f pairs days p → ⊥) begins
         (λ k d lt ends. none.each k lt (subst (IsKeptTour t a f pairs days) (get_or_default (preorder t a f pairs days order) k d [] lt) ends)) turned_kept
       where
         l : ℕ
@@ -109,10 +109,10 @@ module _ (t : Tables) (a : List ℕ) (f : ℕ) where
         place : (k : ℕ) × (k < length legs) × ((slice_index legs k == slice_index order 0) ≡ true)
         place = some_counted (λ k. slice_index legs k == slice_index order 0) (length legs) (omega (arith, one))
 
-        turned_kept : IsKeptTour t a f pairs days (turned place.0 legs)
+        turned_kept : IsKeptTour t a f pairs days (turned_tour place.0 legs)
         turned_kept = kept_turned legs place.0 place.1 t a f pairs days kept
 
-        begins : slice_index (turned place.0 legs) 0 ≡ slice_index order 0
+        begins : slice_index (turned_tour place.0 legs) 0 ≡ slice_index order 0
         begins = entry_turned legs place.0 place.1 0 (omega (arith, place.1)) ∙ ap (slice_index legs) (from_start place.0 (length legs) place.1) ∙ eqb-true _ _ place.2
 
     -- a fleet without a leg has no tour
@@ -122,7 +122,7 @@ module _ (t : Tables) (a : List ℕ) (f : ℕ) where
         unused.each (slice_index legs 0) (order.known 0 kept.tour.some) (own_leg t a f legs order 0 kept.tour.some)
 
     -- where the search comes to its end, the answer is a tour exactly where one is kept
-    pub complete : (visits : ℕ) (answer : Rotation) → IsRotation t a f pairs days visits answer → IsComplete t a f pairs days visits answer
+    pub complete : (visits : ℕ) (answer : Rotation) → IsRotation t a f pairs days visits answer → IsRotationComplete t a f pairs days visits answer
     complete visits rotation.Unused is suffice = ((λ none. absurd none), (λ has. none_flown has.legs is has.tour))
     complete visits (rotation.TooFewNights have used) is suffice = ((λ none. absurd none), (λ has. too_few has.legs (subst (λ (n : ℕ). n * days < nights_used t a f) is.have_is (subst (λ (n : ℕ). have * days < n) is.used_is is.few)) has.tour))
     complete visits (rotation.Apart legs) is suffice = ((λ none. absurd none), (λ has. is.apart.no_tour has.legs has.tour.tour has.tour.holds))
@@ -134,7 +134,7 @@ module _ (t : Tables) (a : List ℕ) (f : ℕ) where
         spent (inl many) = omega (arith, many.1, is.few many.0)
         spent (inr few) = omega (arith, few order is.visited.each_leg, is.visited.more)
 
-    pub complete_all : (visits : ℕ) (answer : Result Rotation NoMemory) → IfOk answer (IsRotation t a f pairs days visits) → IfOk answer (IsComplete t a f pairs days visits)
+    pub complete_all : (visits : ℕ) (answer : Result Rotation NoMemory) → IfOk answer (IsRotation t a f pairs days visits) → IfOk answer (IsRotationComplete t a f pairs days visits)
     complete_all visits (Ok answer) is = complete visits answer is
     complete_all visits (Err error) is = is
 

@@ -9,7 +9,7 @@ use Rattle.fleet_model.specs.declared.tables.Tables.{Tables}
 use Rattle.fleet_model.specs.Counts.{weights_of}
 use Rattle.fleet_model.specs.Schedule.{legs_in, no_leg, period_of, stations_in}
 use Rattle.ground_turns.specs.Laws.{AreBareMinutes}
-use Rattle.ground_turns.specs.Segments.{NoneEnds, is_among, minutes_of}
+use Rattle.ground_turns.specs.Segments.{NoneEnds, is_minute_among, span_of}
 use Rattle.ground_turns.specs.Turns.{IsClean, departs_at, ready_at, station_at}
 use Rattle.ground_turns.proofs.CleanTurns.{among_filtered, segments_tell_clean}
 use Rattle.island_cut.specs.Zeros.{none_stands, zeros_below, zeros_of}
@@ -20,7 +20,7 @@ use Rattle.euler_rotation.proofs.TourTurns.{clean_from, clean_to}
 pub are_bare : (t : Tables) (a : List ℕ) (f s : ℕ) (minutes : List ℕ) → minutes ≡ zeros_of t (weights_of a) f s → AreBareMinutes t a f s minutes
 unfolding zeros_below
 are_bare t a f s minutes is = record {
-  each = λ m lt. ap (λ xs. is_among xs m) is ∙ among_filtered (none_stands t (weights_of a) f s) (period_of t) m lt;
+  each = λ m lt. ap (λ xs. is_minute_among xs m) is ∙ among_filtered (none_stands t (weights_of a) f s) (period_of t) m lt;
 }
 
 -- segments of its station tell whether a turn is clean
@@ -52,7 +52,7 @@ module _ (t : Tables) (a : List ℕ) (f : ℕ) (turn : Connection) (all : List (
     of_station : AreSegments t a f (station_at t turn) numbers
     of_station = subst (AreSegments t a f (station_at t turn)) (sym same) (segments.each (station_at t turn) station_known)
 
-    pub in_period : (minute : ℕ) → minute < period_of t → minute < minutes_of numbers
+    pub in_period : (minute : ℕ) → minute < period_of t → minute < span_of numbers
     in_period minute within = subst (λ n. minute < n) (sym of_station.period) within
 
     -- they tell whether it is clean

@@ -10,7 +10,7 @@ use Rattle.fleet_model.specs.Counts.{choice_at}
 use Rattle.euler_rotation.specs.declared.path.Level.{Level}
 use Rattle.euler_rotation.specs.Asked.{followers_of}
 use Rattle.euler_rotation.specs.Prefixes.{is_open, may_follow, may_turn, preorder, preorder_from}
-use Rattle.euler_rotation.specs.Walks.{extensions, legs_of, pending, top_of}
+use Rattle.euler_rotation.specs.Walks.{extensions, legs_of_path, pending, top_of}
 use Rattle.sums.proofs.Filters.{filter_both}
 
 module _ (t : Tables) (a : List ℕ) (f : ℕ) (pairs : List Connection) (days : ℕ) (order : List ℕ) where
@@ -22,52 +22,52 @@ module _ (t : Tables) (a : List ℕ) (f : ℕ) (pairs : List Connection) (days :
   pub none_extend : (path : List Level) (from : ℕ) → length order ≤ length path → extensions t a f pairs days order path from ≡ []
   none_extend [] from full = refl
   none_extend (x ∷ outer) from full =
-      ap (λ n. flat_map (preorder_from t a f pairs days order n (legs_of (x ∷ outer))) (filter (is_open t f days (legs_of (x ∷ outer))) (drop from (followers_of t a f pairs order x.leg)))) (none full)
-      ∙ nothing_behind (legs_of (x ∷ outer)) (filter (is_open t f days (legs_of (x ∷ outer))) (drop from (followers_of t a f pairs order x.leg)))
+      ap (λ n. flat_map (preorder_from t a f pairs days order n (legs_of_path (x ∷ outer))) (filter (is_open t f days (legs_of_path (x ∷ outer))) (drop from (followers_of t a f pairs order x.leg)))) (none full)
+      ∙ nothing_behind (legs_of_path (x ∷ outer)) (filter (is_open t f days (legs_of_path (x ∷ outer))) (drop from (followers_of t a f pairs order x.leg)))
     where
       none : {m n : ℕ} → m ≤ n → m - n ≡ 0
       none le = omega arith
 
   pub none_open : (path : List Level) (top : Level) (from : ℕ) → top_of path ≡ Some top
-      → filter (is_open t f days (legs_of path)) (drop from (followers_of t a f pairs order top.leg)) ≡ [] → extensions t a f pairs days order path from ≡ []
+      → filter (is_open t f days (legs_of_path path)) (drop from (followers_of t a f pairs order top.leg)) ≡ [] → extensions t a f pairs days order path from ≡ []
   none_open [] top from is none = refl
   none_open (x ∷ outer) top from is none =
-      ap (λ l. flat_map behind (filter (is_open t f days (legs_of (x ∷ outer))) (drop from (followers_of t a f pairs order l)))) (ap (λ y. y.leg) (some_is x top is))
+      ap (λ l. flat_map behind (filter (is_open t f days (legs_of_path (x ∷ outer))) (drop from (followers_of t a f pairs order l)))) (ap (λ y. y.leg) (some_is x top is))
       ∙ ap (flat_map behind) none
     where
       behind : ℕ → List (List ℕ)
-      behind = preorder_from t a f pairs days order (length order - length (x ∷ outer)) (legs_of (x ∷ outer))
+      behind = preorder_from t a f pairs days order (length order - length (x ∷ outer)) (legs_of_path (x ∷ outer))
 
   -- what a prefix begins, where its last leg is the fleet's
   pub from_prefix : (path : List Level) (level : Level) (m n : ℕ) → choice_at a level.leg ≡ f → n ≡ suc m → m ≡ length order - length (level ∷ path)
-      → preorder_from t a f pairs days order n (legs_of path) level.leg ≡ legs_of (level ∷ path) ∷ extensions t a f pairs days order (level ∷ path) 0
+      → preorder_from t a f pairs days order n (legs_of_path path) level.leg ≡ legs_of_path (level ∷ path) ∷ extensions t a f pairs days order (level ∷ path) 0
   from_prefix path level m n own is less =
-      ap (λ k. preorder_from t a f pairs days order k (legs_of path) level.leg) is
-      ∙ ap (λ ls. legs_of (level ∷ path) ∷ flat_map (preorder_from t a f pairs days order m (legs_of (level ∷ path))) ls)
-      (filter_both (may_follow t a f pairs days (legs_of path) level.leg) (may_turn t a f pairs level.leg) (is_open t f days (legs_of (level ∷ path))) (λ l. refl) order)
-      ∙ ap (λ b. legs_of (level ∷ path) ∷ flat_map (preorder_from t a f pairs days order m (legs_of (level ∷ path)))
-      (filter (is_open t f days (legs_of (level ∷ path))) (if b then filter (may_turn t a f pairs level.leg) order else []))) (sym (eq-eqb _ _ own))
-      ∙ ap (λ k. legs_of (level ∷ path) ∷ flat_map (preorder_from t a f pairs days order k (legs_of (level ∷ path)))
-      (filter (is_open t f days (legs_of (level ∷ path))) (drop 0 (followers_of t a f pairs order level.leg)))) less
+      ap (λ k. preorder_from t a f pairs days order k (legs_of_path path) level.leg) is
+      ∙ ap (λ ls. legs_of_path (level ∷ path) ∷ flat_map (preorder_from t a f pairs days order m (legs_of_path (level ∷ path))) ls)
+      (filter_both (may_follow t a f pairs days (legs_of_path path) level.leg) (may_turn t a f pairs level.leg) (is_open t f days (legs_of_path (level ∷ path))) (λ l. refl) order)
+      ∙ ap (λ b. legs_of_path (level ∷ path) ∷ flat_map (preorder_from t a f pairs days order m (legs_of_path (level ∷ path)))
+      (filter (is_open t f days (legs_of_path (level ∷ path))) (if b then filter (may_turn t a f pairs level.leg) order else []))) (sym (eq-eqb _ _ own))
+      ∙ ap (λ k. legs_of_path (level ∷ path) ∷ flat_map (preorder_from t a f pairs days order k (legs_of_path (level ∷ path)))
+      (filter (is_open t f days (legs_of_path (level ∷ path))) (drop 0 (followers_of t a f pairs order level.leg)))) less
 
   pub first_extends : (path : List Level) (top level : Level) (from : ℕ) → top_of path ≡ Some top → length path < length order → choice_at a level.leg ≡ f
-      → filter (is_open t f days (legs_of path)) (drop from (followers_of t a f pairs order top.leg))
-      ≡ level.leg ∷ filter (is_open t f days (legs_of path)) (drop level.next (followers_of t a f pairs order top.leg))
+      → filter (is_open t f days (legs_of_path path)) (drop from (followers_of t a f pairs order top.leg))
+      ≡ level.leg ∷ filter (is_open t f days (legs_of_path path)) (drop level.next (followers_of t a f pairs order top.leg))
       → extensions t a f pairs days order path from
-      ≡ legs_of (level ∷ path) ∷ (extensions t a f pairs days order (level ∷ path) 0 ++ extensions t a f pairs days order path level.next)
+      ≡ legs_of_path (level ∷ path) ∷ (extensions t a f pairs days order (level ∷ path) 0 ++ extensions t a f pairs days order path level.next)
   first_extends [] top level from is less own first = absurd (none_some is)
   first_extends (x ∷ outer) top level from is less own first =
       ap (λ l. flat_map behind (filter passes (drop from (followers_of t a f pairs order l)))) same
       ∙ ap (flat_map behind) first
       ∙ ap (λ xs. xs ++ flat_map behind (filter passes (drop level.next (followers_of t a f pairs order top.leg))))
       (from_prefix (x ∷ outer) level (length order - length (level ∷ x ∷ outer)) (length order - length (x ∷ outer)) own (one_less (length order) (length (x ∷ outer)) less) refl)
-      ∙ ap (λ l. legs_of (level ∷ x ∷ outer) ∷ (extensions t a f pairs days order (level ∷ x ∷ outer) 0 ++ flat_map behind (filter passes (drop level.next (followers_of t a f pairs order l))))) (sym same)
+      ∙ ap (λ l. legs_of_path (level ∷ x ∷ outer) ∷ (extensions t a f pairs days order (level ∷ x ∷ outer) 0 ++ flat_map behind (filter passes (drop level.next (followers_of t a f pairs order l))))) (sym same)
     where
       behind : ℕ → List (List ℕ)
-      behind = preorder_from t a f pairs days order (length order - length (x ∷ outer)) (legs_of (x ∷ outer))
+      behind = preorder_from t a f pairs days order (length order - length (x ∷ outer)) (legs_of_path (x ∷ outer))
 
       passes : ℕ → Bool
-      passes = is_open t f days (legs_of (x ∷ outer))
+      passes = is_open t f days (legs_of_path (x ∷ outer))
 
       same : x.leg ≡ top.leg
       same = ap (λ y. y.leg) (some_is x top is)
@@ -77,22 +77,22 @@ module _ (t : Tables) (a : List ℕ) (f : ℕ) (pairs : List Connection) (days :
 
   -- ---- what is pending
   pub pending_deeper : (path : List Level) (top level : Level) (from : ℕ) → top_of path ≡ Some top
-      → extensions t a f pairs days order path from ≡ legs_of (level ∷ path) ∷ (extensions t a f pairs days order (level ∷ path) 0 ++ extensions t a f pairs days order path level.next)
-      → pending t a f pairs days order path from ≡ legs_of (level ∷ path) ∷ pending t a f pairs days order (level ∷ path) 0
+      → extensions t a f pairs days order path from ≡ legs_of_path (level ∷ path) ∷ (extensions t a f pairs days order (level ∷ path) 0 ++ extensions t a f pairs days order path level.next)
+      → pending t a f pairs days order path from ≡ legs_of_path (level ∷ path) ∷ pending t a f pairs days order (level ∷ path) 0
   pending_deeper [] top level from is first = absurd (none_some is)
   pending_deeper (x ∷ outer) top level from is first =
       ap (λ xs. xs ++ pending t a f pairs days order outer x.next) first
-      ∙ ap (λ xs. legs_of (level ∷ x ∷ outer) ∷ xs)
+      ∙ ap (λ xs. legs_of_path (level ∷ x ∷ outer) ∷ xs)
       (append_assoc (extensions t a f pairs days order (level ∷ x ∷ outer) 0) (extensions t a f pairs days order (x ∷ outer) level.next) (pending t a f pairs days order outer x.next))
 
   -- the first leg of the order begins all
   pub preorder_first : (level : Level) → 0 < length order → choice_at a level.leg ≡ f → level.leg ≡ slice_index order 0
-      → preorder t a f pairs days order ≡ legs_of (level ∷ []) ∷ pending t a f pairs days order (level ∷ []) 0
+      → preorder t a f pairs days order ≡ legs_of_path (level ∷ []) ∷ pending t a f pairs days order (level ∷ []) 0
   unfolding preorder
   preorder_first level some own is =
       ap (preorder_from t a f pairs days order (length order) []) (sym is)
       ∙ from_prefix [] level (length order - length (level ∷ [])) (length order) own (one_less (length order) some) refl
-      ∙ ap (λ xs. legs_of (level ∷ []) ∷ xs) (sym (append-nil (extensions t a f pairs days order (level ∷ []) 0)))
+      ∙ ap (λ xs. legs_of_path (level ∷ []) ∷ xs) (sym (append-nil (extensions t a f pairs days order (level ∷ []) 0)))
     where
       one_less : (m : ℕ) → 0 < m → m ≡ suc (m - suc 0)
       one_less m lt = omega arith

@@ -7,8 +7,8 @@ use Rattle.cycle_join.specs.declared.joined.Joined.TheVariants as joined
 use Rattle.euler_rotation.specs.declared.asked.Asked.{Asked}
 use Rattle.euler_rotation.specs.declared.search.Found.{Found}
 use Rattle.euler_rotation.specs.declared.search.Found.TheVariants as found
-use Rattle.euler_rotation.specs.Answers.{AreEnough, AreVisited, IsNone, IsRight, IsSpent}
-use Rattle.euler_rotation.specs.Searches.{IsFoundUnder, IsTold}
+use Rattle.euler_rotation.specs.Answers.{AreEnough, AreVisited, IsNone, IsRightTour, IsSpent}
+use Rattle.euler_rotation.specs.Searches.{IsFoundUnder, IsTourTold}
 use Rattle.euler_rotation.specs.Tours.{IsKeptTour, IsTourWith, nights_maintained, nights_used}
 use Rattle.euler_rotation.proofs.Answering.{found_for, kept_for}
 
@@ -24,10 +24,10 @@ unfolding found_for
 spent_found asked order prefix visits it is e = subst (found_for asked order visits) e is
 
 unfoldable told_for : List ℕ → ℕ → Result Found NoMemory → Asked → Type 0
-told_for tour visits it asked = IfOk it (IsTold asked tour visits)
+told_for tour visits it asked = IfOk it (IsTourTold asked tour visits)
 
 -- what is told of the same that was asked
-pub told_again : (asked other : Asked) (tour : List ℕ) (visits : ℕ) (it : Result Found NoMemory) → other ≡ asked → IfOk it (IsTold other tour visits) → IfOk it (IsTold asked tour visits)
+pub told_again : (asked other : Asked) (tour : List ℕ) (visits : ℕ) (it : Result Found NoMemory) → other ≡ asked → IfOk it (IsTourTold other tour visits) → IfOk it (IsTourTold asked tour visits)
 unfolding told_for
 told_again asked other tour visits it same is = subst (told_for tour visits it) same is
 
@@ -54,10 +54,10 @@ joined_tour asked it legs joins e = let is : IsJoined asked.tables.now asked.pla
 
 -- what is told, by its cases
 unfoldable pub is_told : Asked → List ℕ → ℕ → Found → Type 0
-is_told asked tour visits it = IsTold asked tour visits it
+is_told asked tour visits it = IsTourTold asked tour visits it
 
-module _ (asked : Asked) (tour : List ℕ) (visits : ℕ) (it : Found) (told : IsTold asked tour visits it) where
-  pub tour_told : (legs : List ℕ) → it ≡ found.Tour legs → IsRight asked.tables.now asked.plan.now asked.fleet asked.pairs.now asked.days legs
+module _ (asked : Asked) (tour : List ℕ) (visits : ℕ) (it : Found) (told : IsTourTold asked tour visits it) where
+  pub tour_told : (legs : List ℕ) → it ≡ found.Tour legs → IsRightTour asked.tables.now asked.plan.now asked.fleet asked.pairs.now asked.days legs
   unfolding is_told
   tour_told legs e = subst (is_told asked tour visits) e told
 

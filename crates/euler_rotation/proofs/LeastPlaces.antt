@@ -14,7 +14,7 @@ use Rattle.ground_turns.specs.Nights.{nights_of_tour}
 use Rattle.ground_turns.proofs.TourNights.{all_periods, nights_are_use}
 use Rattle.lines_of_flying.specs.Lines.{periods_after}
 use Rattle.euler_rotation.specs.Starts.{IsLeastPlace, LeastOrNone}
-use Rattle.euler_rotation.specs.Tours.{BeginsLeast, periods_before, turned}
+use Rattle.euler_rotation.specs.Tours.{BeginsLeast, periods_before, turned_tour}
 use Rattle.euler_rotation.proofs.Turning.{entry_turned, length_turned, turn_turned}
 use Rattle.euler_rotation.proofs.TourTurns.{length_round, turn_round}
 use Rattle.sums.proofs.Rounds.{from_start}
@@ -56,28 +56,28 @@ module _ (t : Tables) (f : ℕ) (tour : List ℕ) where
 
   -- ---- the tour from there
   module _ (r : ℕ) (is : IsLeastPlace t f tour (length tour) r) where
-    periods_there : (k : ℕ) → k < length tour → periods_after t f (turned r tour) k ≡ periods_after t f tour ((k + r) % length tour)
-    periods_there k lt = after_is (turned r tour) k ∙ ap (periods_in_turn t f) (turn_turned tour r is.within k lt) ∙ sym (after_is tour ((k + r) % length tour))
+    periods_there : (k : ℕ) → k < length tour → periods_after t f (turned_tour r tour) k ≡ periods_after t f tour ((k + r) % length tour)
+    periods_there k lt = after_is (turned_tour r tour) k ∙ ap (periods_in_turn t f) (turn_turned tour r is.within k lt) ∙ sym (after_is tour ((k + r) % length tour))
 
-    pub begins_least : BeginsLeast t f (turned r tour)
+    pub begins_least : BeginsLeast t f (turned_tour r tour)
     begins_least = record { begins = record { before = begins }; least = least }
       where
-        long : length (turned r tour) ≡ length tour
+        long : length (turned_tour r tour) ≡ length tour
         long = length_turned tour r is.within
 
-        begins : 0 < periods_after t f (turned r tour) (length (turned r tour) - 1)
-        begins = subst (λ (n : ℕ). 0 < n) (sym (ap (λ n. periods_after t f (turned r tour) (n - 1)) long ∙ periods_there (length tour - 1) (omega (arith, is.within)) ∙ ap (λ j. periods_after t f tour (j % length tour)) (add_comm (length tour - 1) r))) is.start
+        begins : 0 < periods_after t f (turned_tour r tour) (length (turned_tour r tour) - 1)
+        begins = subst (λ (n : ℕ). 0 < n) (sym (ap (λ n. periods_after t f (turned_tour r tour) (n - 1)) long ∙ periods_there (length tour - 1) (omega (arith, is.within)) ∙ ap (λ j. periods_after t f tour (j % length tour)) (add_comm (length tour - 1) r))) is.start
 
-        least : (k : ℕ) → k < length (turned r tour) → 0 < periods_before t f (turned r tour) k → slice_index (turned r tour) 0 ≤ slice_index (turned r tour) k
+        least : (k : ℕ) → k < length (turned_tour r tour) → 0 < periods_before t f (turned_tour r tour) k → slice_index (turned_tour r tour) 0 ≤ slice_index (turned_tour r tour) k
         least k lt some =
             let low : k < length tour = omega (arith, long) in
-            let first : slice_index (turned r tour) 0 ≡ slice_index tour r = entry_turned tour r is.within 0 (omega (arith, is.within)) ∙ ap (slice_index tour) (from_start r (length tour) is.within) in
-            let here : slice_index (turned r tour) k ≡ slice_index tour ((k + r) % length tour) = entry_turned tour r is.within k low in
-            let before : periods_before t f (turned r tour) k ≡ periods_before t f tour ((k + r) % length tour) = same k low in
+            let first : slice_index (turned_tour r tour) 0 ≡ slice_index tour r = entry_turned tour r is.within 0 (omega (arith, is.within)) ∙ ap (slice_index tour) (from_start r (length tour) is.within) in
+            let here : slice_index (turned_tour r tour) k ≡ slice_index tour ((k + r) % length tour) = entry_turned tour r is.within k low in
+            let before : periods_before t f (turned_tour r tour) k ≡ periods_before t f tour ((k + r) % length tour) = same k low in
             omega (arith, first, here, is.least ((k + r) % length tour) (mod_below (k + r) (length tour) (omega (arith, is.within))) (subst (λ (n : ℕ). 0 < n) before some))
           where
-            same : (k : ℕ) → k < length tour → periods_before t f (turned r tour) k ≡ periods_before t f tour ((k + r) % length tour)
+            same : (k : ℕ) → k < length tour → periods_before t f (turned_tour r tour) k ≡ periods_before t f tour ((k + r) % length tour)
             same k low =
-                ap (λ n. periods_after t f (turned r tour) ((k + (n - 1)) % n)) long
+                ap (λ n. periods_after t f (turned_tour r tour) ((k + (n - 1)) % n)) long
                 ∙ periods_there ((k + (length tour - 1)) % length tour) (mod_below (k + (length tour - 1)) (length tour) (omega arith))
                 ∙ ap (periods_after t f tour) (mod-add-mod (k + (length tour - 1)) (length tour) r ∙ ap (λ j. j % length tour) (add_right_comm k (length tour - 1) r) ∙ sym (mod-add-mod (k + r) (length tour) (length tour - 1)))

@@ -7,7 +7,7 @@ use Rattle.std.proofs.lemmas.Bool.{eqb-true}
 use Rattle.sums.proofs.Tests.{by_test, or_false}
 use Rattle.euler_rotation.specs.declared.path.Level.{Level}
 use Rattle.euler_rotation.specs.Prefixes.{has_leg}
-use Rattle.euler_rotation.specs.Walks.{legs_of}
+use Rattle.euler_rotation.specs.Walks.{legs_of_path}
 
 -- a leg more
 has_more : (legs : List ℕ) (l k : ℕ) → has_leg (legs ++ l ∷ []) k ≡ (has_leg legs k || (l == k))
@@ -40,13 +40,13 @@ module _ (used : List Bool) (legs : List ℕ) (l : ℕ) (within : l < length use
 unfoldable pub legs_in_order : List Level → List ℕ
 legs_in_order levels = map (λ (x : Level). x.leg) levels
 
-legs_reversed : (path : List Level) → legs_in_order (reverse path) ≡ legs_of path
+legs_reversed : (path : List Level) → legs_in_order (reverse path) ≡ legs_of_path path
 unfolding legs_in_order
 legs_reversed [] = refl
 legs_reversed (x ∷ outer) =
     ap (map (λ (y : Level). y.leg)) (reverse-append (x ∷ []) outer) ∙ map-append (λ (y : Level). y.leg) (reverse outer) (x ∷ []) ∙ ap (λ xs. xs ++ x.leg ∷ []) (legs_reversed outer)
 
-pub legs_listed : (levels : List Level) → legs_in_order levels ≡ legs_of (reverse levels)
+pub legs_listed : (levels : List Level) → legs_in_order levels ≡ legs_of_path (reverse levels)
 legs_listed levels = ap legs_in_order (sym (reverse-reverse levels)) ∙ legs_reversed (reverse levels)
 
 -- one level more

@@ -18,7 +18,7 @@ use Rattle.ground_turns.specs.declared.nights.Night.{Night}
 use Rattle.ground_turns.specs.declared.nights.Night.TheVariants as night
 use Rattle.ground_turns.proofs.NightLists.{nights_append}
 use Rattle.euler_rotation.specs.Asked.{AreMet, is_met}
-use Rattle.euler_rotation.specs.Tours.{IsKeptTour, IsOrder, times_in, turned}
+use Rattle.euler_rotation.specs.Tours.{IsKeptTour, IsOrder, times_in, turned_tour}
 use Rattle.sums.proofs.Rounds.{mod_cases, moved_entry}
 use Rattle.sums.proofs.Turned as round_sums
 use Rattle.euler_rotation.proofs.TourTurns.{length_round, tour_from, tour_met, tour_order, turn_round}
@@ -58,10 +58,10 @@ module _ (t : Tables) (days : ℕ) (xs ys : List Night) (kept : IsKeptFor t (xs 
 
 -- ---- legs, begun later
 module _ (legs : List ℕ) (r : ℕ) (less : r < length legs) where
-  pub length_turned : length (turned r legs) ≡ length legs
+  pub length_turned : length (turned_tour r legs) ≡ length legs
   length_turned = length-list_below (λ k. slice_index legs ((k + r) % length legs)) (length legs)
 
-  pub entry_turned : (k : ℕ) → k < length legs → slice_index (turned r legs) k ≡ slice_index legs ((k + r) % length legs)
+  pub entry_turned : (k : ℕ) → k < length legs → slice_index (turned_tour r legs) k ≡ slice_index legs ((k + r) % length legs)
   entry_turned k lt = get_or-list_below (λ k. slice_index legs ((k + r) % length legs)) (length legs) k 0 lt
 
   within : (k : ℕ) → (k + r) % length legs < length legs
@@ -76,18 +76,18 @@ module _ (legs : List ℕ) (r : ℕ) (less : r < length legs) where
       one_on : (k r : ℕ) → suc k + r ≡ k + r + 1
       one_on k r = omega arith
 
-  pub turn_turned : (k : ℕ) → k < length legs → turn_after (turned r legs) k ≡ turn_after legs ((k + r) % length legs)
+  pub turn_turned : (k : ℕ) → k < length legs → turn_after (turned_tour r legs) k ≡ turn_after legs ((k + r) % length legs)
   turn_turned k lt =
-      let first : slice_index (turned r legs) k ≡ slice_index legs ((k + r) % length legs) = entry_turned k lt in
-      let second : slice_index (turned r legs) (suc k % length (turned r legs)) ≡ slice_index legs (suc ((k + r) % length legs) % length legs) =
-      ap (λ n. slice_index (turned r legs) (suc k % n)) length_turned ∙ entry_turned (suc k % length legs) (mod_below (suc k) (length legs) (omega arith)) ∙ ap (slice_index legs) (next_place k) in
-      ap (λ l. record { arriving = l; departing = slice_index (turned r legs) (suc k % length (turned r legs)) }) first
+      let first : slice_index (turned_tour r legs) k ≡ slice_index legs ((k + r) % length legs) = entry_turned k lt in
+      let second : slice_index (turned_tour r legs) (suc k % length (turned_tour r legs)) ≡ slice_index legs (suc ((k + r) % length legs) % length legs) =
+      ap (λ n. slice_index (turned_tour r legs) (suc k % n)) length_turned ∙ entry_turned (suc k % length legs) (mod_below (suc k) (length legs) (omega arith)) ∙ ap (slice_index legs) (next_place k) in
+      ap (λ l. record { arriving = l; departing = slice_index (turned_tour r legs) (suc k % length (turned_tour r legs)) }) first
       ∙ ap (λ m. record { arriving = slice_index legs ((k + r) % length legs); departing = m }) second
 
-  times_turned : (l : ℕ) → times_in (turned r legs) l ≡ times_in legs l
+  times_turned : (l : ℕ) → times_in (turned_tour r legs) l ≡ times_in legs l
   times_turned l =
-      ap (sum_below (λ k. if slice_index (turned r legs) k == l then 1 else 0)) length_turned
-      ∙ sum_below-agree (λ k. if slice_index (turned r legs) k == l then 1 else 0) (λ k. one ((k + r) % length legs)) (length legs)
+      ap (sum_below (λ k. if slice_index (turned_tour r legs) k == l then 1 else 0)) length_turned
+      ∙ sum_below-agree (λ k. if slice_index (turned_tour r legs) k == l then 1 else 0) (λ k. one ((k + r) % length legs)) (length legs)
       (record { each = λ k lt. ap (λ j. if j == l then 1 else 0) (entry_turned k lt) })
       ∙ round_sums.turned one (length legs) r
     where
@@ -95,8 +95,8 @@ module _ (legs : List ℕ) (r : ℕ) (less : r < length legs) where
       one k = if slice_index legs k == l then 1 else 0
 
   -- the turns, those from the place on first
-  turns_turned : turns_round (turned r legs) ≡ drop r (turns_round legs) ++ take r (turns_round legs)
-  turns_turned = same_lists (turns_round (turned r legs)) (drop r (turns_round legs) ++ take r (turns_round legs)) lengths each
+  turns_turned : turns_round (turned_tour r legs) ≡ drop r (turns_round legs) ++ take r (turns_round legs)
+  turns_turned = same_lists (turns_round (turned_tour r legs)) (drop r (turns_round legs) ++ take r (turns_round legs)) lengths each
     where
       size : length (turns_round legs) ≡ length legs
       size = length_round legs
@@ -107,13 +107,13 @@ module _ (legs : List ℕ) (r : ℕ) (less : r < length legs) where
       rear : length (take r (turns_round legs)) ≡ r
       rear = length-take-le r (turns_round legs) (omega (arith, size))
 
-      lengths : length (turns_round (turned r legs)) ≡ length (drop r (turns_round legs) ++ take r (turns_round legs))
-      lengths = length_round (turned r legs) ∙ length_turned ∙ omega (arith, length-append (drop r (turns_round legs)) (take r (turns_round legs)), front, rear)
+      lengths : length (turns_round (turned_tour r legs)) ≡ length (drop r (turns_round legs) ++ take r (turns_round legs))
+      lengths = length_round (turned_tour r legs) ∙ length_turned ∙ omega (arith, length-append (drop r (turns_round legs)) (take r (turns_round legs)), front, rear)
 
-      here : (k : ℕ) (d : Connection) → k < length legs → get_or (turns_round (turned r legs)) k d ≡ turn_after legs ((k + r) % length legs)
+      here : (k : ℕ) (d : Connection) → k < length legs → get_or (turns_round (turned_tour r legs)) k d ≡ turn_after legs ((k + r) % length legs)
       here k d lt =
-          ap (λ n. get_or (list_below (turn_after (turned r legs)) n) k d) length_turned
-          ∙ get_or-list_below (turn_after (turned r legs)) (length legs) k d lt ∙ turn_turned k lt
+          ap (λ n. get_or (list_below (turn_after (turned_tour r legs)) n) k d) length_turned
+          ∙ get_or-list_below (turn_after (turned_tour r legs)) (length legs) k d lt ∙ turn_turned k lt
 
       there : (k : ℕ) (d : Connection) → k < length legs → get_or (drop r (turns_round legs) ++ take r (turns_round legs)) k d ≡ turn_after legs ((k + r) % length legs)
       there k d lt = elim (cases_lt k (length legs - r)) [
@@ -138,25 +138,25 @@ module _ (legs : List ℕ) (r : ℕ) (less : r < length legs) where
               same : (k r n : ℕ) → r < n → n - r ≤ k → k - (n - r) ≡ k + r - n
               same k r n less late = omega arith
 
-      each : (k : ℕ) (d : Connection) → k < length (turns_round (turned r legs)) → get_or (turns_round (turned r legs)) k d ≡ get_or (drop r (turns_round legs) ++ take r (turns_round legs)) k d
+      each : (k : ℕ) (d : Connection) → k < length (turns_round (turned_tour r legs)) → get_or (turns_round (turned_tour r legs)) k d ≡ get_or (drop r (turns_round legs) ++ take r (turns_round legs)) k d
       each k d lt =
-          let low : k < length legs = omega (arith, length_round (turned r legs), length_turned) in
+          let low : k < length legs = omega (arith, length_round (turned_tour r legs), length_turned) in
           here k d low ∙ sym (there k d low)
 
   -- ---- the kept tour
-  pub kept_turned : (t : Tables) (a : List ℕ) (f : ℕ) (pairs : List Connection) (days : ℕ) → IsKeptTour t a f pairs days legs → IsKeptTour t a f pairs days (turned r legs)
+  pub kept_turned : (t : Tables) (a : List ℕ) (f : ℕ) (pairs : List Connection) (days : ℕ) → IsKeptTour t a f pairs days legs → IsKeptTour t a f pairs days (turned_tour r legs)
   kept_turned t a f pairs days kept = record {
-    tour = tour_from t a f kept.tour.fitting.map.plain (turned r legs) (omega (arith, length_turned)) met order;
+    tour = tour_from t a f kept.tour.fitting.map.plain (turned_tour r legs) (omega (arith, length_turned)) met order;
     holds = record { each = holds };
     kept = nights;
   }
     where
-      met : AreMet t a f (turned r legs) (length (turned r legs))
+      met : AreMet t a f (turned_tour r legs) (length (turned_tour r legs))
       met = record {
         each = λ k lt. ap (is_met t a f) (turn_turned k (omega (arith, length_turned))) ∙ (tour_met t a f legs kept.tour).each ((k + r) % length legs) (within k);
       }
 
-      order : IsOrder t a f (turned r legs)
+      order : IsOrder t a f (turned_tour r legs)
       order = record {
         known = λ k lt. let low : k < length legs = omega (arith, length_turned) in
             subst (λ (l : ℕ). l < legs_in t) (sym (entry_turned k low)) ((tour_order t a f legs kept.tour).known ((k + r) % length legs) (within k));
@@ -175,22 +175,22 @@ module _ (legs : List ℕ) (r : ℕ) (less : r < length legs) where
           all : (p r n : ℕ) → r < n → p + (n - r) + r ≡ p + n
           all p r n less = omega arith
 
-      holds : (k : ℕ) → k < length pairs → HasTurn (turns_round (turned r legs)) (turn_at pairs k)
+      holds : (k : ℕ) → k < length pairs → HasTurn (turns_round (turned_tour r legs)) (turn_at pairs k)
       holds k lt =
           let has = kept.holds.each k lt in
           let low : has.place < length legs = omega (arith, has.within, length_round legs) in
           let place : place_of has.place < length legs = mod_below (has.place + (length legs - r)) (length legs) (omega arith) in
           record {
             place = place_of has.place;
-            within = omega (arith, length_round (turned r legs), length_turned, place);
-            there = turn_round (turned r legs) (place_of has.place) (omega (arith, length_turned, place)) ∙ turn_turned (place_of has.place) place
+            within = omega (arith, length_round (turned_tour r legs), length_turned, place);
+            there = turn_round (turned_tour r legs) (place_of has.place) (omega (arith, length_turned, place)) ∙ turn_turned (place_of has.place) place
                 ∙ ap (turn_after legs) (place_back has.place low) ∙ sym (turn_round legs has.place low) ∙ has.there;
           }
 
       whole : nights_of_tour t f legs ≡ nights_in_turns t f (take r (turns_round legs)) ++ nights_in_turns t f (drop r (turns_round legs))
       whole = ap (nights_in_turns t f) (sym (take-append-drop r (turns_round legs))) ∙ nights_append t f (take r (turns_round legs)) (drop r (turns_round legs))
 
-      nights : IsKeptFor t (nights_of_tour t f (turned r legs)) days
+      nights : IsKeptFor t (nights_of_tour t f (turned_tour r legs)) days
       nights =
           subst (λ (ns : List Night). IsKeptFor t ns days) (sym (ap (nights_in_turns t f) turns_turned ∙ nights_append t f (drop r (turns_round legs)) (take r (turns_round legs))))
           (kept_moved t days (nights_in_turns t f (take r (turns_round legs))) (nights_in_turns t f (drop r (turns_round legs)))

@@ -10,14 +10,14 @@ use Rattle.euler_rotation.specs.declared.search.Found.{Found}
 use Rattle.euler_rotation.specs.declared.search.Found.TheVariants as found
 use Rattle.euler_rotation.specs.declared.walk.Walk.{Walk}
 use Rattle.euler_rotation.specs.Answers.{AreVisited}
-use Rattle.euler_rotation.specs.Prefixes.{entry_of, numbered}
+use Rattle.euler_rotation.specs.Prefixes.{numbered_entries, prefix_entry}
 use Rattle.euler_rotation.specs.Searches.{EndNone, EndsHere, EndsOrGoesOn, EndsOrNot, GoesOnFrom, HasVisited, IsFound, is_kept_in}
-use Rattle.euler_rotation.specs.Walks.{Advances, IsField, StandsAt, legs_of, pending_in, preorder_in}
+use Rattle.euler_rotation.specs.Walks.{Advances, IsField, WalkStandsAt, legs_of_path, pending_in, preorder_in}
 use Rattle.euler_rotation.proofs.Extending.{preorder_first}
 use Rattle.euler_rotation.proofs.TourTurns.{own_leg, same_length, tour_order}
 
 -- what stands from a place on
-head_is : (xs : List (List ℕ)) (n : ℕ) (x : List ℕ) (ys : List (List ℕ)) → drop n xs ≡ x ∷ ys → (n < length xs) × (entry_of xs n ≡ x) × (drop (n + 1) xs ≡ ys)
+head_is : (xs : List (List ℕ)) (n : ℕ) (x : List ℕ) (ys : List (List ℕ)) → drop n xs ≡ x ∷ ys → (n < length xs) × (prefix_entry xs n ≡ x) × (drop (n + 1) xs ≡ ys)
 head_is xs n x ys e =
     let low : n < length xs = within in
     let both : get_or xs n [] ∷ drop (n + 1) xs ≡ x ∷ ys = sym (drop_more xs n [] low) ∙ e in
@@ -40,19 +40,19 @@ unfoldable is_found : Field → ℕ → Found → Type 0
 is_found field visits it = IsFound field visits it
 
 module _ (field : Field) where
-  module _ (n : ℕ) (walk : Walk) (visited : HasVisited field n walk) (ends : is_kept_in field (legs_of walk.path) → ⊥) where
-    here : (n < length (preorder_in field)) × (entry_of (preorder_in field) n ≡ legs_of walk.path) × (drop (n + 1) (preorder_in field) ≡ pending_in field walk.path 0)
-    here = head_is (preorder_in field) n (legs_of walk.path) (pending_in field walk.path 0) visited.rest
+  module _ (n : ℕ) (walk : Walk) (visited : HasVisited field n walk) (ends : is_kept_in field (legs_of_path walk.path) → ⊥) where
+    here : (n < length (preorder_in field)) × (prefix_entry (preorder_in field) n ≡ legs_of_path walk.path) × (drop (n + 1) (preorder_in field) ≡ pending_in field walk.path 0)
+    here = head_is (preorder_in field) n (legs_of_path walk.path) (pending_in field walk.path 0) visited.rest
 
     pub one_none : EndNone field (n + 1)
     one_none = record {
       each = λ k lt kept. elim (cases_lt k n) [
         | inl low ↦ visited.none.each k low kept
-        | inr high ↦ ends (subst (is_kept_in field) (ap (entry_of (preorder_in field)) (last_below k n lt high) ∙ here.1) kept)
+        | inr high ↦ ends (subst (is_kept_in field) (ap (prefix_entry (preorder_in field)) (last_below k n lt high) ∙ here.1) kept)
       ];
     }
 
-    pub visited_more : (next : Walk) → StandsAt field (pending_in field walk.path 0) next → HasVisited field (n + 1) next
+    pub visited_more : (next : Walk) → WalkStandsAt field (pending_in field walk.path 0) next → HasVisited field (n + 1) next
     visited_more next at = record { walk = at.walk; rest = here.2 ∙ at.first; none = one_none }
 
     pub visited_all : pending_in field walk.path 0 ≡ [] → EndNone field (length (preorder_in field))
@@ -61,13 +61,13 @@ module _ (field : Field) where
         few : (m n : ℕ) → m - (n + 1) ≡ 0 → m ≤ n + 1
         few m n e = omega arith
 
-    pub visited_enough : (visits : ℕ) (next : Walk) (prefix : List ℕ) → IsField field → visits ≡ n + 1 → prefix ≡ legs_of walk.path → StandsAt field (pending_in field walk.path 0) next
+    pub visited_enough : (visits : ℕ) (next : Walk) (prefix : List ℕ) → IsField field → visits ≡ n + 1 → prefix ≡ legs_of_path walk.path → WalkStandsAt field (pending_in field walk.path 0) next
         → AreVisited field.clean.now.asked.now.tables.now field.clean.now.asked.now.plan.now field.clean.now.asked.now.fleet field.clean.now.asked.now.pairs.now field.clean.now.asked.now.days visits field.order.now prefix
     visited_enough visits next prefix is_field is last at = record {
       each_leg = is_field.order;
-      more = omega (arith, is, (head_is (preorder_in field) (n + 1) (legs_of next.path) (pending_in field next.path 0) (here.2 ∙ at.first)).0);
+      more = omega (arith, is, (head_is (preorder_in field) (n + 1) (legs_of_path next.path) (pending_in field next.path 0) (here.2 ∙ at.first)).0);
       none = λ k lt kept. one_none.each k (omega (arith, lt, is)) kept;
-      last = last ∙ sym here.1 ∙ sym (ap (numbered (preorder_in field)) (is ∙ add-one n));
+      last = last ∙ sym here.1 ∙ sym (ap (numbered_entries (preorder_in field)) (is ∙ add-one n));
     }
 
   -- none is visited
@@ -77,16 +77,16 @@ module _ (field : Field) where
     each_leg = is_field.order;
     more = omega arith;
     none = λ k lt kept. absurd (omega arith);
-    last = empty ∙ sym (ap (numbered (preorder_in field)) none);
+    last = empty ∙ sym (ap (numbered_entries (preorder_in field)) none);
   }
 
   -- a prefix that hasn't all legs ends no tour
-  pub not_ended : (path : List Level) → IsField field → (length path ≡ length field.order.now → ⊥) → is_kept_in field (legs_of path) → ⊥
-  not_ended path is_field short kept = short (sym (legs_long path) ∙ same_length field.clean.now.asked.now.tables.now field.clean.now.asked.now.plan.now field.clean.now.asked.now.fleet (legs_of path) field.order.now (tour_order field.clean.now.asked.now.tables.now field.clean.now.asked.now.plan.now field.clean.now.asked.now.fleet (legs_of path) kept.tour) is_field.order)
+  pub not_ended : (path : List Level) → IsField field → (length path ≡ length field.order.now → ⊥) → is_kept_in field (legs_of_path path) → ⊥
+  not_ended path is_field short kept = short (sym (legs_long path) ∙ same_length field.clean.now.asked.now.tables.now field.clean.now.asked.now.plan.now field.clean.now.asked.now.fleet (legs_of_path path) field.order.now (tour_order field.clean.now.asked.now.tables.now field.clean.now.asked.now.plan.now field.clean.now.asked.now.fleet (legs_of_path path) kept.tour) is_field.order)
     where
-      legs_long : (path : List Level) → length (legs_of path) ≡ length path
+      legs_long : (path : List Level) → length (legs_of_path path) ≡ length path
       legs_long [] = refl
-      legs_long (x ∷ outer) = length-append (legs_of outer) (x.leg ∷ []) ∙ add-one (length (legs_of outer)) ∙ ap suc (legs_long outer)
+      legs_long (x ∷ outer) = length-append (legs_of_path outer) (x.leg ∷ []) ∙ add-one (length (legs_of_path outer)) ∙ ap suc (legs_long outer)
 
   -- the first prefix is there
   pub some_prefix : IsField field → 0 < length (preorder_in field)
@@ -106,7 +106,7 @@ module _ (field : Field) where
   not_here legs None ends none kept = ends kept
   not_here legs (Some tour) ends none kept = none_some (sym none)
 
-  pub moved_on : (old new : Walk) (moved : Bool) → Advances field old new moved → moved ≡ true → StandsAt field (pending_in field old.path 0) new
+  pub moved_on : (old new : Walk) (moved : Bool) → Advances field old new moved → moved ≡ true → WalkStandsAt field (pending_in field old.path 0) new
   moved_on old new true at e = at
   moved_on old new false at e = unlike (sym e)
 

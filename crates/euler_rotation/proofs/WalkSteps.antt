@@ -17,7 +17,7 @@ use Rattle.euler_rotation.specs.declared.walk.Walk.{Walk}
 use Rattle.euler_rotation.specs.Asked.{followers_of}
 use Rattle.euler_rotation.specs.Often.{GoesOn, stays_below}
 use Rattle.euler_rotation.specs.Prefixes.{has_leg, may_turn, nights_along, turn_to}
-use Rattle.euler_rotation.specs.Walks.{AreLevels, GoesDeeper, IsField, IsLevel, IsNext, IsOpening, IsWalk, Opens, OpensFirst, OpensOrNot, StandsAt, followers_from, legs_of, opens_in, pending_in, preorder_in, tail_of, top_of}
+use Rattle.euler_rotation.specs.Walks.{AreLevels, GoesDeeper, IsField, IsLevel, IsNextLevel, IsOpening, IsWalk, Opens, OpensFirst, OpensOrNot, WalkStandsAt, followers_from, legs_of_path, opens_in, pending_in, preorder_in, tail_of, top_of}
 use Rattle.euler_rotation.proofs.Along.{goes_on}
 use Rattle.euler_rotation.proofs.Extending.{first_extends, none_open, pending_deeper, preorder_first}
 use Rattle.euler_rotation.proofs.Marks.{marks_entered}
@@ -25,13 +25,13 @@ use Rattle.euler_rotation.proofs.TourTurns.{own_leg}
 
 -- ---- the last level of a path
 module _ (t : Tables) (a : List ℕ) (f days : ℕ) where
-  top_level : (path : List Level) (top : Level) → AreLevels t a f days path → top_of path ≡ Some top → IsLevel t a f days (legs_of (tail_of path)) top
+  top_level : (path : List Level) (top : Level) → AreLevels t a f days path → top_of path ≡ Some top → IsLevel t a f days (legs_of_path (tail_of path)) top
   top_level [] top levels is = absurd (none_some is)
-  top_level (x ∷ outer) top levels is = subst (IsLevel t a f days (legs_of outer)) (some_is x top is) levels.0
+  top_level (x ∷ outer) top levels is = subst (IsLevel t a f days (legs_of_path outer)) (some_is x top is) levels.0
 
-top_legs : (path : List Level) (top : Level) → top_of path ≡ Some top → legs_of path ≡ legs_of (tail_of path) ++ top.leg ∷ []
+top_legs : (path : List Level) (top : Level) → top_of path ≡ Some top → legs_of_path path ≡ legs_of_path (tail_of path) ++ top.leg ∷ []
 top_legs [] top is = absurd (none_some is)
-top_legs (x ∷ outer) top is = ap (λ y. legs_of outer ++ y.leg ∷ []) (some_is x top is)
+top_legs (x ∷ outer) top is = ap (λ y. legs_of_path outer ++ y.leg ∷ []) (some_is x top is)
 
 module _ (field : Field) where
   abbrev t : Tables
@@ -86,18 +86,18 @@ module _ (field : Field) where
       → GoesOn t days top.since (nights_in_turn t f (turn_to top.leg leg)) more → OpensOrNot field walk.path leg more
   opened walk top leg more is_walk is lt unused goes = told more
       (subst (λ (legs : List ℕ). GoesOn t days 0 (nights_along t f (legs ++ leg ∷ [])) more) (sym (top_legs walk.path top is))
-      (goes_on (legs_of (tail_of walk.path)) top.leg leg t f days top.since level.often level.since more goes))
+      (goes_on (legs_of_path (tail_of walk.path)) top.leg leg t f days top.since level.often level.since more goes))
     where
-      level : IsLevel t a f days (legs_of (tail_of walk.path)) top
+      level : IsLevel t a f days (legs_of_path (tail_of walk.path)) top
       level = top_level t a f days walk.path top is_walk.levels is
 
-      new : not (has_leg (legs_of walk.path) leg) ≡ true
+      new : not (has_leg (legs_of_path walk.path) leg) ≡ true
       new = ap not (sym (is_walk.marks leg lt) ∙ unused)
 
-      told : (more : Option ℕ) → GoesOn t days 0 (nights_along t f (legs_of walk.path ++ leg ∷ [])) more → OpensOrNot field walk.path leg more
-      told None over = ap (λ b. not (has_leg (legs_of walk.path) leg) && b) over ∙ and-false (not (has_leg (legs_of walk.path) leg))
+      told : (more : Option ℕ) → GoesOn t days 0 (nights_along t f (legs_of_path walk.path ++ leg ∷ [])) more → OpensOrNot field walk.path leg more
+      told None over = ap (λ b. not (has_leg (legs_of_path walk.path) leg) && b) over ∙ and-false (not (has_leg (legs_of_path walk.path) leg))
       told (Some since) stays = record {
-        opens = both_true (not (has_leg (legs_of walk.path) leg)) (stays_below t days 0 (nights_along t f (legs_of walk.path ++ leg ∷ []))) new stays.below;
+        opens = both_true (not (has_leg (legs_of_path walk.path) leg)) (stays_below t days 0 (nights_along t f (legs_of_path walk.path ++ leg ∷ []))) new stays.below;
         below = stays;
       }
 
@@ -125,7 +125,7 @@ module _ (field : Field) where
       fits = record {
         known = own.known;
         own = own.own;
-        new = not_true (has_leg (legs_of path) leg) (parts_true (not (has_leg (legs_of path) leg)) (stays_below t days 0 (nights_along t f (legs_of path ++ leg ∷ []))) opens.opens).0;
+        new = not_true (has_leg (legs_of_path path) leg) (parts_true (not (has_leg (legs_of_path path) leg)) (stays_below t days 0 (nights_along t f (legs_of_path path ++ leg ∷ []))) opens.opens).0;
         often = opens.below.below;
         since = opens.below.since_is;
         few = opens.below.few;
@@ -139,7 +139,7 @@ module _ (field : Field) where
   none_left path top place le = ap (filter (opens_in field path)) (drop_all place (followers_of t a f pairs order top.leg) le)
 
   -- ---- the next level
-  pub next_told : (path : List Level) (top : Level) (from : ℕ) (next : Option Level) → top_of path ≡ Some top → length path < length order → IsOpening field path top from next → IsNext field path from next
+  pub next_told : (path : List Level) (top : Level) (from : ℕ) (next : Option Level) → top_of path ≡ Some top → length path < length order → IsOpening field path top from next → IsNextLevel field path from next
   next_told path top from None is less opening = none_open t a f pairs days order path top from is opening
   next_told path top from (Some level) is less opening = record {
     first = first_extends t a f pairs days order path top level from is less opening.fits.own opening.first;
@@ -148,16 +148,16 @@ module _ (field : Field) where
 
   -- ---- into a prefix and out of it
   pub entered : (old new : Walk) (top level : Level) (from : ℕ) (visits : List (List ℕ)) → IsWalk field old → top_of old.path ≡ Some top → visits ≡ pending_in field old.path from → GoesDeeper field old.path from level
-      → new.path ≡ level ∷ old.path → new.used.items ≡ set old.used.items level.leg true → StandsAt field visits new
+      → new.path ≡ level ∷ old.path → new.used.items ≡ set old.used.items level.leg true → WalkStandsAt field visits new
   entered old new top level from visits is_walk is same deeper path used = record {
     walk = record {
       levels = subst (AreLevels t a f days) (sym path) (deeper.fits, is_walk.levels);
       each_leg = ap length used ∙ length-set old.used.items level.leg true ∙ is_walk.each_leg;
       marks = λ l lt. ap (λ items. slice_index_or items l false) used
-          ∙ marks_entered old.used.items (legs_of old.path) level.leg (omega (arith, is_walk.each_leg, deeper.fits.known)) (λ k low. is_walk.marks k (omega (arith, low, is_walk.each_leg))) l (omega (arith, lt, is_walk.each_leg))
-          ∙ ap (λ p. has_leg (legs_of p) l) (sym path);
+          ∙ marks_entered old.used.items (legs_of_path old.path) level.leg (omega (arith, is_walk.each_leg, deeper.fits.known)) (λ k low. is_walk.marks k (omega (arith, low, is_walk.each_leg))) l (omega (arith, lt, is_walk.each_leg))
+          ∙ ap (λ p. has_leg (legs_of_path p) l) (sym path);
     };
-    first = same ∙ pending_deeper t a f pairs days order old.path top level from is deeper.first ∙ ap (λ p. legs_of p ∷ pending_in field p 0) (sym path);
+    first = same ∙ pending_deeper t a f pairs days order old.path top level from is deeper.first ∙ ap (λ p. legs_of_path p ∷ pending_in field p 0) (sym path);
   }
 
   pub top_known : (walk : Walk) (top : Level) → IsWalk field walk → top_of walk.path ≡ Some top → top.leg < legs_in t
@@ -165,16 +165,16 @@ module _ (field : Field) where
 
   -- ---- the first prefix
   pub begun : (walk : Walk) (level : Level) (none : List Bool) → IsField field → length none ≡ legs_in t → ((k : ℕ) → k < legs_in t → slice_index_or none k false ≡ false)
-      → walk.path ≡ level ∷ [] → walk.used.items ≡ set none level.leg true → level.leg ≡ slice_index order 0 → level.since ≡ 0 → StandsAt field (preorder_in field) walk
+      → walk.path ≡ level ∷ [] → walk.used.items ≡ set none level.leg true → level.leg ≡ slice_index order 0 → level.since ≡ 0 → WalkStandsAt field (preorder_in field) walk
   begun walk level none is_field size unset path used is since = record {
     walk = record {
       levels = subst (AreLevels t a f days) (sym path) (fits, tt);
       each_leg = ap length used ∙ length-set none level.leg true ∙ size;
       marks = λ l lt. ap (λ items. slice_index_or items l false) used
           ∙ marks_entered none [] level.leg (omega (arith, size, known)) (λ k low. unset k (omega (arith, low, size))) l (omega (arith, lt, size))
-          ∙ ap (λ p. has_leg (legs_of p) l) (sym path);
+          ∙ ap (λ p. has_leg (legs_of_path p) l) (sym path);
     };
-    first = preorder_first t a f pairs days order level is_field.some own is ∙ ap (λ p. legs_of p ∷ pending_in field p 0) (sym path);
+    first = preorder_first t a f pairs days order level is_field.some own is ∙ ap (λ p. legs_of_path p ∷ pending_in field p 0) (sym path);
   }
     where
       known : level.leg < legs_in t

@@ -7,7 +7,7 @@ use Rattle.fleet_model.specs.Schedule.{legs_in}
 use Rattle.cycle_join.specs.Joins.{FliesSome, IsApart}
 use Rattle.euler_rotation.specs.declared.rotation.Rotation.{Rotation}
 use Rattle.euler_rotation.specs.declared.rotation.Rotation.TheVariants as rotation
-use Rattle.euler_rotation.specs.Prefixes.{entry_of, numbered, preorder}
+use Rattle.euler_rotation.specs.Prefixes.{numbered_entries, prefix_entry, preorder}
 use Rattle.euler_rotation.specs.Tours.{BeginsLeast, HasKeptTour, HasTour, IsKeptTour, IsOrder, nights_maintained, nights_used}
 
 -- the fleet has no leg
@@ -27,12 +27,12 @@ pub record AreEnough (t : Tables) (a : List ℕ) (f days : ℕ) : Type 0 where
   pub enough : nights_used t a f ≤ nights_maintained t a f * days
 
 -- no tour holds the pairs: these legs are apart from the others
-pub record AreApart (t : Tables) (a : List ℕ) (f : ℕ) (pairs : List Connection) (days : ℕ) (legs : List ℕ) : Type 0 where
+pub record AreLegsApart (t : Tables) (a : List ℕ) (f : ℕ) (pairs : List Connection) (days : ℕ) (legs : List ℕ) : Type 0 where
   pub nights : AreEnough t a f days
   pub apart : IsApart t a f pairs legs
 
 -- a kept tour that holds the pairs, from the least leg that has a night before it
-pub record IsRight (t : Tables) (a : List ℕ) (f : ℕ) (pairs : List Connection) (days : ℕ) (legs : List ℕ) : Type 0 where
+pub record IsRightTour (t : Tables) (a : List ℕ) (f : ℕ) (pairs : List Connection) (days : ℕ) (legs : List ℕ) : Type 0 where
   pub nights : AreEnough t a f days
   pub tour : IsKeptTour t a f pairs days legs
   pub begins : BeginsLeast t f legs
@@ -48,8 +48,8 @@ pub record IsNone (t : Tables) (a : List ℕ) (f : ℕ) (pairs : List Connection
 pub record AreVisited (t : Tables) (a : List ℕ) (f : ℕ) (pairs : List Connection) (days visits : ℕ) (order prefix : List ℕ) : Type 0 where
   pub each_leg : IsOrder t a f order
   pub more : visits < length (preorder t a f pairs days order)
-  pub none : (k : ℕ) → k < visits → IsKeptTour t a f pairs days (entry_of (preorder t a f pairs days order) k) → ⊥
-  pub last : prefix ≡ numbered (preorder t a f pairs days order) visits
+  pub none : (k : ℕ) → k < visits → IsKeptTour t a f pairs days (prefix_entry (preorder t a f pairs days order) k) → ⊥
+  pub last : prefix ≡ numbered_entries (preorder t a f pairs days order) visits
 
 -- some tour holds the pairs, there are fewer days than nights or nights may be short, and so many prefixes were visited in vain
 pub record IsSpent (t : Tables) (a : List ℕ) (f : ℕ) (pairs : List Connection) (days visits : ℕ) (order prefix : List ℕ) : Type 0 where
@@ -62,8 +62,8 @@ pub record IsSpent (t : Tables) (a : List ℕ) (f : ℕ) (pairs : List Connectio
 abbrev pub IsRotation : Tables → List ℕ → ℕ → List Connection → ℕ → ℕ → Rotation → Type 0
 IsRotation t a f pairs days visits rotation.Unused = IsUnused t a f
 IsRotation t a f pairs days visits (rotation.TooFewNights have used) = AreTooFew t a f days have used
-IsRotation t a f pairs days visits (rotation.Apart legs) = AreApart t a f pairs days legs
-IsRotation t a f pairs days visits (rotation.Tour legs) = IsRight t a f pairs days legs
+IsRotation t a f pairs days visits (rotation.Apart legs) = AreLegsApart t a f pairs days legs
+IsRotation t a f pairs days visits (rotation.Tour legs) = IsRightTour t a f pairs days legs
 IsRotation t a f pairs days visits rotation.None = IsNone t a f pairs days
 IsRotation t a f pairs days visits (rotation.Spent order prefix) = IsSpent t a f pairs days visits order prefix
 
@@ -81,5 +81,5 @@ abbrev pub Suffice : Tables → List ℕ → ℕ → List Connection → ℕ →
 Suffice t a f pairs days visits = ((t.settings.least_night ≡ 0) × (nights_used t a f ≤ days)) ⊎ ((order : List ℕ) → IsOrder t a f order → length (preorder t a f pairs days order) ≤ visits)
 
 -- then the answer is a kept tour exactly where one holds the pairs
-abbrev pub IsComplete : Tables → List ℕ → ℕ → List Connection → ℕ → ℕ → Rotation → Type 0
-IsComplete t a f pairs days visits answer = Suffice t a f pairs days visits → (IsTourAnswer answer ↔ HasKeptTour t a f pairs days)
+abbrev pub IsRotationComplete : Tables → List ℕ → ℕ → List Connection → ℕ → ℕ → Rotation → Type 0
+IsRotationComplete t a f pairs days visits answer = Suffice t a f pairs days visits → (IsTourAnswer answer ↔ HasKeptTour t a f pairs days)

@@ -9,7 +9,7 @@ use Rattle.fleet_model.specs.Schedule.{fleets_in, legs_in, period_of, stations_i
 use Rattle.fleet_model.specs.Plain.{IsPlain}
 use Rattle.ground_turns.specs.Laws.{AreBareMinutes}
 use Rattle.ground_turns.specs.Maps.{turn_after}
-use Rattle.ground_turns.specs.Segments.{EndAt, minutes_of}
+use Rattle.ground_turns.specs.Segments.{EndAt, span_of}
 use Rattle.euler_rotation.specs.declared.asked.Asked.{Asked}
 use Rattle.euler_rotation.specs.declared.clean.CleanTurns.{CleanTurns}
 use Rattle.euler_rotation.specs.Prefixes.{is_clean, may_turn, meets}
@@ -25,7 +25,7 @@ pub record IsAsked (asked : Asked) : Type 0 where
 pub record AreSegments (t : Tables) (a : List ℕ) (f s : ℕ) (numbers : List ℕ) : Type 0 where
   pub minutes : List ℕ
   pub bare : AreBareMinutes t a f s minutes
-  pub period : minutes_of numbers ≡ period_of t
+  pub period : span_of numbers ≡ period_of t
   pub ends : EndAt minutes numbers
 
 -- those of each station

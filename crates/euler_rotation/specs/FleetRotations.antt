@@ -7,7 +7,7 @@ use Rattle.fleet_model.specs.declared.tables.Tables.{Tables}
 use Rattle.fleet_model.specs.Schedule.{fleets_in, legs_in}
 use Rattle.ground_turns.specs.Maps.{IsTour, turn_at}
 use Rattle.ground_turns.specs.Nights.{IsKeptFor, nights_of_tour}
-use Rattle.lines_of_flying.specs.Lines.{AreLegs, BeginsAfterStart}
+use Rattle.lines_of_flying.specs.Lines.{AreLegsOfTables, BeginsAfterStart}
 use Rattle.euler_rotation.specs.declared.fleet_rotation.FleetRotation.{FleetRotation}
 
 -- the rotation of a fleet
@@ -23,7 +23,7 @@ last_made made = unwrap_or made.second made.first
 
 -- legs of the tables, and no more than there are
 pub record AreListed (t : Tables) (legs : List ℕ) : Type 0 where
-  pub known : AreLegs t legs
+  pub known : AreLegsOfTables t legs
   pub few : length legs ≤ legs_in t
 
 -- two legs of the tables
@@ -54,16 +54,16 @@ pub record AreRotations (t : Tables) (rotations : List FleetRotation) : Type 0 w
   pub each : (f : ℕ) → f < length rotations → IsFleetRotation t (rotation_of rotations f)
 
 -- a tour is one of the fleet's by the assignment, and begins after a night
-abbrev pub IsFlown : Tables → List ℕ → ℕ → Rotation → Type 0
-IsFlown t a f rotation.Unused = ⊤
-IsFlown t a f (rotation.TooFewNights have used) = ⊤
-IsFlown t a f (rotation.Apart legs) = ⊤
-IsFlown t a f (rotation.Tour tour) = IsTour t a f tour × BeginsAfterStart t f tour
-IsFlown t a f rotation.None = ⊤
-IsFlown t a f (rotation.Spent order prefix) = ⊤
+abbrev pub IsRotationFlown : Tables → List ℕ → ℕ → Rotation → Type 0
+IsRotationFlown t a f rotation.Unused = ⊤
+IsRotationFlown t a f (rotation.TooFewNights have used) = ⊤
+IsRotationFlown t a f (rotation.Apart legs) = ⊤
+IsRotationFlown t a f (rotation.Tour tour) = IsTour t a f tour × BeginsAfterStart t f tour
+IsRotationFlown t a f rotation.None = ⊤
+IsRotationFlown t a f (rotation.Spent order prefix) = ⊤
 
 pub record AreFlown (t : Tables) (a : List ℕ) (rotations : List FleetRotation) : Type 0 where
-  pub each : (f : ℕ) → f < length rotations → IsFlown t a f (last_made (rotation_of rotations f))
+  pub each : (f : ℕ) → f < length rotations → IsRotationFlown t a f (last_made (rotation_of rotations f))
 
 -- a tour comes to maintenance, again and again
 abbrev pub IsKept : Tables → ℕ → Rotation → Type 0

@@ -6,7 +6,7 @@ use Rattle.fleet_model.specs.Schedule.{leg_of}
 use Rattle.ground_turns.specs.Maps.{turn_at}
 use Rattle.ground_turns.specs.Turns.{IsClean, station_at}
 use Rattle.euler_rotation.specs.Often.{MaintainedOften}
-use Rattle.euler_rotation.specs.Prefixes.{entry_of, has_leg, nights_along, preorder, turn_to}
+use Rattle.euler_rotation.specs.Prefixes.{has_leg, nights_along, prefix_entry, preorder, turn_to}
 use Rattle.euler_rotation.specs.Tours.{IsOrder}
 
 -- the turn has the leg of the pair exactly where it has its partner
@@ -32,18 +32,18 @@ pub record IsPrefix (t : Tables) (a : List ℕ) (f : ℕ) (pairs : List Connecti
 -- what is visited are prefixes
 abbrev pub EntriesArePrefixes : Type 0
 EntriesArePrefixes = (t : Tables) (a : List ℕ) (f : ℕ) (pairs : List Connection) (days : ℕ) (order : List ℕ) (k : ℕ) → 0 < days
-    → k < length (preorder t a f pairs days order) → IsPrefix t a f pairs days order (entry_of (preorder t a f pairs days order) k)
+    → k < length (preorder t a f pairs days order) → IsPrefix t a f pairs days order (prefix_entry (preorder t a f pairs days order) k)
 
 -- and none of them is visited twice
 abbrev pub NoEntryTwice : Type 0
 NoEntryTwice = (t : Tables) (a : List ℕ) (f : ℕ) (pairs : List Connection) (days : ℕ) (order : List ℕ) (j k : ℕ) → IsOrder t a f order → j < k
-    → k < length (preorder t a f pairs days order) → entry_of (preorder t a f pairs days order) j ≢ entry_of (preorder t a f pairs days order) k
+    → k < length (preorder t a f pairs days order) → prefix_entry (preorder t a f pairs days order) j ≢ prefix_entry (preorder t a f pairs days order) k
 
 -- a prefix is one of the entries
 pub record IsEntry (entries : List (List ℕ)) (legs : List ℕ) : Type 0 where
   pub place : ℕ
   pub within : place < length entries
-  pub is : entry_of entries place ≡ legs
+  pub is : prefix_entry entries place ≡ legs
 
 -- each prefix is visited
 abbrev pub EachPrefixIsEntry : Type 0
@@ -72,5 +72,5 @@ pub record PartsEarlier (order first second : List ℕ) : Type 0 where
 abbrev pub EntriesRise : Type 0
 EntriesRise = (t : Tables) (a : List ℕ) (f : ℕ) (pairs : List Connection) (days : ℕ) (order : List ℕ) (j k : ℕ) → j < k
     → k < length (preorder t a f pairs days order)
-    → GoesOnBehind (entry_of (preorder t a f pairs days order) j) (entry_of (preorder t a f pairs days order) k)
-    ⊎ PartsEarlier order (entry_of (preorder t a f pairs days order) j) (entry_of (preorder t a f pairs days order) k)
+    → GoesOnBehind (prefix_entry (preorder t a f pairs days order) j) (prefix_entry (preorder t a f pairs days order) k)
+    ⊎ PartsEarlier order (prefix_entry (preorder t a f pairs days order) j) (prefix_entry (preorder t a f pairs days order) k)

@@ -70,9 +70,9 @@ unfoldable pub preorder : Tables → List ℕ → ℕ → List Connection → �
 preorder t a f pairs days order = preorder_from t a f pairs days order (length order) [] (slice_index order 0)
 
 -- an entry, counted from 0, and by its number, counted from 1; the entry number 0 is empty
-abbrev pub entry_of : List (List ℕ) → ℕ → List ℕ
-entry_of entries k = slice_index_or entries k []
+abbrev pub prefix_entry : List (List ℕ) → ℕ → List ℕ
+prefix_entry entries k = slice_index_or entries k []
 
-abbrev pub numbered : List (List ℕ) → ℕ → List ℕ
-numbered entries zero = []
-numbered entries (suc k) = entry_of entries k
+abbrev pub numbered_entries : List (List ℕ) → ℕ → List ℕ
+numbered_entries entries zero = []
+numbered_entries entries (suc k) = prefix_entry entries k

@@ -7,15 +7,15 @@ use Rattle.euler_rotation.specs.declared.field.Field.{Field}
 use Rattle.euler_rotation.specs.declared.search.Found.{Found}
 use Rattle.euler_rotation.specs.declared.search.Found.TheVariants as found
 use Rattle.euler_rotation.specs.declared.walk.Walk.{Walk}
-use Rattle.euler_rotation.specs.Answers.{AreEnough, AreVisited, IsNone, IsRight, IsSpent}
+use Rattle.euler_rotation.specs.Answers.{AreEnough, AreVisited, IsNone, IsRightTour, IsSpent}
 use Rattle.euler_rotation.specs.Asked.{IsAsked}
-use Rattle.euler_rotation.specs.Prefixes.{entry_of, preorder}
+use Rattle.euler_rotation.specs.Prefixes.{prefix_entry, preorder}
 use Rattle.euler_rotation.specs.Tours.{IsKeptTour, IsTourWith, nights_used}
-use Rattle.euler_rotation.specs.Walks.{IsWalk, StandsAt, legs_of, pending_in, preorder_in}
+use Rattle.euler_rotation.specs.Walks.{IsWalk, WalkStandsAt, legs_of_path, pending_in, preorder_in}
 
 -- none of the first prefixes ends a kept tour
 pub record EndNoneOf (t : Tables) (a : List ℕ) (f : ℕ) (pairs : List Connection) (days : ℕ) (order : List ℕ) (n : ℕ) : Type 0 where
-  pub each : (k : ℕ) → k < n → IsKeptTour t a f pairs days (entry_of (preorder t a f pairs days order) k) → ⊥
+  pub each : (k : ℕ) → k < n → IsKeptTour t a f pairs days (prefix_entry (preorder t a f pairs days order) k) → ⊥
 
 -- what is said of a search under an order
 abbrev pub IsFoundUnder : Tables → List ℕ → ℕ → List Connection → ℕ → List ℕ → ℕ → Found → Type 0
@@ -31,10 +31,10 @@ pub record MayTell (asked : Asked) (tour : List ℕ) (used : ℕ) : Type 0 where
   pub holds : IsTourWith asked.tables.now asked.plan.now asked.fleet asked.pairs.now tour
 
 -- what is said then of the answer: of a kept tour, that there is none, or of a search under the order of that tour
-abbrev pub IsTold : Asked → List ℕ → ℕ → Found → Type 0
-IsTold asked tour visits (found.Tour legs) = IsRight asked.tables.now asked.plan.now asked.fleet asked.pairs.now asked.days legs
-IsTold asked tour visits found.Nothing = IsNone asked.tables.now asked.plan.now asked.fleet asked.pairs.now asked.days
-IsTold asked tour visits (found.Spent prefix) = IsSpent asked.tables.now asked.plan.now asked.fleet asked.pairs.now asked.days visits tour prefix
+abbrev pub IsTourTold : Asked → List ℕ → ℕ → Found → Type 0
+IsTourTold asked tour visits (found.Tour legs) = IsRightTour asked.tables.now asked.plan.now asked.fleet asked.pairs.now asked.days legs
+IsTourTold asked tour visits found.Nothing = IsNone asked.tables.now asked.plan.now asked.fleet asked.pairs.now asked.days
+IsTourTold asked tour visits (found.Spent prefix) = IsSpent asked.tables.now asked.plan.now asked.fleet asked.pairs.now asked.days visits tour prefix
 
 -- the same of what is looked up
 abbrev pub is_kept_in : Field → List ℕ → Type 0
@@ -56,12 +56,12 @@ EndsOrNot field legs (Some tour) = is_kept_in field tour
 
 -- a prefix ends no kept tour, and it is the last; or the walk goes on to the next
 pub record IsLast (field : Field) (at : Walk) : Type 0 where
-  pub none : is_kept_in field (legs_of at.path) → ⊥
+  pub none : is_kept_in field (legs_of_path at.path) → ⊥
   pub last : pending_in field at.path 0 ≡ []
 
 pub record GoesOnFrom (field : Field) (old new : Walk) : Type 0 where
-  pub none : is_kept_in field (legs_of old.path) → ⊥
-  pub next : StandsAt field (pending_in field old.path 0) new
+  pub none : is_kept_in field (legs_of_path old.path) → ⊥
+  pub next : WalkStandsAt field (pending_in field old.path 0) new
 
 -- what a search comes to where it ends at a prefix
 abbrev pub EndsHere : Field → Walk → Found → Type 0
@@ -76,5 +76,5 @@ EndsOrGoesOn field old new (Some found) = EndsHere field old found
 -- so many prefixes were visited before the one at which the walk stands
 pub record HasVisited (field : Field) (n : ℕ) (at : Walk) : Type 0 where
   pub walk : IsWalk field at
-  pub rest : drop n (preorder_in field) ≡ legs_of at.path ∷ pending_in field at.path 0
+  pub rest : drop n (preorder_in field) ≡ legs_of_path at.path ∷ pending_in field at.path 0
   pub none : EndNone field n

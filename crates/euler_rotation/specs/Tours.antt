@@ -61,5 +61,5 @@ abbrev pub nights_used : Tables → List ℕ → ℕ → ℕ
 nights_used t a f = used_of t (weights_of a) f * days_in t
 
 -- the same tour from another of its places on
-abbrev pub turned : ℕ → List ℕ → List ℕ
-turned r legs = list_below (λ k. slice_index legs ((k + r) % length legs)) (length legs)
+abbrev pub turned_tour : ℕ → List ℕ → List ℕ
+turned_tour r legs = list_below (λ k. slice_index legs ((k + r) % length legs)) (length legs)

@@ -15,9 +15,9 @@ use Rattle.euler_rotation.specs.Prefixes.{has_leg, is_open, nights_along, preord
 use Rattle.euler_rotation.specs.Tours.{IsOrder}
 
 -- the legs of a path, whose levels stand innermost first
-abbrev pub legs_of : List Level → List ℕ
-legs_of [] = []
-legs_of (x ∷ outer) = legs_of outer ++ x.leg ∷ []
+abbrev pub legs_of_path : List Level → List ℕ
+legs_of_path [] = []
+legs_of_path (x ∷ outer) = legs_of_path outer ++ x.leg ∷ []
 
 -- what is looked up is of the order
 pub record IsField (field : Field) : Type 0 where
@@ -38,14 +38,14 @@ pub record IsLevel (t : Tables) (a : List ℕ) (f days : ℕ) (front : List ℕ)
 
 abbrev pub AreLevels : Tables → List ℕ → ℕ → ℕ → List Level → Type 0
 AreLevels t a f days [] = Unit {0}
-AreLevels t a f days (x ∷ outer) = IsLevel t a f days (legs_of outer) x × AreLevels t a f days outer
+AreLevels t a f days (x ∷ outer) = IsLevel t a f days (legs_of_path outer) x × AreLevels t a f days outer
 
 -- the prefixes that extend a path, by the followers of its last leg from a place on
 abbrev pub extensions : Tables → List ℕ → ℕ → List Connection → ℕ → List ℕ → List Level → ℕ → List (List ℕ)
 extensions t a f pairs days order [] from = []
 extensions t a f pairs days order (x ∷ outer) from =
-    flat_map (preorder_from t a f pairs days order (length order - length (x ∷ outer)) (legs_of (x ∷ outer)))
-    (filter (is_open t f days (legs_of (x ∷ outer))) (drop from (followers_of t a f pairs order x.leg)))
+    flat_map (preorder_from t a f pairs days order (length order - length (x ∷ outer)) (legs_of_path (x ∷ outer)))
+    (filter (is_open t f days (legs_of_path (x ∷ outer))) (drop from (followers_of t a f pairs order x.leg)))
 
 -- all that are still to be visited: those, and of each level outside those from its next place on
 abbrev pub pending : Tables → List ℕ → ℕ → List Connection → ℕ → List ℕ → List Level → ℕ → List (List ℕ)
@@ -54,7 +54,7 @@ pending t a f pairs days order (x ∷ outer) from = extensions t a f pairs days 
 
 -- the same of what is looked up
 abbrev pub opens_in : Field → List Level → ℕ → Bool
-opens_in field path l = is_open field.clean.now.asked.now.tables.now field.clean.now.asked.now.fleet field.clean.now.asked.now.days (legs_of path) l
+opens_in field path l = is_open field.clean.now.asked.now.tables.now field.clean.now.asked.now.fleet field.clean.now.asked.now.days (legs_of_path path) l
 
 abbrev pub followers_from : Field → Level → ℕ → List ℕ
 followers_from field x from = drop from (followers_of field.clean.now.asked.now.tables.now field.clean.now.asked.now.plan.now
@@ -74,13 +74,13 @@ preorder_in field = preorder field.clean.now.asked.now.tables.now field.clean.no
 
 abbrev pub fits_behind : Field → List Level → Level → Type 0
 fits_behind field path level = IsLevel field.clean.now.asked.now.tables.now field.clean.now.asked.now.plan.now field.clean.now.asked.now.fleet
-    field.clean.now.asked.now.days (legs_of path) level
+    field.clean.now.asked.now.days (legs_of_path path) level
 
 -- the marks are those of the path's legs
 pub record IsWalk (field : Field) (walk : Walk) : Type 0 where
   pub levels : AreLevels field.clean.now.asked.now.tables.now field.clean.now.asked.now.plan.now field.clean.now.asked.now.fleet field.clean.now.asked.now.days walk.path
   pub each_leg : length walk.used.items ≡ legs_in field.clean.now.asked.now.tables.now
-  pub marks : (l : ℕ) → l < legs_in field.clean.now.asked.now.tables.now → slice_index_or walk.used.items l false ≡ has_leg (legs_of walk.path) l
+  pub marks : (l : ℕ) → l < legs_in field.clean.now.asked.now.tables.now → slice_index_or walk.used.items l false ≡ has_leg (legs_of_path walk.path) l
 
 -- the last level of a path, and those before it
 abbrev pub top_of : List Level → Option Level
@@ -95,7 +95,7 @@ tail_of (x ∷ outer) = outer
 pub record Opens (field : Field) (path : List Level) (l since : ℕ) : Type 0 where
   pub opens : opens_in field path l ≡ true
   pub below : StayBelow field.clean.now.asked.now.tables.now field.clean.now.asked.now.days 0
-      (nights_along field.clean.now.asked.now.tables.now field.clean.now.asked.now.fleet (legs_of path ++ l ∷ [])) since
+      (nights_along field.clean.now.asked.now.tables.now field.clean.now.asked.now.fleet (legs_of_path path ++ l ∷ [])) since
 
 abbrev pub OpensOrNot : Field → List Level → ℕ → Option ℕ → Type 0
 OpensOrNot field path l None = opens_in field path l ≡ false
@@ -112,18 +112,18 @@ IsOpening field path top from (Some level) = OpensFirst field path top from leve
 
 -- the next level: of what extends the path, what extends its prefix comes first
 pub record GoesDeeper (field : Field) (path : List Level) (from : ℕ) (level : Level) : Type 0 where
-  pub first : extensions_in field path from ≡ legs_of (level ∷ path) ∷ (extensions_in field (level ∷ path) 0 ++ extensions_in field path level.next)
+  pub first : extensions_in field path from ≡ legs_of_path (level ∷ path) ∷ (extensions_in field (level ∷ path) 0 ++ extensions_in field path level.next)
   pub fits : fits_behind field path level
 
-abbrev pub IsNext : Field → List Level → ℕ → Option Level → Type 0
-IsNext field path from None = extensions_in field path from ≡ []
-IsNext field path from (Some level) = GoesDeeper field path from level
+abbrev pub IsNextLevel : Field → List Level → ℕ → Option Level → Type 0
+IsNextLevel field path from None = extensions_in field path from ≡ []
+IsNextLevel field path from (Some level) = GoesDeeper field path from level
 
 -- a walk at a prefix, which with what is pending then is what was to be visited
-pub record StandsAt (field : Field) (visits : List (List ℕ)) (at : Walk) : Type 0 where
+pub record WalkStandsAt (field : Field) (visits : List (List ℕ)) (at : Walk) : Type 0 where
   pub walk : IsWalk field at
-  pub first : visits ≡ legs_of at.path ∷ pending_in field at.path 0
+  pub first : visits ≡ legs_of_path at.path ∷ pending_in field at.path 0
 
 abbrev pub Advances : Field → Walk → Walk → Bool → Type 0
-Advances field old new true = StandsAt field (pending_in field old.path 0) new
+Advances field old new true = WalkStandsAt field (pending_in field old.path 0) new
 Advances field old new false = pending_in field old.path 0 ≡ []

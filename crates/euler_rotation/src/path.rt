@@ -1,6 +1,6 @@
 //! A prefix that is being visited, leg by leg.
 ghost use Rattle.std.specs.Prelude.{◌≡◌, ◌∷◌, [], IfOk, OnOk, length};
-ghost use Rattle.euler_rotation.specs.Walks.{legs_of, tail_of, top_of};
+ghost use Rattle.euler_rotation.specs.Walks.{legs_of_path, tail_of, top_of};
 
 use entries::{Entries, NoMemory};
 use std::alloc::Global;
@@ -72,7 +72,7 @@ impl Path {
 
     /// The legs, the first one first.
     pub(crate) fn legs(&self, alloc: Global) -> Result<Entries<u32>, NoMemory>
-        ensures { IfOk result (λ legs. legs ≡ legs_of self.now) }
+        ensures { IfOk result (λ legs. legs ≡ legs_of_path self.now) }
     {
         let mut legs = Vec::new(alloc);
         for level in &self.levels {

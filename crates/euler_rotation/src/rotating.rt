@@ -2,11 +2,11 @@
 ghost use Rattle.std.specs.Prelude.{◌≡◌, ◌<◌, ◌≤◌, ◌==◌, ◌&&◌, nat_le, ℕ, IfOk};
 ghost use Rattle.fleet_model.specs.Legal.{IsAssignment};
 ghost use Rattle.fleet_model.specs.Schedule.{fleets_in};
-ghost use Rattle.ground_turns.specs.Maps.{IsHeld};
+ghost use Rattle.ground_turns.specs.Maps.{IsHeldByMap};
 ghost use Rattle.cycle_join.specs.Joins.{FliesSome};
-ghost use Rattle.euler_rotation.specs.Answers.{AreEnough, IsComplete, IsRotation};
+ghost use Rattle.euler_rotation.specs.Answers.{AreEnough, IsRotation, IsRotationComplete};
 ghost use Rattle.euler_rotation.specs.Asked.{IsAsked, TellClean};
-ghost use Rattle.euler_rotation.specs.Searches.{IsFoundUnder, IsTold, MayTell};
+ghost use Rattle.euler_rotation.specs.Searches.{IsFoundUnder, IsTourTold, MayTell};
 ghost use Rattle.euler_rotation.specs.Tours.{IsTourWith, nights_used};
 
 use crate::asked::Asked;
@@ -40,11 +40,11 @@ pub fn rotate(
 ) -> Result<Rotation, NoMemory>
     requires plan { IsAssignment tables.now plan.now }
     requires fleet { fleet < fleets_in tables.now }
-    requires held { IsHeld tables.now plan.now fleet pairs.now }
+    requires held { IsHeldByMap tables.now plan.now fleet pairs.now }
     requires some_days { 0 < days }
     requires few_days { days ≤ 30 }
     ensures rotation { IfOk result (IsRotation tables.now plan.now fleet pairs.now days visits) }
-    ensures complete { IfOk result (IsComplete tables.now plan.now fleet pairs.now days visits) }
+    ensures complete { IfOk result (IsRotationComplete tables.now plan.now fleet pairs.now days visits) }
 {
     let asked = Asked {
         tables,
@@ -59,7 +59,7 @@ pub fn rotate(
 // The rotation that is asked for.
 fn rotation_of(alloc: Global, asked: &Asked<'_>, visits: u64) -> Result<Rotation, NoMemory>
     requires asked { IsAsked asked.now }
-    requires held { IsHeld asked.now.tables.now asked.now.plan.now asked.now.fleet asked.now.pairs.now }
+    requires held { IsHeldByMap asked.now.tables.now asked.now.plan.now asked.now.fleet asked.now.pairs.now }
     ensures { IfOk result (IsRotation asked.now.tables.now asked.now.plan.now asked.now.fleet asked.now.pairs.now asked.now.days visits) }
 {
     match first_leg(asked) {
@@ -71,7 +71,7 @@ fn rotation_of(alloc: Global, asked: &Asked<'_>, visits: u64) -> Result<Rotation
 // The rotation of a fleet that has a leg.
 fn flown(alloc: Global, asked: &Asked<'_>, visits: u64) -> Result<Rotation, NoMemory>
     requires asked { IsAsked asked.now }
-    requires held { IsHeld asked.now.tables.now asked.now.plan.now asked.now.fleet asked.now.pairs.now }
+    requires held { IsHeldByMap asked.now.tables.now asked.now.plan.now asked.now.fleet asked.now.pairs.now }
     requires flies { FliesSome asked.now.tables.now asked.now.plan.now asked.now.fleet }
     ensures { IfOk result (IsRotation asked.now.tables.now asked.now.plan.now asked.now.fleet asked.now.pairs.now asked.now.days visits) }
 {
@@ -119,7 +119,7 @@ fn told(
     visits: u64,
 ) -> Result<Found, NoMemory>
     requires { MayTell asked.now tour.now used }
-    ensures { IfOk result (IsTold asked.now tour.now visits) }
+    ensures { IfOk result (IsTourTold asked.now tour.now visits) }
 {
     let clean = clean_turns(alloc, asked)?;
     told_by(alloc, &clean, tour, used, visits)
@@ -135,7 +135,7 @@ fn told_by(
 ) -> Result<Found, NoMemory>
     requires clean { TellClean clean.now }
     requires told { MayTell clean.now.asked.now tour.now used }
-    ensures { IfOk result (IsTold clean.now.asked.now tour.now visits) }
+    ensures { IfOk result (IsTourTold clean.now.asked.now tour.now visits) }
 {
     if is_kept_tour(clean, tour) {
         return Ok(Found::Tour(begun(alloc, clean.asked, tour)?));

@@ -1,7 +1,7 @@
 //! The search for a kept tour among all prefixes.
 ghost use Rattle.std.specs.Prelude.{◌<◌, IfOk};
 ghost use Rattle.euler_rotation.specs.Searches.{EndsOrGoesOn, EndsOrNot, IsFound};
-ghost use Rattle.euler_rotation.specs.Walks.{IsField, IsWalk, StandsAt, legs_of, preorder_in};
+ghost use Rattle.euler_rotation.specs.Walks.{IsField, IsWalk, WalkStandsAt, legs_of_path, preorder_in};
 
 use crate::field::Field;
 use crate::kept::is_kept_tour;
@@ -40,7 +40,7 @@ fn visited(
     visits: u64,
 ) -> Result<Found, NoMemory>
     requires field { IsField field.now }
-    requires walk { StandsAt field.now (preorder_in field.now) walk.old }
+    requires walk { WalkStandsAt field.now (preorder_in field.now) walk.old }
     requires some { 0 < visits }
     ensures { IfOk result (IsFound field.now visits) }
 {
@@ -75,7 +75,7 @@ fn visit(alloc: Global, field: &Field<'_>, walk: &mut Walk) -> Result<Option<Fou
 // The kept tour that a prefix ends.
 fn ended(alloc: Global, field: &Field<'_>, walk: &Walk) -> Result<Option<Entries<u32>>, NoMemory>
     requires { IsField field.now }
-    ensures { IfOk result (EndsOrNot field.now (legs_of walk.now.path)) }
+    ensures { IfOk result (EndsOrNot field.now (legs_of_path walk.now.path)) }
 {
     if walk.path.len() != field.order.len() {
         return Ok(None);

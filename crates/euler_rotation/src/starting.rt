@@ -1,7 +1,7 @@
 //! Where a tour begins.
 ghost use Rattle.std.specs.Prelude.{◌≡◌, ◌+◌, ◌<◌, IfOk, length};
 ghost use Rattle.euler_rotation.specs.Asked.{AreKnown, IsAsked};
-ghost use Rattle.euler_rotation.specs.Tours.{BeginsLeast, IsKeptTour, periods_before, turned};
+ghost use Rattle.euler_rotation.specs.Tours.{BeginsLeast, IsKeptTour, periods_before, turned_tour};
 ghost use Rattle.euler_rotation.specs.Starts.{IsLeastPlace, LeastOrNone};
 
 use crate::asked::Asked;
@@ -28,7 +28,7 @@ pub(crate) fn begun(
 // A tour from another of its places on.
 fn turned(alloc: Global, tour: &[u32], place: usize) -> Result<Vec<u32>, NoMemory>
     requires { place < length tour.now }
-    ensures { IfOk result (λ legs. legs.items ≡ turned place tour.now) }
+    ensures { IfOk result (λ legs. legs.items ≡ turned_tour place tour.now) }
 {
     let mut legs = Vec::new(alloc);
     for step in 0..tour.len() {

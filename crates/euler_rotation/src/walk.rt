@@ -1,7 +1,7 @@
 //! A walk over the prefixes of kept tours, each before those that extend it.
 ghost use Rattle.std.specs.Prelude.{◌≡◌, ◌∷◌, ◌<◌, false, true, Some, ℕ, IfOk, OnOk, length, slice_index_or, slice_set};
 ghost use Rattle.fleet_model.specs.Schedule.{legs_in};
-ghost use Rattle.euler_rotation.specs.Walks.{Advances, IsField, IsNext, IsOpening, IsWalk, OpensOrNot, StandsAt, preorder_in, tail_of, top_of};
+ghost use Rattle.euler_rotation.specs.Walks.{Advances, IsField, IsNextLevel, IsOpening, IsWalk, OpensOrNot, WalkStandsAt, preorder_in, tail_of, top_of};
 
 use crate::field::Field;
 use crate::nights::since_after;
@@ -20,7 +20,7 @@ pub(crate) struct Walk {
 /// A walk at the first prefix: the order's first leg.
 pub(crate) fn begin(alloc: Global, field: &Field<'_>) -> Result<Walk, NoMemory>
     requires { IsField field.now }
-    ensures { IfOk result (StandsAt field.now (preorder_in field.now)) }
+    ensures { IfOk result (WalkStandsAt field.now (preorder_in field.now)) }
 {
     let used = no_marks(alloc, field.clean.asked.tables.leg_count())?;
     let mut walk = Walk {
@@ -88,7 +88,7 @@ fn next_level(field: &Field<'_>, walk: &Walk, top: Level, from: usize) -> Option
     requires field { IsField field.now }
     requires walk { IsWalk field.now walk.now }
     requires top { top_of walk.now.path ≡ Some top }
-    ensures { IsNext field.now walk.now.path from result }
+    ensures { IsNextLevel field.now walk.now.path from result }
 {
     if walk.path.len() >= field.order.len() {
         return None;

@@ -10,9 +10,9 @@ use Rattle.fleet_cli.proofs.FrontFacts.{front_in, held_in, stands_in}
 use Rattle.fleet_cli.proofs.SameBytes.{follows_plan, same_answer, same_follows}
 use Rattle.fleet_cli.specs.Answer.{Answers, TellsProof}
 use Rattle.fleet_cli.specs.Contents.{FileBytes, bytes_in, same_file, with_plan}
-use Rattle.fleet_cli.specs.Gathered.{AllHeld, IsAmong, IsHeld}
+use Rattle.fleet_cli.specs.Gathered.{AllHeld, IsAmong, IsHeldWithin}
 use Rattle.fleet_cli.specs.Opened.{Awaits, AnswersAtOnce}
-use Rattle.fleet_cli.specs.Reading.{IsReached, first_files, folder_of}
+use Rattle.fleet_cli.specs.Reading.{IsFileReached, first_files, folder_of}
 use Rattle.fleet_cli.specs.declared.answer.Answer.{Answer}
 use Rattle.fleet_cli.specs.declared.opened.Checking.{Checking}
 
@@ -35,10 +35,10 @@ module _ (held : Files) (asked : Option Asked) (bytes : FileBytes) (first : AllH
 
   -- the plan is asked for
   module _ (checking : Checking) (awaits : Awaits asked bytes checking) where
-    pub reached : IsReached asked held file.Plan
+    pub reached : IsFileReached asked held file.Plan
     reached = inr (all_there, same_follows asked bytes there agrees file.Plan awaits.wanted)
 
-    module _ (plan : List ℕ) (is : IsHeld held (folder_of asked) file.Plan plan) where
+    module _ (plan : List ℕ) (is : IsHeldWithin held (folder_of asked) file.Plan plan) where
       plan_agrees : (f : DeskFile) → f ≡ file.Plan → plan ≡ there f
       plan_agrees f same = subst (λ g. plan ≡ there g) (sym same) (stands_in held (folder_of asked) file.Plan plan is.stands)
 
@@ -55,7 +55,7 @@ module _ (held : Files) (asked : Option Asked) (bytes : FileBytes) (first : AllH
       awaited answer checks = inr (record {
         within = record {
           first = all_there;
-          further = λ f follows. subst (λ g. IsHeld held (folder_of asked) g (there g)) (sym (follows_plan asked there f follows)) (held_in held (folder_of asked) file.Plan plan is);
+          further = λ f follows. subst (λ g. IsHeldWithin held (folder_of asked) g (there g)) (sym (follows_plan asked there f follows)) (held_in held (folder_of asked) file.Plan plan is);
         };
         answers = same_answer asked (with_plan bytes plan) there with_agrees (λ f follows. further f (follows_plan asked (with_plan bytes plan) f follows)) answer (awaits.answers plan answer checks);
       })
@@ -71,17 +71,17 @@ module _ (told : Option Files) (asked : Option Asked) (bytes : FileBytes) (first
       by_told (Some held) f = settled held asked bytes f answer x
 
   module _ (checking : Checking) (awaits : Awaits asked bytes checking) where
-    pub told_reached : IfSome told (λ held. IsReached asked held file.Plan)
+    pub told_reached : IfSome told (λ held. IsFileReached asked held file.Plan)
     told_reached = by_told told first
       where
-        by_told : (o : Option Files) → IfSome o (λ held. AllHeld held (folder_of asked) (first_files asked) bytes) → IfSome o (λ held. IsReached asked held file.Plan)
+        by_told : (o : Option Files) → IfSome o (λ held. AllHeld held (folder_of asked) (first_files asked) bytes) → IfSome o (λ held. IsFileReached asked held file.Plan)
         by_told None f = tt
         by_told (Some held) f = reached held asked bytes f checking awaits
 
-    pub told_awaited : (plan : List ℕ) (answer : Answer) → IfSome told (λ held. IsHeld held (folder_of asked) file.Plan plan) → TellsProof checking.tables checking.asks true checking.proof.tree plan answer
+    pub told_awaited : (plan : List ℕ) (answer : Answer) → IfSome told (λ held. IsHeldWithin held (folder_of asked) file.Plan plan) → TellsProof checking.tables checking.asks true checking.proof.tree plan answer
         → IfSome told (λ held. Answers held asked answer)
     told_awaited plan answer is checks = by_told told first is
       where
-        by_told : (o : Option Files) → IfSome o (λ held. AllHeld held (folder_of asked) (first_files asked) bytes) → IfSome o (λ held. IsHeld held (folder_of asked) file.Plan plan) → IfSome o (λ held. Answers held asked answer)
+        by_told : (o : Option Files) → IfSome o (λ held. AllHeld held (folder_of asked) (first_files asked) bytes) → IfSome o (λ held. IsHeldWithin held (folder_of asked) file.Plan plan) → IfSome o (λ held. Answers held asked answer)
         by_told None f i = tt
         by_told (Some held) f i = awaited held asked bytes f checking awaits plan i answer checks

@@ -3,7 +3,7 @@ use Rattle.std.proofs.Common.{◌≡◌, ℕ, Option, ℤ, refl, sym, ap, subst,
 use Rattle.cert_check.proofs.OneAsked.{one_asked}
 use Rattle.cert_check.proofs.OneVerdict.{one_verdict}
 use Rattle.cert_check.proofs.SplitsAbove.{are_sound_but_priced}
-use Rattle.cert_check.specs.OtherSizes.{IsAsked}
+use Rattle.cert_check.specs.OtherSizes.{IsAskedOfTree}
 use Rattle.cert_check.specs.Splits.{AreSoundButPriced}
 use Rattle.cert_check.specs.Verdicts.{IsChecked}
 use Rattle.cert_check.specs.declared.checked.Checked.{Checked}
@@ -33,7 +33,7 @@ one_size t fleet count u v x y =
 
 module _ (t : Tables) (fleet count : ℕ) where
   -- what is answered on whichever tables have that number is told of those that have it
-  pub says_of : CanHave t fleet count → (tree : Tree) (w : WhatIf) → ((u : Tables) → IsOtherSize t fleet count u → IsAsked u tree w)
+  pub says_of : CanHave t fleet count → (tree : Tree) (w : WhatIf) → ((u : Tables) → IsOtherSize t fleet count u → IsAskedOfTree u tree w)
       → (answer : Answer) → answer ≡ says (what_if_status w) (what_if_text (fleet_of t fleet).name count w) → SaysOfOther t fleet count tree answer
   says_of can tree w asked answer is =
       let there = other_size_stands t fleet count can.fleet_fits can.count_fits in
@@ -45,7 +45,7 @@ module _ (t : Tables) (fleet count : ℕ) where
     says_once : AreSoundButPriced t (all_pairs t) two → SaysOfOther t fleet count one answer → SaysOfOther t fleet count two other → answer ≡ other
     says_once sound x y =
         let same = one_size t fleet count x.other y.other x.sized y.sized in
-        let here : IsAsked y.other one x.what = subst (λ u. IsAsked u one x.what) same x.asked in
+        let here : IsAskedOfTree y.other one x.what = subst (λ u. IsAskedOfTree u one x.what) same x.asked in
         let answers : x.what ≡ y.what = one_asked t fleet count y.other y.sized one two x.what y.what nodes sound here y.asked in
         x.is ∙ ap (λ w. says (what_if_status w) (what_if_text (fleet_of t fleet).name count w)) answers ∙ sym y.is
 

@@ -19,8 +19,8 @@ use Rattle.sched_read.specs.Files.{FilesRead}
 use Rattle.fleet_cli.proofs.Skeletons.{either_legal, either_plan, either_proof, either_tables}
 use Rattle.fleet_cli.specs.Answer.{Answers, ChecksTree, TellsOn, TellsProof, TellsRead, TellsWith, checked_status}
 use Rattle.fleet_cli.specs.Contents.{bytes_in, table_bytes}
-use Rattle.fleet_cli.specs.Gathered.{AllStand, IsHeld}
-use Rattle.fleet_cli.specs.Headline.{IsUnder, TellsBound}
+use Rattle.fleet_cli.specs.Gathered.{AllStand, IsHeldWithin}
+use Rattle.fleet_cli.specs.Headline.{IsUnderCost, TellsBound}
 use Rattle.fleet_cli.specs.Reading.{AllWithin, proof_files}
 use Rattle.fleet_cli.specs.Refusals.{says}
 use Rattle.fleet_cli.specs.Skeletons.{OnLegal, OnPlan, OnProof}
@@ -30,7 +30,7 @@ use Rattle.fleet_cli.specs.declared.opened.Question.TheVariants as question
 use Rattle.fleet_cli.specs.declared.status.TheConstants.{DONE}
 
 -- a bound that is proved is no more than the cost of a legal plan
-under_cost : (t : Tables) (plan : List ℕ) (bound : Option ℤ) → IsLegal t plan → BoundsAll t bound → IsUnder bound (total_cost t plan)
+under_cost : (t : Tables) (plan : List ℕ) (bound : Option ℤ) → IsLegal t plan → BoundsAll t bound → IsUnderCost bound (total_cost t plan)
 under_cost t plan None legal proven = absurd (proven.none plan legal)
 under_cost t plan (Some least) legal proven = proven.each plan legal
 
@@ -68,7 +68,7 @@ module _ (answer : Answer) (done : answer.status.code ≡ DONE) where
       put = put ∙ ap (output_with before) holds.text_is;
     }
 
-    with_plan : (whole : Tree) → IsHeld held dir file.Plan (bytes_in held dir file.Plan) → OnPlan t (bytes_in held dir file.Plan) (OnLegal t (TellsWith t question.Holds whole)) answer → TellsBound held dir reading before after
+    with_plan : (whole : Tree) → IsHeldWithin held dir file.Plan (bytes_in held dir file.Plan) → OnPlan t (bytes_in held dir file.Plan) (OnLegal t (TellsWith t question.Holds whole)) answer → TellsBound held dir reading before after
     with_plan whole stands =
         either_plan answer (TellsBound held dir reading before after) t (bytes_in held dir file.Plan) (OnLegal t (TellsWith t question.Holds whole)) (λ refused. absurd (other 9 _ refused.is (λ e. omega arith)))
         (λ plan plan_reads. either_legal answer (TellsBound held dir reading before after) t (TellsWith t question.Holds whole) plan

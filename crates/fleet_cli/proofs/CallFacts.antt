@@ -4,7 +4,7 @@ use Rattle.command_words.specs.Words.{Asked, check, due, judge, make, solve, tai
 use Rattle.plan_desk.specs.Counts.{CallsAtMost, more_times, once_more}
 use Rattle.plan_desk.specs.declared.file.DeskFile.TheVariants as file
 use Rattle.fleet_cli.specs.Contents.{FileBytes}
-use Rattle.fleet_cli.specs.Reading.{Follows, first_files, most_calls, most_reads}
+use Rattle.fleet_cli.specs.Reading.{IsReadAfter, first_files, most_calls, most_reads}
 
 -- one call after n of them
 pub after_one_more : (n : ℕ) (before mid now : Option ℕ) → mid ≡ more_times n before → now ≡ once_more mid → now ≡ more_times (n + 1) before
@@ -38,7 +38,7 @@ pub reads_first : (asked : Option Asked) (before now : Option ℕ) → CallsAtMo
 reads_first asked before now = weaker_calls before now (length (first_files asked)) (most_reads asked) (omega arith)
 
 -- and the plan, which they ask for
-pub reads_plan : (asked : Option Asked) (bytes : FileBytes) (before mid now : Option ℕ) → Follows asked bytes file.Plan → CallsAtMost (length (first_files asked)) before mid → now ≡ once_more mid
+pub reads_plan : (asked : Option Asked) (bytes : FileBytes) (before mid now : Option ℕ) → IsReadAfter asked bytes file.Plan → CallsAtMost (length (first_files asked)) before mid → now ≡ once_more mid
     → CallsAtMost (most_reads asked) before now
 reads_plan None bytes before mid now follows first one = absurd follows
 reads_plan (Some (judge dir reading)) bytes before mid now follows first one = absurd follows

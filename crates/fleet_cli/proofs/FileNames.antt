@@ -3,7 +3,7 @@ use Rattle.std.proofs.Common.{◌≡◌, ◌==◌, ℕ, true, List, if◌then◌
 use Rattle.std.proofs.lemmas.Bool.{eqb-true}
 use Rattle.plan_desk.specs.declared.file.DeskFile.{DeskFile}
 use Rattle.plan_desk.specs.declared.file.DeskFile.TheVariants as file
-use Rattle.fleet_cli.specs.Contents.{content_of, number_of, same_file, with_content}
+use Rattle.fleet_cli.specs.Contents.{file_content, file_number, same_file, with_content}
 use Rattle.fleet_cli.specs.declared.contents.Contents.{Contents}
 
 -- the file of a number
@@ -21,7 +21,7 @@ file_at n =
     else if n == 9 then file.Proof
     else file.Rotation
 
-at_number : (f : DeskFile) → file_at (number_of f) ≡ f
+at_number : (f : DeskFile) → file_at (file_number f) ≡ f
 unfolding file_at
 at_number file.Stations = refl
 at_number file.Fleets = refl
@@ -37,7 +37,7 @@ at_number file.Rotation = refl
 
 -- files of one number are one
 pub one_file : (f g : DeskFile) → same_file f g ≡ true → f ≡ g
-one_file f g same = sym (at_number f) ∙ ap file_at (eqb-true (number_of f) (number_of g) same) ∙ at_number g
+one_file f g same = sym (at_number f) ∙ ap file_at (eqb-true (file_number f) (file_number g) same) ∙ at_number g
 
 pub self_file : (f : DeskFile) → same_file f f ≡ true
 self_file file.Stations = refl
@@ -53,7 +53,7 @@ self_file file.Proof = refl
 self_file file.Rotation = refl
 
 -- what is read of a file, after one was put
-pub looked_up : (c : Contents) (f : DeskFile) (bytes : List ℕ) (g : DeskFile) → content_of (with_content c f bytes) g ≡ (if same_file g f then bytes else content_of c g)
+pub looked_up : (c : Contents) (f : DeskFile) (bytes : List ℕ) (g : DeskFile) → file_content (with_content c f bytes) g ≡ (if same_file g f then bytes else file_content c g)
 looked_up c f bytes file.Stations = refl
 looked_up c f bytes file.Fleets = refl
 looked_up c f bytes file.Legs = refl

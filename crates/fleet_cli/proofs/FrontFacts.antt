@@ -6,8 +6,8 @@ use Rattle.plan_desk.specs.Desk.{Files}
 use Rattle.plan_desk.specs.DeskFile.{path_of}
 use Rattle.plan_desk.specs.declared.file.DeskFile.{DeskFile}
 use Rattle.fleet_cli.proofs.FileNames.{looked_up, one_file, self_file}
-use Rattle.fleet_cli.specs.Contents.{FileBytes, bytes_in, content_of, same_file, with_content}
-use Rattle.fleet_cli.specs.Gathered.{ComesTo, FrontHeld, IsAmong, IsHeld, limit_of}
+use Rattle.fleet_cli.specs.Contents.{FileBytes, bytes_in, file_content, same_file, with_content}
+use Rattle.fleet_cli.specs.Gathered.{ComesTo, FrontHeld, IsAmong, IsHeldWithin, limit_of}
 use Rattle.fleet_cli.specs.declared.contents.Contents.{Contents}
 
 -- the file at a place is one of them
@@ -19,13 +19,13 @@ module _ (held : Files) (dir : List ℕ) where
   pub stands_in : (f : DeskFile) (bytes : List ℕ) → held (path_of dir f) ≡ Some bytes → bytes ≡ bytes_in held dir f
   stands_in f bytes there = rw there refl
 
-  pub held_in : (f : DeskFile) (bytes : List ℕ) → IsHeld held dir f bytes → IsHeld held dir f (bytes_in held dir f)
-  held_in f bytes is = subst (λ b. IsHeld held dir f b) (stands_in f bytes is.stands) is
+  pub held_in : (f : DeskFile) (bytes : List ℕ) → IsHeldWithin held dir f bytes → IsHeldWithin held dir f (bytes_in held dir f)
+  held_in f bytes is = subst (λ b. IsHeldWithin held dir f b) (stands_in f bytes is.stands) is
 
   -- of one file the new bytes, of others the old ones
-  pub picked : (g f : DeskFile) (bytes old : List ℕ) → IsHeld held dir f bytes → (same_file g f ≡ false → IsHeld held dir g old) → IsHeld held dir g (if same_file g f then bytes else old)
+  pub picked : (g f : DeskFile) (bytes old : List ℕ) → IsHeldWithin held dir f bytes → (same_file g f ≡ false → IsHeldWithin held dir g old) → IsHeldWithin held dir g (if same_file g f then bytes else old)
   picked g f bytes old is others = elim (cases_Bool (same_file g f)) [
-    | inl same ↦ rw same (subst (λ h. IsHeld held dir h bytes) (sym (one_file g f same)) is)
+    | inl same ↦ rw same (subst (λ h. IsHeldWithin held dir h bytes) (sym (one_file g f same)) is)
     | inr differs ↦ rw differs (others differs)
   ]
 
@@ -38,13 +38,13 @@ module _ (held : Files) (dir : List ℕ) where
     comes_to n d bytes front within = record { place = n; within = within; is = λ e. get_or_default names n d e within; front = front_in n bytes front }
 
     -- the bytes of one file more
-    pub front_put : (c : Contents) (n : ℕ) (d : DeskFile) (bytes : List ℕ) → FrontHeld held dir names n (content_of c) → n < length names → IsHeld held dir (get_or names n d) bytes
-        → FrontHeld held dir names (n + 1) (content_of (with_content c (get_or names n d) bytes))
+    pub front_put : (c : Contents) (n : ℕ) (d : DeskFile) (bytes : List ℕ) → FrontHeld held dir names n (file_content c) → n < length names → IsHeldWithin held dir (get_or names n d) bytes
+        → FrontHeld held dir names (n + 1) (file_content (with_content c (get_or names n d) bytes))
     front_put c n d bytes front within is = record {
-      each = λ k e below. rw (looked_up c (get_or names n d) bytes (get_or names k e)) (picked (get_or names k e) (get_or names n d) bytes (content_of c (get_or names k e)) is (λ differs. by_place k e below differs (cases_lt k n)));
+      each = λ k e below. rw (looked_up c (get_or names n d) bytes (get_or names k e)) (picked (get_or names k e) (get_or names n d) bytes (file_content c (get_or names k e)) is (λ differs. by_place k e below differs (cases_lt k n)));
     }
       where
-        by_place : (k : ℕ) (e : DeskFile) → k < n + 1 → same_file (get_or names k e) (get_or names n d) ≡ false → (k < n) ⊎ (n ≤ k) → IsHeld held dir (get_or names k e) (content_of c (get_or names k e))
+        by_place : (k : ℕ) (e : DeskFile) → k < n + 1 → same_file (get_or names k e) (get_or names n d) ≡ false → (k < n) ⊎ (n ≤ k) → IsHeldWithin held dir (get_or names k e) (file_content c (get_or names k e))
         by_place k e below differs (inl before) = front.each k e before
         by_place k e below differs (inr past) =
             let last : n ≡ k = omega arith in
@@ -52,9 +52,9 @@ module _ (held : Files) (dir : List ℕ) where
             absurd (let never : ◌≡◌ {A = Bool} true false = sym same ∙ differs in cc)
 
 -- the same of a desk that may not tell
-pub front_put_if : (told : Option Files) (dir : List ℕ) (names : List DeskFile) (c : Contents) (n : ℕ) (d : DeskFile) (bytes : List ℕ) → IfSome told (λ held. FrontHeld held dir names n (content_of c)) → n < length names
+pub front_put_if : (told : Option Files) (dir : List ℕ) (names : List DeskFile) (c : Contents) (n : ℕ) (d : DeskFile) (bytes : List ℕ) → IfSome told (λ held. FrontHeld held dir names n (file_content c)) → n < length names
     → IfSome told (λ held. held (path_of dir (get_or names n d)) ≡ Some bytes) → length bytes ≤ limit_of (get_or names n d)
-    → IfSome told (λ held. FrontHeld held dir names (n + 1) (content_of (with_content c (get_or names n d) bytes)))
+    → IfSome told (λ held. FrontHeld held dir names (n + 1) (file_content (with_content c (get_or names n d) bytes)))
 front_put_if None dir names c n d bytes front within there short = tt
 front_put_if (Some held) dir names c n d bytes front within there short = front_put held dir names c n d bytes front within (record { stands = there; within = short })
 
@@ -63,6 +63,6 @@ pub comes_to_if : (told : Option Files) (dir : List ℕ) (names : List DeskFile)
 comes_to_if None dir names n d bytes front within = tt
 comes_to_if (Some held) dir names n d bytes front within = comes_to held dir names n d bytes front within
 
-pub held_if : (told : Option Files) (dir : List ℕ) (f : DeskFile) (bytes : List ℕ) → IfSome told (λ held. held (path_of dir f) ≡ Some bytes) → length bytes ≤ limit_of f → IfSome told (λ held. IsHeld held dir f bytes)
+pub held_if : (told : Option Files) (dir : List ℕ) (f : DeskFile) (bytes : List ℕ) → IfSome told (λ held. held (path_of dir f) ≡ Some bytes) → length bytes ≤ limit_of f → IfSome told (λ held. IsHeldWithin held dir f bytes)
 held_if None dir f bytes there short = tt
 held_if (Some held) dir f bytes there short = record { stands = there; within = short }

@@ -27,7 +27,7 @@ use Rattle.sched_read.specs.Reading.{IsFirstBad, Reads, TableBytes}
 use Rattle.sched_read.specs.Files.{FilesRead}
 use Rattle.table_maker.proofs.MadeRead.{made_read}
 use Rattle.table_maker.proofs.TextLengths.{made_short}
-use Rattle.table_maker.specs.Laws.{AreShort, all_on_first, bytes_of}
+use Rattle.table_maker.specs.Laws.{AreShort, all_on_first, made_bytes}
 use Rattle.table_maker.specs.Made.{CanBeMade, made_tables}
 use Rattle.table_maker.specs.declared.made.MadeTables.{MadeTables}
 use Rattle.fleet_cli.proofs.FrontFacts.{held_in}
@@ -35,10 +35,10 @@ use Rattle.plan_search.proofs.Proven.{is_proven}
 use Rattle.fleet_cli.proofs.TextsStand.{stands_last, with_more}
 use Rattle.fleet_cli.specs.Answer.{Answers, Makes}
 use Rattle.fleet_cli.specs.Contents.{FileBytes, bytes_in, five_alone, five_bytes, table_bytes}
-use Rattle.fleet_cli.specs.Gathered.{AllStand, IsHeld, limit_of}
+use Rattle.fleet_cli.specs.Gathered.{AllStand, IsHeldWithin, limit_of}
 use Rattle.fleet_cli.specs.MadeSolved.{MadeIsSolved}
 use Rattle.fleet_cli.specs.Making.{made_files}
-use Rattle.fleet_cli.specs.Reading.{IsReached, IsRead, five_tables}
+use Rattle.fleet_cli.specs.Reading.{IsFileReached, IsRead, five_tables}
 use Rattle.fleet_cli.specs.Run.{IsFlyable}
 use Rattle.fleet_cli.specs.Skeletons.{TablesRead}
 use Rattle.fleet_cli.specs.Solution.{solved_files, solved_status}
@@ -93,14 +93,14 @@ module _ (held : Files) (dir : List ℕ) (made : MadeTables) where
   }
 
 module _ (stands : Files) (dir : List ℕ) (made : MadeTables) (there : TablesStand stands dir made) where
-  pub tables_are : five_bytes (bytes_in stands dir) ≡ bytes_of made
+  pub tables_are : five_bytes (bytes_in stands dir) ≡ made_bytes made
   tables_are = rw (there.stations, there.fleets, there.legs, there.costs, there.throughs) refl
 
   pub all_stand : AreShort made → AllStand stands dir five_tables
   unfolding limit_of
   all_stand short = record { each = at }
     where
-      at : (k : ℕ) (d : DeskFile) → k < 5 → IsHeld stands dir (get_or five_tables k d) (bytes_in stands dir (get_or five_tables k d))
+      at : (k : ℕ) (d : DeskFile) → k < 5 → IsHeldWithin stands dir (get_or five_tables k d) (bytes_in stands dir (get_or five_tables k d))
       at zero d below = held_in stands dir file.Stations made.stations (record { stands = there.stations; within = short.stations_short })
       at (suc zero) d below = held_in stands dir file.Fleets made.fleets (record { stands = there.fleets; within = short.fleets_short })
       at (suc (suc zero)) d below = held_in stands dir file.Legs made.legs (record { stands = there.legs; within = short.legs_short })
@@ -111,7 +111,7 @@ module _ (stands : Files) (dir : List ℕ) (made : MadeTables) (there : TablesSt
 -- ---- solving them
 
 -- making reads no file
-pub none_reached : (held : Files) (dir : List ℕ) (number legs : ℕ) (f : DeskFile) → IsReached (Some (make dir number legs)) held f → ⊥
+pub none_reached : (held : Files) (dir : List ℕ) (number legs : ℕ) (f : DeskFile) → IsFileReached (Some (make dir number legs)) held f → ⊥
 none_reached held dir number legs f (inl comes) = let within = comes.within in omega arith
 none_reached held dir number legs f (inr follows) = follows.1
 
@@ -192,17 +192,17 @@ defaults_fit = record { day_start = omega arith; through_max = omega arith; leas
 
 -- made tables have no fault
 pub never_bad : (number legs : ℕ) (made : MadeTables) (loaded : Result Tables LoadError) (error : LoadError) (bad : BadInput) → CanBeMade number legs → made ≡ made_tables number legs
-    → MatchResult loaded (Reads (bytes_of made) DEFAULT_READING.settings) (IsFirstBad (bytes_of made) DEFAULT_READING.settings) → loaded ≡ Err error → error ≡ load.Bad bad → ⊥
+    → MatchResult loaded (Reads (made_bytes made) DEFAULT_READING.settings) (IsFirstBad (made_bytes made) DEFAULT_READING.settings) → loaded ≡ Err error → error ≡ load.Bad bad → ⊥
 never_bad number legs made loaded error bad can are told failed same =
     let read = made_read number legs DEFAULT_READING.settings can defaults_fit refl in
     let first = rw (failed, same, are) at told in
-    tables.reads_no_fault (bytes_of (made_tables number legs)) DEFAULT_READING.settings read.tables bad.file bad.row bad.kind read.reads first
+    tables.reads_no_fault (made_bytes (made_tables number legs)) DEFAULT_READING.settings read.tables bad.file bad.row bad.kind read.reads first
 
 pub flyable : (number legs : ℕ) (answer : Answer) → Makes number legs answer → IsFlyable answer.status.code
 flyable number legs answer x =
     let made = made_read number legs DEFAULT_READING.settings x.can defaults_fit refl in
     let first = x.solves.reads.before.first in
-    let one : made.tables ≡ first = tables.one_reading (bytes_of (made_tables number legs)) DEFAULT_READING.settings made.tables first made.reads x.solves.reads.before.five in
+    let one : made.tables ≡ first = tables.one_reading (made_bytes (made_tables number legs)) DEFAULT_READING.settings made.tables first made.reads x.solves.reads.before.five in
     let same : made.tables ≡ x.solves.tables = one ∙ sym x.solves.reads.before.windows ∙ sym x.solves.reads.optional in
     let legal = subst (λ t. IsLegal t (all_on_first legs)) same made.legal in
     rw (ap (λ (a : Answer). a.status.code) x.is ∙ ap (λ (a : Answer). a.status.code) x.solves.finishes.is)

@@ -33,9 +33,9 @@ use Rattle.fleet_cli.proofs.SameBytes.{follows_plan}
 use Rattle.fleet_cli.proofs.Skeletons.{one_fleet, one_legal, one_plan, one_proof, one_tables, one_tails, there_fleet, there_legal, there_plan, there_proof, there_tables, there_tails}
 use Rattle.fleet_cli.specs.Answer.{Answers, AnswersOf, AnswersSome, Asks, AsksOn, Checks, ChecksTree, DueOf, DueOn, DueWith, GivesSolution, Judges, JudgesOn, JudgesPlan, Solves, TailsOf, TailsOn, TellsDue, TellsOn, TellsProof, TellsRead, TellsTails, TellsTree, TellsWith, checked_status, due_status}
 use Rattle.fleet_cli.specs.Contents.{FileBytes, bytes_in, table_bytes}
-use Rattle.fleet_cli.specs.Gathered.{AllStand, IsHeld}
+use Rattle.fleet_cli.specs.Gathered.{AllStand, IsHeldWithin}
 use Rattle.fleet_cli.specs.Laws.{IsFixed}
-use Rattle.fleet_cli.specs.Reading.{AllWithin, Follows, WantsPlan, first_files, folder_of}
+use Rattle.fleet_cli.specs.Reading.{AllWithin, IsReadAfter, WantsPlan, first_files, folder_of}
 use Rattle.fleet_cli.specs.Refusals.{says, verdict_status}
 use Rattle.fleet_cli.specs.Run.{AnswersExactly, DueThere, FleetProofThere, IsAskedOf, IsComplete, IsCostThere, IsSolution, IsTold, LegalThere, ProofThere, TablesThere}
 use Rattle.fleet_cli.specs.Skeletons.{OnLegal}
@@ -145,18 +145,18 @@ exactly (Some held) asked answer code before after answers is put = λ other wan
 
 -- the first files stand there within their limits, and so does the plan where it is asked for
 pub all_within : (held : Files) (asked : Option Asked) → AllStand held (folder_of asked) (first_files asked)
-    → (Follows asked (bytes_in held (folder_of asked)) file.Plan → IsHeld held (folder_of asked) file.Plan (bytes_in held (folder_of asked) file.Plan)) → AllWithin asked held
+    → (IsReadAfter asked (bytes_in held (folder_of asked)) file.Plan → IsHeldWithin held (folder_of asked) file.Plan (bytes_in held (folder_of asked) file.Plan)) → AllWithin asked held
 all_within held asked stand further = record {
   first = stand;
   further = λ f follows.
       let plan = follows_plan asked (bytes_in held (folder_of asked)) f follows in
-      subst (λ g. IsHeld held (folder_of asked) g (bytes_in held (folder_of asked) g)) (sym plan) (further (subst (λ g. Follows asked (bytes_in held (folder_of asked)) g) plan follows));
+      subst (λ g. IsHeldWithin held (folder_of asked) g (bytes_in held (folder_of asked) g)) (sym plan) (further (subst (λ g. IsReadAfter asked (bytes_in held (folder_of asked)) g) plan follows));
 }
 
 -- what the files answer, where those stand there that are read
 module _ (held : Files) (asked : Option Asked) (answer : Answer) where
   read_there : Answers held asked answer → AllStand held (folder_of asked) (first_files asked)
-      → (Follows asked (bytes_in held (folder_of asked)) file.Plan → IsHeld held (folder_of asked) file.Plan (bytes_in held (folder_of asked) file.Plan))
+      → (IsReadAfter asked (bytes_in held (folder_of asked)) file.Plan → IsHeldWithin held (folder_of asked) file.Plan (bytes_in held (folder_of asked) file.Plan))
       → AnswersOf asked (bytes_in held (folder_of asked)) answer
   read_there (inl x) stand further = absurd (within_or_long asked held x.file (all_within held asked stand further) x.longer)
   read_there (inr x) stand further = x.answers
@@ -236,7 +236,7 @@ module _ (held : Files) (dir : List ℕ) (reading : TableOptions) (answer : Answ
 
 -- the plan stands there where the proof asks for it
 plan_further : (held : Files) (dir : List ℕ) (reading : TableOptions) (x : ProofThere held dir reading) → (cost : Option ℤ) → IsCostThere held dir x.tables x.proof.planned cost
-    → WantsPlan reading (table_bytes (bytes_in held dir)) (bytes_in held dir file.Proof) → IsHeld held dir file.Plan (bytes_in held dir file.Plan)
+    → WantsPlan reading (table_bytes (bytes_in held dir)) (bytes_in held dir file.Proof) → IsHeldWithin held dir file.Plan (bytes_in held dir file.Plan)
 plan_further held dir reading x None none wants = absurd (no_plan_alone reading (table_bytes (bytes_in held dir)) (bytes_in held dir file.Proof) x.tables x.reads x.proof x.proof_reads none wants)
 plan_further held dir reading x (Some cost) some wants = some.1.there
 

@@ -3,7 +3,7 @@ use Rattle.std.proofs.Common.{◌≡◌, ℕ, Bool, true, false, List, Option, S
 use Rattle.dual_bound.specs.declared.trees.Tree.{Tree}
 use Rattle.cert_check.proofs.OtherSizes.{bounds_there}
 use Rattle.cert_check.proofs.SplitsAbove.{are_sound_but_priced}
-use Rattle.cert_check.specs.OtherSizes.{IsAsked, StandsWith, answer_of}
+use Rattle.cert_check.specs.OtherSizes.{IsAskedOfTree, StandsWith, answer_of}
 use Rattle.cert_check.specs.Splits.{AreSoundButPriced}
 use Rattle.cert_check.specs.Verdicts.{BoundsAll, IsChecked}
 use Rattle.cert_check.specs.declared.checked.Checked.{Checked}
@@ -59,7 +59,7 @@ module _ (answer : Answer) (done : answer.status.code ≡ DONE) where
     says_there : (tree : Tree) → AreSoundButPriced t (all_pairs t) tree → SaysOfOther t fleet count tree answer → IsToldOf t fleet count answer
     says_there tree sound x = by_answer x.what x.asked x.is
       where
-        by_answer : (w : WhatIf) → IsAsked x.other tree w → answer ≡ says (what_if_status w) (what_if_text (fleet_of t fleet).name count w) → IsToldOf t fleet count answer
+        by_answer : (w : WhatIf) → IsAskedOfTree x.other tree w → answer ≡ says (what_if_status w) (what_if_text (fleet_of t fleet).name count w) → IsToldOf t fleet count answer
         by_answer (what.Fallen node) asked is = absurd (other answer done 11 _ is (λ e. omega arith))
         by_answer what.NoPlan asked is = stands_there tree None x.other x.sized sound asked is
         by_answer (what.Bound bound) asked is = stands_there tree (Some bound) x.other x.sized sound asked is

@@ -39,7 +39,7 @@ use Rattle.fleet_cli.specs.Contents.{FileBytes, table_bytes}
 use Rattle.fleet_cli.specs.Making.{after_files, made_files}
 use Rattle.fleet_cli.specs.Reading.{five_tables, folder_of, solution_files, written_files}
 use Rattle.fleet_cli.specs.Refusals.{says, verdict_status}
-use Rattle.fleet_cli.specs.Run.{IsEnd, IsRefusal, IsSolution, KeepsAllBut, KeepsOthers}
+use Rattle.fleet_cli.specs.Run.{IsEnd, IsRefusalStatus, IsSolution, KeepsAllBut, KeepsOthers}
 use Rattle.fleet_cli.specs.Skeletons.{OnFleet, OnLegal, OnPlan, OnProof, OnTables, OnTails, TablesRead}
 use Rattle.fleet_cli.specs.Solution.{solved_answer, solved_files, solved_status}
 use Rattle.fleet_cli.specs.Written.{StandsAfter, no_text, text_name, under, with_texts}
@@ -343,24 +343,24 @@ keeps_others (Some held) asked answer stands answers after = elim (kind answer h
       (rw given.is (given.others (folder_of asked) name others)) after)
 ]
 
-differs : (code : ℕ) → IsRefusal code → (k : ℕ) → code ≡ k → ¬ (2 ≡ k) → ¬ (6 ≡ k) → ¬ (9 ≡ k) → ⊥
+differs : (code : ℕ) → IsRefusalStatus code → (k : ℕ) → code ≡ k → ¬ (2 ≡ k) → ¬ (6 ≡ k) → ¬ (9 ≡ k) → ⊥
 differs code (inl e) k is a b c = a (sym e ∙ is)
 differs code (inr (inl e)) k is a b c = b (sym e ∙ is)
 differs code (inr (inr e)) k is a b c = c (sym e ∙ is)
 
 -- a refusal is neither a fault nor want of memory
-pub refusal_ends : (code : ℕ) → IsRefusal code → ¬ ((code ≡ FAULT) ⊎ (code ≡ NO_MEMORY))
+pub refusal_ends : (code : ℕ) → IsRefusalStatus code → ¬ ((code ≡ FAULT) ⊎ (code ≡ NO_MEMORY))
 refusal_ends code refused (inl is) = differs code refused 7 is (λ e. omega arith) (λ e. omega arith) (λ e. omega arith)
 refusal_ends code refused (inr is) = differs code refused 8 is (λ e. omega arith) (λ e. omega arith) (λ e. omega arith)
 
-not_both : (code : ℕ) → IsSolution code → ¬ (IsRefusal code)
+not_both : (code : ℕ) → IsSolution code → ¬ (IsRefusalStatus code)
 not_both code (inl is) refused = differs code refused 0 is (λ e. omega arith) (λ e. omega arith) (λ e. omega arith)
 not_both code (inr (inl is)) refused = differs code refused 3 is (λ e. omega arith) (λ e. omega arith) (λ e. omega arith)
 not_both code (inr (inr (inl is))) refused = differs code refused 4 is (λ e. omega arith) (λ e. omega arith) (λ e. omega arith)
 not_both code (inr (inr (inr is))) refused = differs code refused 5 is (λ e. omega arith) (λ e. omega arith) (λ e. omega arith)
 
 pub refusal_leaves : (told : Option Files) (asked : Option Asked) (answer : Answer) (code : ℕ) (stands : Option Files) → IfSome told (λ held. Answers held asked answer) → code ≡ answer.status.code
-    → IsRefusal code → StandsAfter (folder_of asked) answer.files told stands → stands ≡ told
+    → IsRefusalStatus code → StandsAfter (folder_of asked) answer.files told stands → stands ≡ told
 refusal_leaves None asked answer code stands answers is refuses after = untold _ _ stands after
 refusal_leaves (Some held) asked answer code stands answers is refuses after = elim (kind answer held asked answers) [
   | inl said ↦ nothing_by (folder_of asked) answer.files (Some held) stands (ap (λ (a : Answer). a.files) said.is) after

@@ -16,7 +16,7 @@ use Rattle.fleet_cli.proofs.Skeletons.{map_fleet, map_proof, map_tables}
 use Rattle.fleet_cli.specs.Answer.{AnswersOf, Asks, AsksOn, Checks, DueOf, DueOn, GivesSolution, Judges, JudgesOn, TailsOf, TailsOn, TellsOn, TellsProof, TellsRead}
 use Rattle.fleet_cli.specs.Contents.{FileBytes, table_bytes}
 use Rattle.fleet_cli.specs.Gathered.{IsAmong}
-use Rattle.fleet_cli.specs.Reading.{Follows, WantsPlan, WantsPlanOf, first_files, five_tables, tables_and, tables_of, where_asked}
+use Rattle.fleet_cli.specs.Reading.{IsReadAfter, WantsPlan, WantsPlanOf, first_files, five_tables, tables_and, tables_of, where_asked}
 use Rattle.fleet_cli.specs.Refusals.{fleet_named}
 use Rattle.fleet_cli.specs.Skeletons.{OnTables}
 use Rattle.fleet_cli.specs.declared.answer.Answer.{Answer}
@@ -95,7 +95,7 @@ module _ (reading : TableOptions) (bytes : AllBytes) (text plan other : List ℕ
       (λ fleet known. on_proof t (question.OtherSize fleet count) reads
       (λ wants is. same (record { wants = wants; known = subst (λ u. IsSome (fleet_named u name)) (sym is) (subst IsSome (sym known) refl) }))))
 
-pub same_follows : (asked : Option Asked) (bytes other : FileBytes) → ((f : DeskFile) → IsAmong (first_files asked) f → bytes f ≡ other f) → (f : DeskFile) → Follows asked bytes f → Follows asked other f
+pub same_follows : (asked : Option Asked) (bytes other : FileBytes) → ((f : DeskFile) → IsAmong (first_files asked) f → bytes f ≡ other f) → (f : DeskFile) → IsReadAfter asked bytes f → IsReadAfter asked other f
 unfolding wants_alike
 same_follows None bytes other same f follows = follows
 same_follows (Some (judge dir reading)) bytes other same f follows = follows
@@ -115,7 +115,7 @@ same_follows (Some (whatif dir reading name count)) bytes other same f follows =
     )
 
 -- the one file that is read after the first is the plan
-pub follows_plan : (asked : Option Asked) (bytes : FileBytes) (f : DeskFile) → Follows asked bytes f → f ≡ file.Plan
+pub follows_plan : (asked : Option Asked) (bytes : FileBytes) (f : DeskFile) → IsReadAfter asked bytes f → f ≡ file.Plan
 follows_plan None bytes f follows = absurd follows
 follows_plan (Some (judge dir reading)) bytes f follows = absurd follows
 follows_plan (Some (solve dir reading options)) bytes f follows = absurd follows
@@ -125,7 +125,7 @@ follows_plan (Some (due dir reading limits dates)) bytes f follows = absurd foll
 follows_plan (Some (make dir number legs)) bytes f follows = absurd follows
 follows_plan (Some (whatif dir reading name count)) bytes f follows = follows.0
 
-pub same_answer : (asked : Option Asked) (bytes other : FileBytes) → ((f : DeskFile) → IsAmong (first_files asked) f → bytes f ≡ other f) → ((f : DeskFile) → Follows asked bytes f → bytes f ≡ other f)
+pub same_answer : (asked : Option Asked) (bytes other : FileBytes) → ((f : DeskFile) → IsAmong (first_files asked) f → bytes f ≡ other f) → ((f : DeskFile) → IsReadAfter asked bytes f → bytes f ≡ other f)
     → (answer : Answer) → AnswersOf asked bytes answer → AnswersOf asked other answer
 same_answer None bytes other first further answer x = x
 same_answer (Some (judge dir reading)) bytes other first further answer x =

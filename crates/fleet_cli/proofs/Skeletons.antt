@@ -5,7 +5,7 @@ use mathlib.Core.Bool.{false≢true}
 use Rattle.std.specs.Prelude.{IsSome}
 use Rattle.std.proofs.lemmas.Option.{same_Some}
 use Rattle.bound_cert.specs.Lines.{Reading, Stopped, left_of}
-use Rattle.bound_cert.specs.ReadProof.{IsFirstFault, ReadsAs}
+use Rattle.bound_cert.specs.ReadProof.{IsFirstProofFault, ReadsAs}
 use Rattle.bound_cert.specs.declared.faults.CertFault.{CertFault}
 use Rattle.bound_cert.specs.declared.reading.Proof.{Proof}
 use Rattle.csv_fields.specs.Record.{records_of}
@@ -38,7 +38,7 @@ record SameFault (one other : CertFault) : Type 0 where
 one_error : {A : Type 0} (one other : Stopped) → ◌≡◌ {A = Reading A} (Err one) (Err other) → one ≡ other
 one_error one other e = cc
 
-one_fault : (t : Tables) (bytes : List ℕ) (one other : CertFault) → IsFirstFault t (left_of bytes) one → IsFirstFault t (left_of bytes) other → SameFault one other
+one_fault : (t : Tables) (bytes : List ℕ) (one other : CertFault) → IsFirstProofFault t (left_of bytes) one → IsFirstProofFault t (left_of bytes) other → SameFault one other
 one_fault t bytes one other x y =
     let same = one_error _ _ (sym x.stops ∙ y.stops) in
     record { line_is = x.line ∙ ap (λ (s : Stopped). length (left_of bytes) - s.left + 1) same ∙ sym y.line; kind_is = ap (λ (s : Stopped). s.kind) same }

@@ -34,7 +34,7 @@ use Rattle.plan_search.proofs.Proven.{is_proven}
 use Rattle.fleet_cli.proofs.SolvedHolds.{solved_holds}
 use Rattle.fleet_cli.specs.Answer.{Answers, Solves}
 use Rattle.fleet_cli.specs.Contents.{bytes_in, table_bytes}
-use Rattle.fleet_cli.specs.Gathered.{AllStand, IsHeld, limit_of}
+use Rattle.fleet_cli.specs.Gathered.{AllStand, IsHeldWithin, limit_of}
 use Rattle.fleet_cli.specs.Headline.{is_planned}
 use Rattle.fleet_cli.specs.Reading.{five_tables, proof_files, tables_of, where_asked}
 use Rattle.fleet_cli.specs.Run.{IsCostThere, IsSolution, ProofThere}
@@ -115,7 +115,7 @@ module _ (held : Files) (dir : List ℕ) (t shown : Tables) (s : Solved) (rotati
   stands = with_texts held dir (solved_files t shown s rotations visits)
 
   abbrev Stands : DeskFile → Type 0
-  Stands f = IsHeld stands dir f (bytes_in stands dir f)
+  Stands f = IsHeldWithin stands dir f (bytes_in stands dir f)
 
   -- under the name of a table stands what stood there
   name_kept : (f : DeskFile) → IsTable f → stands (path_of dir f) ≡ held (path_of dir f)
@@ -139,7 +139,7 @@ module _ (held : Files) (dir : List ℕ) (t shown : Tables) (s : Solved) (rotati
   same_proof : bytes_in stands dir file.Proof ≡ proof_text t (is_planned s) (tree_of s)
   same_proof = sym (stands_in stands dir file.Proof _ (proof_stands held dir t shown rotations visits s))
 
-  still_held : (f : DeskFile) → IsTable f → IsHeld held dir f (bytes_in held dir f) → Stands f
+  still_held : (f : DeskFile) → IsTable f → IsHeldWithin held dir f (bytes_in held dir f) → Stands f
   still_held f is there = held_in stands dir f (bytes_in held dir f) (record { stands = name_kept f is ∙ there.stands; within = there.within })
 
   proof_there : (reading : TableOptions) → AllStand held dir (tables_of reading) → length (proof_text t (is_planned s) (tree_of s)) ≤ limit_of file.Proof → AllStand stands dir (proof_files reading)

@@ -8,7 +8,7 @@ use Rattle.dual_bound.specs.declared.solved.Solved.{Solved}
 use Rattle.cert_check.specs.Verdicts.{IsChecked}
 use Rattle.cert_check.specs.declared.checked.Checked.{Checked}
 use Rattle.cert_check.specs.declared.checked.Checked.TheVariants as checked
-use Rattle.cert_check.specs.OtherSizes.{IsAsked}
+use Rattle.cert_check.specs.OtherSizes.{IsAskedOfTree}
 use Rattle.cert_check.specs.declared.what_if.WhatIf.{WhatIf}
 use Rattle.cert_check.specs.declared.what_if.WhatIf.TheVariants as what
 use Rattle.command_words.specs.Arguments.{AskedDates}
@@ -30,7 +30,7 @@ use Rattle.plan_rotations.specs.Rotations.{ArePlanRotations}
 use Rattle.plan_search.specs.SolvedBy.{IsSolvedBy}
 use Rattle.rotation_report.specs.Tails.{tails_text}
 use Rattle.sched_read.specs.Files.{AllBytes}
-use Rattle.table_maker.specs.Laws.{bytes_of}
+use Rattle.table_maker.specs.Laws.{made_bytes}
 use Rattle.table_maker.specs.Made.{CanBeMade, made_tables}
 use Rattle.tail_dates.specs.declared.placing.Placed.{Placed}
 use Rattle.tail_dates.specs.declared.tails.TailState.{TailState}
@@ -99,7 +99,7 @@ Solves reading options bytes = OnTables reading bytes (GivesSolution options)
 pub record Makes (number legs : ℕ) (answer : Answer) : Type 0 where
   pub solving : Answer
   pub can : CanBeMade number legs
-  pub solves : TablesRead DEFAULT_READING (five_alone (bytes_of (made_tables number legs))) (GivesSolution DEFAULT_OPTIONS) solving
+  pub solves : TablesRead DEFAULT_READING (five_alone (made_bytes (made_tables number legs))) (GivesSolution DEFAULT_OPTIONS) solving
   pub is : answer ≡ after_files (made_files (made_tables number legs)) solving
 
 -- ---- checking
@@ -128,7 +128,7 @@ pub record SaysOfOther (t : Tables) (fleet count : ℕ) (tree : Tree) (answer : 
   pub other : Tables
   pub sized : IsOtherSize t fleet count other
   pub what : WhatIf
-  pub asked : IsAsked other tree what
+  pub asked : IsAskedOfTree other tree what
   pub is : answer ≡ says (what_if_status what) (what_if_text (fleet_of t fleet).name count what)
 
 -- a tree that holds is asked, and of one that doesn't the first broken rule is told

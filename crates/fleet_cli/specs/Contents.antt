@@ -35,22 +35,22 @@ abbrev pub five_alone : TableBytes → AllBytes
 five_alone five = record { five = five; windows = []; optional = [] }
 
 -- each file has a number of its own, by which two are told apart
-abbrev pub number_of : DeskFile → ℕ
-number_of file.Stations = 0
-number_of file.Fleets = 1
-number_of file.Legs = 2
-number_of file.Costs = 3
-number_of file.Throughs = 4
-number_of file.Windows = 5
-number_of file.Optional = 6
-number_of file.Tails = 7
-number_of file.Plan = 8
-number_of file.Proof = 9
-number_of file.Rotation = 10
+abbrev pub file_number : DeskFile → ℕ
+file_number file.Stations = 0
+file_number file.Fleets = 1
+file_number file.Legs = 2
+file_number file.Costs = 3
+file_number file.Throughs = 4
+file_number file.Windows = 5
+file_number file.Optional = 6
+file_number file.Tails = 7
+file_number file.Plan = 8
+file_number file.Proof = 9
+file_number file.Rotation = 10
 
 -- the two files are one
 abbrev pub same_file : DeskFile → DeskFile → Bool
-same_file one other = number_of one == number_of other
+same_file one other = file_number one == file_number other
 
 -- the same, with other bytes of the plan
 abbrev pub with_plan : FileBytes → List ℕ → FileBytes
@@ -59,18 +59,18 @@ with_plan bytes plan f = if same_file f file.Plan then plan else bytes f
 -- ---- as the code has them
 
 -- the bytes of each file in what was read
-abbrev pub content_of : Contents → FileBytes
-content_of c file.Stations = c.stations
-content_of c file.Fleets = c.fleets
-content_of c file.Legs = c.legs
-content_of c file.Costs = c.costs
-content_of c file.Throughs = c.throughs
-content_of c file.Windows = c.windows
-content_of c file.Optional = c.optional
-content_of c file.Tails = c.tails
-content_of c file.Plan = c.plan
-content_of c file.Proof = c.proof
-content_of c file.Rotation = c.rotation
+abbrev pub file_content : Contents → FileBytes
+file_content c file.Stations = c.stations
+file_content c file.Fleets = c.fleets
+file_content c file.Legs = c.legs
+file_content c file.Costs = c.costs
+file_content c file.Throughs = c.throughs
+file_content c file.Windows = c.windows
+file_content c file.Optional = c.optional
+file_content c file.Tails = c.tails
+file_content c file.Plan = c.plan
+file_content c file.Proof = c.proof
+file_content c file.Rotation = c.rotation
 
 -- nothing was read
 abbrev pub no_contents : Contents

@@ -15,13 +15,13 @@ limit_of desk_file.Proof = PROOF_LIMIT
 limit_of other = TABLE_LIMIT
 
 -- these bytes stand in the folder's file, and are within its limit
-pub record IsHeld (held : Files) (dir : List ℕ) (file : DeskFile) (bytes : List ℕ) : Type 0 where
+pub record IsHeldWithin (held : Files) (dir : List ℕ) (file : DeskFile) (bytes : List ℕ) : Type 0 where
   pub stands : held (path_of dir file) ≡ Some bytes
   pub within : length bytes ≤ limit_of file
 
 -- the first n of these files hold these bytes, each within its limit
 pub record FrontHeld (held : Files) (dir : List ℕ) (names : List DeskFile) (n : ℕ) (bytes : FileBytes) : Type 0 where
-  pub each : (k : ℕ) (d : DeskFile) → k < n → IsHeld held dir (slice_index_or names k d) (bytes (slice_index_or names k d))
+  pub each : (k : ℕ) (d : DeskFile) → k < n → IsHeldWithin held dir (slice_index_or names k d) (bytes (slice_index_or names k d))
 
 -- all of them do
 abbrev pub AllHeld : Files → List ℕ → List DeskFile → FileBytes → Type 0

@@ -21,7 +21,7 @@ use Rattle.euler_rotation.specs.declared.fleet_rotation.FleetRotation.{FleetRota
 use Rattle.plan_search.specs.SolvedBy.{IsSolvedBy}
 use Rattle.plan_text.specs.Text.{plan_text}
 use Rattle.sched_read.specs.Files.{FilesRead}
-use Rattle.table_maker.specs.Laws.{bytes_of}
+use Rattle.table_maker.specs.Laws.{made_bytes}
 use Rattle.table_maker.specs.Made.{made_tables}
 use Rattle.fleet_cli.specs.Contents.{bytes_in, five_bytes, table_bytes}
 use Rattle.fleet_cli.specs.Gathered.{AllStand}
@@ -84,12 +84,12 @@ pub record TellsMade (held : Files) (told : Option Files) (dir : List ℕ) (numb
   pub stands : Files
   pub tells : told ≡ Some stands
   pub there : AllStand stands dir five_tables
-  pub tables : five_bytes (bytes_in stands dir) ≡ bytes_of (made_tables number legs)
+  pub tables : five_bytes (bytes_in stands dir) ≡ made_bytes (made_tables number legs)
   pub leaves : LeavesSolution (with_texts held dir (made_files (made_tables number legs))) stands dir DEFAULT_READING DEFAULT_OPTIONS code before after
 
 -- a bound is there, and it is no more than a cost
-abbrev pub IsUnder : Option ℤ → ℤ → Type 0
-IsUnder bound cost = IsSomeAnd bound (λ least. least ≤ℤ cost)
+abbrev pub IsUnderCost : Option ℤ → ℤ → Type 0
+IsUnderCost bound cost = IsSomeAnd bound (λ least. least ≤ℤ cost)
 
 -- The files read as tables. What was put is the line of a tree that holds: its bound, with the cost of the legal plan
 -- that stands there where one comes with it. No legal assignment undercuts the bound, and with no bound none is legal; so
@@ -102,7 +102,7 @@ pub record TellsBound (held : Files) (dir : List ℕ) (reading : TableOptions) (
   pub reads : FilesRead (table_bytes (bytes_in held dir)) reading tables
   pub plan : IfSome cost (PlanThere held dir tables)
   pub proven : BoundsAll tables bound
-  pub under : IfSome cost (IsUnder bound)
+  pub under : IfSome cost (IsUnderCost bound)
   pub put : after ≡ output_with before (checked_text cost (checked.Holds bound))
 
 -- The files read as tables, and a fleet of theirs has the name. What was put is a bound for the tables in which that

@@ -14,7 +14,7 @@ use Rattle.plan_desk.specs.declared.file.DeskFile.TheVariants as file
 use Rattle.sched_read.specs.Files.{AllBytes, FilesRead}
 use Rattle.fleet_cli.specs.Answer.{AnswersOf, TellsProof, TellsTree}
 use Rattle.fleet_cli.specs.Contents.{FileBytes, with_plan}
-use Rattle.fleet_cli.specs.Reading.{Follows}
+use Rattle.fleet_cli.specs.Reading.{IsReadAfter}
 use Rattle.fleet_cli.specs.Refusals.{RefusesFleet, RefusesProof, RefusesTables, fleet_named}
 use Rattle.fleet_cli.specs.declared.answer.Answer.{Answer}
 use Rattle.fleet_cli.specs.declared.loading.Loaded.{Loaded}
@@ -37,7 +37,7 @@ LoadsSettling (loaded.Read tables) = CanSettle tables
 
 -- no further file is asked for, and this is the answer
 pub record AnswersAtOnce (asked : Option Asked) (bytes : FileBytes) (answer : Answer) : Type 0 where
-  pub no_more : (f : DeskFile) → ¬ (Follows asked bytes f)
+  pub no_more : (f : DeskFile) → ¬ (IsReadAfter asked bytes f)
   pub answers : AnswersOf asked bytes answer
 
 -- a fleet of the tables, and a number of aircraft that it may have
@@ -57,7 +57,7 @@ pub record IsReady (checking : Checking) : Type 0 where
 
 -- the plan is asked for, and what is told with it is the answer
 pub record Awaits (asked : Option Asked) (bytes : FileBytes) (checking : Checking) : Type 0 where
-  pub wanted : Follows asked bytes file.Plan
+  pub wanted : IsReadAfter asked bytes file.Plan
   pub ready : IsReady checking
   pub answers : (plan : List ℕ) (answer : Answer) → TellsProof checking.tables checking.asks true checking.proof.tree plan answer → AnswersOf asked (with_plan bytes plan) answer
 

@@ -8,7 +8,7 @@ use Rattle.plan_desk.specs.declared.file.DeskFile.{DeskFile}
 use Rattle.plan_desk.specs.declared.file.TheConstants.{TABLE_LIMIT}
 use Rattle.fleet_cli.specs.Headline.{Headline}
 use Rattle.fleet_cli.specs.Reading.{NamesStand, most_calls}
-use Rattle.fleet_cli.specs.Run.{AnswersExactly, AnswersInFull, BlamesMissing, CountsOneFault, FailsAt, IsAnswered, IsComplete, IsRefusal, KeepsOthers, LeavesFiles, PutsFault, PutsPart, SomeInFull}
+use Rattle.fleet_cli.specs.Run.{AnswersExactly, AnswersInFull, BlamesMissing, CountsOneFault, FailsAt, IsAnswered, IsComplete, IsRefusalStatus, KeepsOthers, LeavesFiles, PutsFault, PutsPart, SomeInFull}
 use Rattle.fleet_cli.specs.Texts.{usage_text}
 use Rattle.fleet_cli.specs.declared.status.TheConstants.{FAULT, NO_MEMORY, USAGE}
 
@@ -61,6 +61,6 @@ pub record Ran (steady_desk steady_sink : Type 0) (asked : Option Asked) (code :
   pub nothing_put : code ≡ NO_MEMORY → after.output ≡ before.output
   pub one_put : code ≢ NO_MEMORY → after.puts ≡ once_more before.puts
   pub one_put_at_most : (after.puts ≡ before.puts) ⊎ (after.puts ≡ once_more before.puts)
-  pub refusals : IsRefusal code → after.holds ≡ before.holds
+  pub refusals : IsRefusalStatus code → after.holds ≡ before.holds
   pub calls : CallsAtMost (most_calls asked) before.calls after.calls
   pub files : KeepsOthers asked before.holds after.holds

@@ -11,7 +11,7 @@ use Rattle.plan_desk.specs.declared.file.DeskFile.{DeskFile}
 use Rattle.plan_desk.specs.declared.file.DeskFile.TheVariants as file
 use Rattle.sched_read.specs.Files.{AllBytes, FilesRead}
 use Rattle.fleet_cli.specs.Contents.{FileBytes, bytes_in, table_bytes}
-use Rattle.fleet_cli.specs.Gathered.{AllStand, ComesTo, IsAmong, IsFirstMissing, IsFirstTooLong, IsHeld}
+use Rattle.fleet_cli.specs.Gathered.{AllStand, ComesTo, IsAmong, IsFirstMissing, IsFirstTooLong, IsHeldWithin}
 use Rattle.fleet_cli.specs.Refusals.{fleet_named}
 
 -- the five tables, in the order in which they are read
@@ -78,15 +78,15 @@ pub record WantsPlanOf (name : List ℕ) (reading : TableOptions) (bytes : AllBy
   pub known : IsSome (fleet_named wants.tables name)
 
 -- the file is read after the first ones, where they hold these bytes
-abbrev pub Follows : Option Asked → FileBytes → DeskFile → Type 0
-Follows None bytes f = ⊥
-Follows (Some (judge dir reading)) bytes f = ⊥
-Follows (Some (solve dir reading options)) bytes f = ⊥
-Follows (Some (check dir reading)) bytes f = (f ≡ file.Plan) × WantsPlan reading (table_bytes bytes) (bytes file.Proof)
-Follows (Some (tails dir reading limits dates)) bytes f = ⊥
-Follows (Some (due dir reading limits dates)) bytes f = ⊥
-Follows (Some (make dir number legs)) bytes f = ⊥
-Follows (Some (whatif dir reading name count)) bytes f = (f ≡ file.Plan) × WantsPlanOf name reading (table_bytes bytes) (bytes file.Proof)
+abbrev pub IsReadAfter : Option Asked → FileBytes → DeskFile → Type 0
+IsReadAfter None bytes f = ⊥
+IsReadAfter (Some (judge dir reading)) bytes f = ⊥
+IsReadAfter (Some (solve dir reading options)) bytes f = ⊥
+IsReadAfter (Some (check dir reading)) bytes f = (f ≡ file.Plan) × WantsPlan reading (table_bytes bytes) (bytes file.Proof)
+IsReadAfter (Some (tails dir reading limits dates)) bytes f = ⊥
+IsReadAfter (Some (due dir reading limits dates)) bytes f = ⊥
+IsReadAfter (Some (make dir number legs)) bytes f = ⊥
+IsReadAfter (Some (whatif dir reading name count)) bytes f = (f ≡ file.Plan) × WantsPlanOf name reading (table_bytes bytes) (bytes file.Proof)
 
 -- the files that solving may write
 abbrev pub solution_files : List DeskFile
@@ -126,26 +126,26 @@ most_calls asked = most_reads asked + length (written_files asked)
 
 -- the file may be read
 abbrev pub IsRead : Option Asked → DeskFile → Type 0
-IsRead asked f = IsAmong (first_files asked) f ⊎ ((bytes : FileBytes) × Follows asked bytes f)
+IsRead asked f = IsAmong (first_files asked) f ⊎ ((bytes : FileBytes) × IsReadAfter asked bytes f)
 
 -- reading comes to the file: those before it stand there within their limits, and it is one of the first, or they ask for it
-abbrev pub IsReached : Option Asked → Files → DeskFile → Type 0
-IsReached asked held f =
-    ComesTo held (folder_of asked) (first_files asked) f ⊎ AllStand held (folder_of asked) (first_files asked) × Follows asked (bytes_in held (folder_of asked)) f
+abbrev pub IsFileReached : Option Asked → Files → DeskFile → Type 0
+IsFileReached asked held f =
+    ComesTo held (folder_of asked) (first_files asked) f ⊎ AllStand held (folder_of asked) (first_files asked) × IsReadAfter asked (bytes_in held (folder_of asked)) f
 
 -- each file that reading comes to stands there
 abbrev pub NamesStand : Option Asked → Files → Type 0
-NamesStand asked held = (f : DeskFile) → IsReached asked held f → IsSome (held (path_of (folder_of asked) f))
+NamesStand asked held = (f : DeskFile) → IsFileReached asked held f → IsSome (held (path_of (folder_of asked) f))
 
 -- the first files stand there within their limits, and so does each that they ask for
 pub record AllWithin (asked : Option Asked) (held : Files) : Type 0 where
   pub first : AllStand held (folder_of asked) (first_files asked)
-  pub further : (f : DeskFile) → Follows asked (bytes_in held (folder_of asked)) f → IsHeld held (folder_of asked) f (bytes_in held (folder_of asked) f)
+  pub further : (f : DeskFile) → IsReadAfter asked (bytes_in held (folder_of asked)) f → IsHeldWithin held (folder_of asked) f (bytes_in held (folder_of asked) f)
 
 -- a file that reading comes to is too long
 abbrev pub IsTooLong : Option Asked → Files → DeskFile → Type 0
-IsTooLong asked held = IsFirstTooLong held (folder_of asked) (IsReached asked held)
+IsTooLong asked held = IsFirstTooLong held (folder_of asked) (IsFileReached asked held)
 
 -- a file that reading comes to is missing
 abbrev pub IsMissing : Option Asked → Files → DeskFile → Type 0
-IsMissing asked held = IsFirstMissing held (folder_of asked) (IsReached asked held)
+IsMissing asked held = IsFirstMissing held (folder_of asked) (IsFileReached asked held)

@@ -1,7 +1,7 @@
 -- What the program answers where it refuses what it reads.
 use Rattle.std.specs.Prelude.{◌≡◌, ℕ, List, [], Option, None, map}
 use Rattle.bound_cert.specs.Lines.{left_of}
-use Rattle.bound_cert.specs.ReadProof.{IsFirstFault}
+use Rattle.bound_cert.specs.ReadProof.{IsFirstProofFault}
 use Rattle.bound_cert.specs.declared.faults.CertFault.{CertFault}
 use Rattle.csv_fields.specs.Record.{records_of}
 use Rattle.fleet_model.specs.declared.options.TableOptions.{TableOptions}
@@ -16,7 +16,7 @@ use Rattle.plan_judge.specs.declared.verdicts.Verdict.{Verdict}
 use Rattle.plan_judge.specs.declared.verdicts.Verdict.TheVariants as verdict
 use Rattle.plan_text.specs.Reading.{PlanBad}
 use Rattle.sched_read.specs.Files.{AllBytes, FilesBad}
-use Rattle.table_rows.specs.Names.{number_of}
+use Rattle.table_rows.specs.Names.{number_of_name}
 use Rattle.fleet_cli.specs.Texts.{bad_input_text, desk_file_of, plan_refused_text, proof_refused_text, unknown_fleet_text, verdict_text}
 use Rattle.tail_dates.specs.TailTable.{TailsBad}
 use Rattle.fleet_cli.specs.declared.answer.Answer.{Answer}
@@ -49,7 +49,7 @@ pub record RefusesTails (t : Tables) (bytes : List ℕ) (answer : Answer) : Type
 
 -- the number of the fleet of this name, where the tables have one
 abbrev pub fleet_named : Tables → List ℕ → Option ℕ
-fleet_named t name = number_of name (fleet_names t)
+fleet_named t name = number_of_name name (fleet_names t)
 
 -- the tables have no fleet of this name
 pub record RefusesFleet (t : Tables) (name : List ℕ) (answer : Answer) : Type 0 where
@@ -66,7 +66,7 @@ pub record RefusesPlan (t : Tables) (bytes : List ℕ) (answer : Answer) : Type 
 -- the proof's text has a first fault
 pub record RefusesProof (t : Tables) (bytes : List ℕ) (answer : Answer) : Type 0 where
   pub fault : CertFault
-  pub bad : IsFirstFault t (left_of bytes) fault
+  pub bad : IsFirstProofFault t (left_of bytes) fault
   pub is : answer ≡ says REFUSED (proof_refused_text fault.line fault.kind)
 
 -- the status that tells a verdict

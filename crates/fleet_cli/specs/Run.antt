@@ -19,7 +19,7 @@ use Rattle.tail_dates.specs.TailTable.{TailsRead}
 use Rattle.tail_dates.specs.declared.tails.TailState.{TailState}
 use Rattle.fleet_cli.specs.Answer.{Answers, AnswersSome}
 use Rattle.fleet_cli.specs.Contents.{bytes_in, table_bytes}
-use Rattle.fleet_cli.specs.Gathered.{AllStand, IsHeld, ReadFails}
+use Rattle.fleet_cli.specs.Gathered.{AllStand, IsHeldWithin, ReadFails}
 use Rattle.fleet_cli.specs.Laws.{IsFixed}
 use Rattle.fleet_cli.specs.Reading.{IsMissing, IsRead, due_files, folder_of, judge_files, proof_files, tables_of, written_files}
 use Rattle.fleet_cli.specs.Refusals.{fleet_named}
@@ -84,7 +84,7 @@ pub record TablesThere (held : Files) (dir : List ℕ) (reading : TableOptions) 
 -- a plan stands in the folder that reads on the tables and is legal
 pub record PlanThere (held : Files) (dir : List ℕ) (t : Tables) (cost : ℤ) : Type 0 where
   pub plan : List ℕ
-  pub there : IsHeld held dir desk_file.Plan (bytes_in held dir desk_file.Plan)
+  pub there : IsHeldWithin held dir desk_file.Plan (bytes_in held dir desk_file.Plan)
   pub reads : PlanReads t (records_of (bytes_in held dir desk_file.Plan)) plan
   pub legal : IsLegal t plan
   pub costs : cost ≡ total_cost t plan
@@ -197,8 +197,8 @@ pub record PutsFault (blamed : Option DeskFile) (before after : Option (List ℕ
   pub handed : handed_after ≡ handed_with handed_before (fault_text file)
 
 -- a status that refuses what was read, or the words
-abbrev pub IsRefusal : ℕ → Type 0
-IsRefusal code = (code ≡ USAGE) ⊎ (code ≡ BAD_INPUT) ⊎ (code ≡ REFUSED)
+abbrev pub IsRefusalStatus : ℕ → Type 0
+IsRefusalStatus code = (code ≡ USAGE) ⊎ (code ≡ BAD_INPUT) ⊎ (code ≡ REFUSED)
 
 -- no name of a folder holds anything else than before, but those of these files
 abbrev pub KeepsAllBut : List ℕ → List DeskFile → Option Files → Option Files → Type 0

@@ -6,7 +6,7 @@ ghost use Rattle.bound_cert.specs.ReadProof.{ReadsAs};
 ghost use Rattle.command_words.specs.Words.{check};
 ghost use Rattle.fleet_cli.specs.Answer.{ChecksTree, TellsProof, TellsTree, TellsWith, checked_status};
 ghost use Rattle.fleet_cli.specs.Skeletons.{OnLegal};
-ghost use Rattle.fleet_cli.specs.Contents.{content_of};
+ghost use Rattle.fleet_cli.specs.Contents.{file_content};
 ghost use Rattle.fleet_cli.specs.Opened.{CanAsk, IsOpened, IsOpenedBy, IsReady};
 ghost use Rattle.fleet_cli.specs.declared.opened.Opened.TheVariants.{Answered};
 ghost use Rattle.fleet_model.specs.Legal.{IsAssignment};
@@ -38,7 +38,7 @@ pub fn open_check(
     contents: &Contents,
 ) -> Result<Opened, NoMemory>
     requires { AreSettings reading.settings }
-    ensures { (dir : List ℕ) → IfOk result (IsOpened (Some (check dir reading)) (content_of contents.now)) }
+    ensures { (dir : List ℕ) → IfOk result (IsOpened (Some (check dir reading)) (file_content contents.now)) }
 {
     match load_tables(alloc, reading, contents)? {
         Loaded::Refused(answer) => Ok(Opened::Answered(answer)),

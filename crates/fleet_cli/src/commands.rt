@@ -1,7 +1,7 @@
 //! What each command reads first, and what that comes to. One case for each command.
 ghost use Rattle.std.specs.Prelude.{◌≡◌, Some, IfOk};
 ghost use Rattle.command_words.specs.Words.{HasDates, HasLimits, HasSettings, asked_by};
-ghost use Rattle.fleet_cli.specs.Contents.{content_of};
+ghost use Rattle.fleet_cli.specs.Contents.{file_content};
 ghost use Rattle.fleet_cli.specs.Opened.{IsOpened};
 ghost use Rattle.fleet_cli.specs.Reading.{first_files, folder_of};
 
@@ -57,7 +57,7 @@ pub fn open(alloc: Global, command: &Command<'_>, contents: Contents) -> Result<
     requires settings { HasSettings command.now }
     requires limits { HasLimits command.now }
     requires dates { HasDates command.now }
-    ensures { IfOk result (IsOpened (Some (asked_by command.now)) (content_of contents)) }
+    ensures { IfOk result (IsOpened (Some (asked_by command.now)) (file_content contents)) }
 {
     outcome_of(alloc, command, &contents)
 }
@@ -67,7 +67,7 @@ fn outcome_of(alloc: Global, command: &Command<'_>, contents: &Contents) -> Resu
     requires settings { HasSettings command.now }
     requires limits { HasLimits command.now }
     requires dates { HasDates command.now }
-    ensures { IfOk result (IsOpened (Some (asked_by command.now)) (content_of contents.now)) }
+    ensures { IfOk result (IsOpened (Some (asked_by command.now)) (file_content contents.now)) }
 {
     match command {
         Command::Judge { reading, .. } => {

@@ -1,6 +1,6 @@
 //! Reading the files of a folder, in their order.
 ghost use Rattle.std.specs.Prelude.{◌≡◌, ◌≢◌, ◌+◌, ◌<◌, ◌≤◌, Some, None, IfSome, IsSomeAnd, length, ⊤};
-ghost use Rattle.fleet_cli.specs.Contents.{content_of};
+ghost use Rattle.fleet_cli.specs.Contents.{file_content};
 ghost use Rattle.fleet_cli.specs.Gathered.{AllHeld, CalledTooLong, ComesTo, IsAmong, IsFirstTooLong, MatchStop, ReadFailsAmong, limit_of};
 ghost use Rattle.fleet_cli.specs.declared.gathering.Stop.TheVariants as stop;
 ghost use Rattle.plan_desk.specs.Counts.{CallsAtMost, RoseBy, counted, once_more};
@@ -31,7 +31,7 @@ pub fn read_files<D: Desk>(
     files: &[DeskFile],
 ) -> Result<Contents, Stop>
     ensures told { IfSome (D.holds desk.old) (λ held. MatchStop result
-        (λ contents. AllHeld held dir.now files.now (content_of contents)) ⊤ (IsFirstTooLong held dir.now (ComesTo held dir.now files.now)) ⊤) }
+        (λ contents. AllHeld held dir.now files.now (file_content contents)) ⊤ (IsFirstTooLong held dir.now (ComesTo held dir.now files.now)) ⊤) }
     ensures too_long { MatchStop result (λ _. ⊤) ⊤ (CalledTooLong (RoseBy (TABLE_LIMIT + 1) (D.taken desk.old) (D.taken desk.new)) (IsAmong files.now)) ⊤ }
     ensures taken { D.taken desk.old ≤ D.taken desk.new }
     ensures holds { D.holds desk.new ≡ D.holds desk.old }

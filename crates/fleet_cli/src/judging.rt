@@ -2,7 +2,7 @@
 ghost use Rattle.std.specs.Prelude.{◌≡◌, IfOk};
 ghost use Rattle.fleet_cli.specs.Answer.{Judges, JudgesOn};
 ghost use Rattle.fleet_cli.specs.Refusals.{says, verdict_status};
-ghost use Rattle.fleet_cli.specs.Contents.{content_of, table_bytes};
+ghost use Rattle.fleet_cli.specs.Contents.{file_content, table_bytes};
 ghost use Rattle.fleet_cli.specs.Texts.{verdict_text};
 ghost use Rattle.fleet_model.specs.Legal.{IsAssignment};
 ghost use Rattle.fleet_model.specs.Limits.{AreSettings};
@@ -27,7 +27,7 @@ pub fn judge_contents(
     contents: &Contents,
 ) -> Result<Answer, NoMemory>
     requires { AreSettings reading.settings }
-    ensures { IfOk result (Judges reading (table_bytes (content_of contents.now)) contents.now.plan) }
+    ensures { IfOk result (Judges reading (table_bytes (file_content contents.now)) contents.now.plan) }
 {
     match load_tables(alloc, reading, contents)? {
         Loaded::Refused(answer) => Ok(answer),

@@ -1,6 +1,6 @@
 //! The tables of a folder.
 ghost use Rattle.std.specs.Prelude.{IfOk};
-ghost use Rattle.fleet_cli.specs.Contents.{content_of, table_bytes};
+ghost use Rattle.fleet_cli.specs.Contents.{file_content, table_bytes};
 ghost use Rattle.fleet_cli.specs.Opened.{IsLoaded, LoadsSettling};
 ghost use Rattle.fleet_model.specs.Limits.{AreSettings};
 
@@ -28,7 +28,7 @@ pub fn load_tables(
     contents: &Contents,
 ) -> Result<Loaded, NoMemory>
     requires { AreSettings reading.settings }
-    ensures read { IfOk result (IsLoaded reading (table_bytes (content_of contents.now))) }
+    ensures read { IfOk result (IsLoaded reading (table_bytes (file_content contents.now))) }
     ensures settles { IfOk result LoadsSettling }
 {
     let texts = FileTexts {

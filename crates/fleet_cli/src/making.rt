@@ -6,7 +6,7 @@ ghost use Rattle.fleet_cli.specs.Skeletons.{TablesRead};
 ghost use Rattle.fleet_cli.specs.Contents.{five_alone};
 ghost use Rattle.fleet_cli.specs.Making.{after_files, made_files};
 ghost use Rattle.sched_read.specs.Reading.{Reads};
-ghost use Rattle.table_maker.specs.Laws.{bytes_of};
+ghost use Rattle.table_maker.specs.Laws.{made_bytes};
 ghost use Rattle.table_maker.specs.Made.{CanBeMade, made_tables};
 
 use crate::answer::{Answer, FileText};
@@ -33,7 +33,7 @@ pub fn make_and_solve(alloc: Global, number: u32, legs: u32) -> Result<Answer, N
 fn solve_made(alloc: Global, number: u32, legs: u32, made: &MadeTables) -> Result<Answer, NoMemory>
     requires can { CanBeMade number legs }
     requires made { made.now ≡ made_tables number legs }
-    ensures { IfOk result (TablesRead DEFAULT_READING (five_alone (bytes_of made.now)) (GivesSolution DEFAULT_OPTIONS)) }
+    ensures { IfOk result (TablesRead DEFAULT_READING (five_alone (made_bytes made.now)) (GivesSolution DEFAULT_OPTIONS)) }
 {
     let tables = load_made(alloc, number, legs, made)?;
     solve_tables(alloc, &tables, DEFAULT_OPTIONS)
@@ -43,7 +43,7 @@ fn solve_made(alloc: Global, number: u32, legs: u32, made: &MadeTables) -> Resul
 fn load_made(alloc: Global, number: u32, legs: u32, made: &MadeTables) -> Result<Tables, NoMemory>
     requires can { CanBeMade number legs }
     requires made { made.now ≡ made_tables number legs }
-    ensures { IfOk result (Reads (bytes_of made.now) DEFAULT_READING.settings) }
+    ensures { IfOk result (Reads (made_bytes made.now) DEFAULT_READING.settings) }
 {
     let loaded = load(
         alloc,

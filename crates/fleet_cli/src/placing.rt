@@ -4,7 +4,7 @@ ghost use Rattle.command_words.specs.Arguments.{AreDates, AreRotationLimits};
 ghost use Rattle.command_words.specs.Words.{dates_by};
 ghost use Rattle.fleet_cli.specs.Answer.{DueOf, DueOn, DueWith, TellsDue, TellsStarts, due_status};
 ghost use Rattle.fleet_cli.specs.Skeletons.{OnLegal};
-ghost use Rattle.fleet_cli.specs.Contents.{content_of, table_bytes};
+ghost use Rattle.fleet_cli.specs.Contents.{file_content, table_bytes};
 ghost use Rattle.fleet_model.specs.Legal.{IsAssignment, IsLegal};
 ghost use Rattle.fleet_model.specs.Limits.{AreSettings};
 ghost use Rattle.fleet_model.specs.Plain.{IsPlain};
@@ -38,7 +38,7 @@ pub fn due_of_contents(
     requires settings { AreSettings reading.settings }
     requires limits { AreRotationLimits limits }
     requires dates { AreDates dates.now }
-    ensures { IfOk result (DueOf reading limits (dates_by dates.now) (table_bytes (content_of contents.now)) contents.now.tails contents.now.plan) }
+    ensures { IfOk result (DueOf reading limits (dates_by dates.now) (table_bytes (file_content contents.now)) contents.now.tails contents.now.plan) }
 {
     match load_tables(alloc, reading, contents)? {
         Loaded::Refused(answer) => Ok(answer),

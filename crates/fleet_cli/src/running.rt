@@ -3,7 +3,7 @@ ghost use Rattle.fleet_cli.specs.Reading.{NamesStand, most_calls};
 ghost use Rattle.fleet_cli.specs.Gave.{Gave};
 ghost use Rattle.fleet_cli.specs.Headline.{Headline};
 ghost use Rattle.fleet_cli.specs.Ran.{telling};
-ghost use Rattle.fleet_cli.specs.Run.{AnswersExactly, AnswersInFull, BlamesMissing, CountsOneFault, FailsAt, IsAnswered, IsComplete, IsEnd, IsRefusal, KeepsOthers, LeavesFiles, PutsFault, PutsPart, SomeInFull};
+ghost use Rattle.fleet_cli.specs.Run.{AnswersExactly, AnswersInFull, BlamesMissing, CountsOneFault, FailsAt, IsAnswered, IsComplete, IsEnd, IsRefusalStatus, KeepsOthers, LeavesFiles, PutsFault, PutsPart, SomeInFull};
 ghost use Rattle.fleet_cli.specs.Texts.{usage_text};
 ghost use Rattle.command_words.specs.Words.{asked};
 ghost use Rattle.fleet_cli.specs.Written.{HaveLengths, StandsAfter, WriteFails, WritesFirst, held_with_texts};
@@ -86,7 +86,7 @@ pub fn run<D: Desk, S: Sink>(alloc: Global, words: &[String], desk: &mut D, out:
     ensures calls { CallsAtMost (most_calls (asked (map string_bytes words.now))) (D.calls desk.old) (D.calls desk.new) }
 
     // A refusal writes no file, and no name changes but those that what is asked for writes.
-    ensures refusals { IsRefusal result.code → D.holds desk.new ≡ D.holds desk.old }
+    ensures refusals { IsRefusalStatus result.code → D.holds desk.new ≡ D.holds desk.old }
     ensures files { KeepsOthers (asked (map string_bytes words.now)) (D.holds desk.old) (D.holds desk.new) }
 {
     match reply_to(alloc, words, desk) {

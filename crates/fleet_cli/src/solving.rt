@@ -5,7 +5,7 @@ ghost use Rattle.branch_bound.specs.Solved.{IsRight};
 ghost use Rattle.dual_bound.specs.Solved.{PlanFits, tree_of};
 ghost use Rattle.command_words.specs.Arguments.{AreOptions, AreRotationLimits};
 ghost use Rattle.fleet_cli.specs.Answer.{GivesSolution, ShowsRotations, ShowsSolution, Solves};
-ghost use Rattle.fleet_cli.specs.Contents.{content_of, table_bytes};
+ghost use Rattle.fleet_cli.specs.Contents.{file_content, table_bytes};
 ghost use Rattle.fleet_cli.specs.Skeletons.{OnShown};
 ghost use Rattle.fleet_cli.specs.Solution.{solved_answer};
 ghost use Rattle.fleet_model.specs.Legal.{IsLegal};
@@ -39,7 +39,7 @@ pub fn solve_contents(
 ) -> Result<Answer, NoMemory>
     requires settings { AreSettings reading.settings }
     requires options { AreOptions options }
-    ensures { IfOk result (Solves reading options (table_bytes (content_of contents.now))) }
+    ensures { IfOk result (Solves reading options (table_bytes (file_content contents.now))) }
 {
     match load_tables(alloc, reading, contents)? {
         Loaded::Refused(answer) => Ok(answer),

@@ -4,7 +4,7 @@ ghost use Rattle.command_words.specs.Arguments.{AreDates, AreRotationLimits};
 ghost use Rattle.command_words.specs.Words.{dates_by};
 ghost use Rattle.fleet_cli.specs.Answer.{TailsOf, TailsOn, TellsLines, TellsTails};
 ghost use Rattle.fleet_cli.specs.Skeletons.{OnLegal};
-ghost use Rattle.fleet_cli.specs.Contents.{content_of, table_bytes};
+ghost use Rattle.fleet_cli.specs.Contents.{file_content, table_bytes};
 ghost use Rattle.fleet_model.specs.Legal.{IsAssignment, IsLegal};
 ghost use Rattle.fleet_model.specs.Limits.{AreSettings};
 ghost use Rattle.fleet_model.specs.Plain.{IsPlain};
@@ -37,7 +37,7 @@ pub fn tails_of_contents(
     requires settings { AreSettings reading.settings }
     requires limits { AreRotationLimits limits }
     requires dates { AreDates dates.now }
-    ensures { IfOk result (TailsOf reading limits (dates_by dates.now) (table_bytes (content_of contents.now)) contents.now.plan) }
+    ensures { IfOk result (TailsOf reading limits (dates_by dates.now) (table_bytes (file_content contents.now)) contents.now.plan) }
 {
     match load_tables(alloc, reading, contents)? {
         Loaded::Refused(answer) => Ok(answer),

@@ -4,7 +4,7 @@ ghost use Rattle.cert_check.specs.Splits.{AreSoundButPriced};
 ghost use Rattle.command_words.specs.Words.{whatif};
 ghost use Rattle.dual_bound.specs.OfTables.{IsOfTables};
 ghost use Rattle.fleet_cli.specs.Answer.{AsksTree, SaysOfOther, what_if_status};
-ghost use Rattle.fleet_cli.specs.Contents.{content_of};
+ghost use Rattle.fleet_cli.specs.Contents.{file_content};
 ghost use Rattle.fleet_cli.specs.Opened.{CanHave, IsOpened, IsOpenedOn};
 ghost use Rattle.fleet_cli.specs.Refusals.{fleet_named, says};
 ghost use Rattle.fleet_cli.specs.Texts.{unknown_fleet_text};
@@ -39,7 +39,7 @@ pub fn open_whatif(
 ) -> Result<Opened, NoMemory>
     requires settings { AreSettings reading.settings }
     requires count { count ≤ MAX_AIRCRAFT }
-    ensures { (dir : List ℕ) → IfOk result (IsOpened (Some (whatif dir reading name.now count)) (content_of contents.now)) }
+    ensures { (dir : List ℕ) → IfOk result (IsOpened (Some (whatif dir reading name.now count)) (file_content contents.now)) }
 {
     match load_tables(alloc, reading, contents)? {
         Loaded::Refused(answer) => Ok(Opened::Answered(answer)),

@@ -22,7 +22,7 @@ use Rattle.fleet_model.specs.declared.parts.Leg.{Leg}
 use Rattle.fleet_model.specs.declared.parts.Pair.{Pair}
 use Rattle.fleet_model.specs.declared.tables.Tables.{Tables}
 use Rattle.fleet_model.specs.Schedule.{IsFlown, choice_on, choices_in, departures_in, fleet_by, fleets_in, leg_at, leg_of, leg_on, legs_in, no_departure, no_leg, pair_on, shifts_in, slot_by}
-use Rattle.fleet_model.specs.Windows.{at_time, departures_below, departures_of, departures_on, times_of}
+use Rattle.fleet_model.specs.Windows.{at_time, departures_below, departures_of_legs, departures_on, times_of}
 
 -- ---- the times of a leg
 pub some_times : (t : Tables) (l : ℕ) → 0 < shifts_in t l
@@ -212,7 +212,7 @@ module _ (t : Tables) (f : ℕ) where
   over_departures g =
       let h : Departure → ℕ = λ departure. g (leg_on departure.leg (f * shifts_in t departure.leg + departure.slot)) in
       let Sums : List Departure → Type 0 = λ listed. sum_below (λ l. sum_below (λ i. h (at_time l i)) (shifts_in t l)) (legs_in t) ≡ sum_below (λ d. h (slice_index_or listed d no_departure)) (length listed) in
-      let sums : Sums (departures_of t.legs) = sym (over_list h t.legs (legs_in t)) in
+      let sums : Sums (departures_of_legs t.legs) = sym (over_list h t.legs (legs_in t)) in
       subst Sums (sym t.in_range.departures_fit) sums
 
   pub over_departures_ℤ : (g : Pair → ℤ) → sum_below_ℤ (λ l. sum_below_ℤ (λ i. g (leg_on l (f * shifts_in t l + i))) (shifts_in t l)) (legs_in t) ≡ sum_below_ℤ (λ d. g (pair_on t d f)) (departures_in t)
@@ -220,5 +220,5 @@ module _ (t : Tables) (f : ℕ) where
   over_departures_ℤ g =
       let h : Departure → ℤ = λ departure. g (leg_on departure.leg (f * shifts_in t departure.leg + departure.slot)) in
       let Sums : List Departure → Type 0 = λ listed. sum_below_ℤ (λ l. sum_below_ℤ (λ i. h (at_time l i)) (shifts_in t l)) (legs_in t) ≡ sum_below_ℤ (λ d. h (slice_index_or listed d no_departure)) (length listed) in
-      let sums : Sums (departures_of t.legs) = sym (over_list_ℤ h t.legs (legs_in t)) in
+      let sums : Sums (departures_of_legs t.legs) = sym (over_list_ℤ h t.legs (legs_in t)) in
       subst Sums (sym t.in_range.departures_fit) sums

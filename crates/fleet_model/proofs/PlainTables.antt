@@ -18,7 +18,7 @@ use Rattle.fleet_model.specs.Plain.{IsPlain}
 use Rattle.fleet_model.specs.Schedule.{IsPair, choice_on, choices_in, departures_in, fleet_by, fleets_in, leg_at, leg_of, leg_on, legs_in, no_departure, no_leg, pair_on, period_of, shifts_in}
 use Rattle.fleet_model.specs.Times.{departure, laps_of}
 use Rattle.fleet_model.specs.Use.{laps_at, laps_flown}
-use Rattle.fleet_model.specs.Windows.{at_time, departures_below, departures_of, departures_on, times_of}
+use Rattle.fleet_model.specs.Windows.{at_time, departures_below, departures_of_legs, departures_on, times_of}
 use Rattle.fleet_model.proofs.Departures.{some_times}
 use Rattle.fleet_model.proofs.PeriodMinutes.{departs_always}
 

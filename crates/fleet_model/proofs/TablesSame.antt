@@ -2,7 +2,7 @@
 use Rattle.std.proofs.Common.{◌≡◌, Bool, List, ap, sym, subst, ◌∙◌}
 use Rattle.std.proofs.Props.{props}
 use Rattle.fleet_model.specs.Limits.{AreTables}
-use Rattle.fleet_model.specs.Windows.{departures_of}
+use Rattle.fleet_model.specs.Windows.{departures_of_legs}
 use Rattle.fleet_model.specs.declared.parts.Departure.{Departure}
 use Rattle.fleet_model.specs.declared.parts.Fleet.{Fleet}
 use Rattle.fleet_model.specs.declared.parts.Leg.{Leg}
@@ -25,7 +25,7 @@ pub tables_same : (a b : Tables) → a.stations ≡ b.stations → a.fleets ≡ 
     → a.windows ≡ b.windows → a.optional ≡ b.optional → a ≡ b
 tables_same a b stations fleets legs costs throughs settings windows optional =
     let Parts : Type 0 = List Station × List Fleet × List Leg × List PairCost × List Through × Settings × List Departure × Bool × Bool in
-    let departures : a.departures ≡ b.departures = a.in_range.departures_fit ∙ ap departures_of legs ∙ sym b.in_range.departures_fit in
+    let departures : a.departures ≡ b.departures = a.in_range.departures_fit ∙ ap departures_of_legs legs ∙ sym b.in_range.departures_fit in
     let parts_a : Parts = (a.stations, a.fleets, a.legs, a.costs, a.throughs, a.settings, a.departures, a.windows, a.optional) in
     let parts_b : Parts = (b.stations, b.fleets, b.legs, b.costs, b.throughs, b.settings, b.departures, b.windows, b.optional) in
     let same : parts_a ≡ parts_b = cc in

@@ -3,7 +3,7 @@ use Rattle.std.specs.Prelude.{◌≡◌, ◌≢◌, ℕ, ◌<◌, ◌≤◌, Boo
 use Rattle.std.specs.Option.{ForSome}
 use Rattle.entries.specs.Names.{IsName, IsStationCode}
 use Rattle.fleet_model.specs.Period.{minutes_of}
-use Rattle.fleet_model.specs.Windows.{departures_of, moved, no_leg, own_shift, own_slot, times_of, triples_in}
+use Rattle.fleet_model.specs.Windows.{departures_of_legs, moved, no_leg, own_shift, own_slot, times_of, triples_in}
 use Rattle.fleet_model.specs.declared.parts.Station.{Station}
 use Rattle.fleet_model.specs.declared.parts.Fleet.{Fleet}
 use Rattle.fleet_model.specs.declared.parts.Departure.{Departure}
@@ -130,7 +130,7 @@ pub record AreTables (stations : List Station) (fleets : List Fleet) (legs : Lis
   pub costs_fit : AreCosts (length legs) (length fleets) costs
   pub throughs_fit : AreThroughs (length legs) throughs
   pub settings_fit : AreSettings settings
-  pub departures_fit : departures ≡ departures_of legs
+  pub departures_fit : departures ≡ departures_of_legs legs
   pub few_triples : triples_in (length fleets) legs costs ≤ MAX_TRIPLES
   pub moved_where_asked : windows ≡ false → FlyOnce legs
   pub left_out_where_asked : optional ≡ false → NoneLeftOut legs

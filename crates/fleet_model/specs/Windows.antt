@@ -44,8 +44,8 @@ abbrev pub departures_below : List Leg → ℕ → List Departure
 departures_below legs zero = []
 departures_below legs (suc n) = departures_below legs n ++ departures_on legs n
 
-abbrev pub departures_of : List Leg → List Departure
-departures_of legs = departures_below legs (length legs)
+abbrev pub departures_of_legs : List Leg → List Departure
+departures_of_legs legs = departures_below legs (length legs)
 
 -- by how many pairs legs may be flown: of each leg the fleets that it has a cost with, each at each of its times
 abbrev pub triples_in : ℕ → List Leg → List PairCost → ℕ

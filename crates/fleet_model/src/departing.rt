@@ -1,7 +1,7 @@
 //! The list of all departures.
 ghost use Rattle.std.specs.Prelude.{◌≡◌, ◌≤◌, ◌<◌, ◌++◌, length, slice_index_or, IfOk, OnOk};
 ghost use Rattle.fleet_model.specs.declared.limits.TheConstants.{MAX_LEGS, MAX_SHIFTS};
-ghost use Rattle.fleet_model.specs.Windows.{departures_of, departures_on, times_of};
+ghost use Rattle.fleet_model.specs.Windows.{departures_of_legs, departures_on, times_of};
 
 use crate::parts::{Departure, Leg};
 use entries::NoMemory;
@@ -13,7 +13,7 @@ use std::alloc::Global;
 /// `NoMemory` where there is none left for the list.
 pub fn departures_of(alloc: Global, legs: &[Leg]) -> Result<Vec<Departure>, NoMemory>
     requires { length legs.now ≤ MAX_LEGS }
-    ensures { IfOk result (λ listed. listed.items ≡ departures_of legs.now) }
+    ensures { IfOk result (λ listed. listed.items ≡ departures_of_legs legs.now) }
 {
     let mut listed = Vec::new(alloc);
     for leg in 0..legs.len() as u32 {

@@ -8,7 +8,7 @@ use Rattle.fleet_model.specs.declared.parts.Leg.{Leg}
 use Rattle.fleet_model.specs.declared.parts.PairCost.{PairCost}
 use Rattle.fleet_model.specs.declared.refusals.TheConstants.{DUPLICATE, NOT_TEXT, UNKNOWN_FLEET, UNKNOWN_FLIGHT}
 use Rattle.table_rows.specs.Fields.{known, of_width, refused_where, three_of, well_formed}
-use Rattle.table_rows.specs.Names.{is_among, number_of}
+use Rattle.table_rows.specs.Names.{is_among, number_of_name}
 use Rattle.table_rows.specs.Rows.{Fields, TableBad, TableReads}
 
 -- flight,fleet,cost
@@ -20,8 +20,8 @@ abbrev pub flight_of : Leg → List ℕ
 flight_of leg = leg.flight
 
 -- the leg and the fleet of a cost, which no other has
-abbrev pub pair_of : PairCost → List ℕ
-pair_of entry = entry.leg ∷ entry.fleet ∷ []
+abbrev pub cost_key : PairCost → List ℕ
+cost_key entry = entry.leg ∷ entry.fleet ∷ []
 
 -- A record read as a cost, by the flights and the names of the fleets, below costs of these pairs, or the least
 -- kind of its faults. A pair of an earlier record has a known flight and a known fleet.
@@ -32,15 +32,15 @@ cost_read flights fleets earlier fields =
     (well_formed (name_of flight) (λ _.
     well_formed (name_of fleet) (λ _.
     well_formed (whole_of cost (neg_ℤ MAX_COST) MAX_COST) (λ units.
-    known (number_of flight flights) UNKNOWN_FLIGHT (λ l.
-    known (number_of fleet fleets) UNKNOWN_FLEET (λ f.
+    known (number_of_name flight flights) UNKNOWN_FLIGHT (λ l.
+    known (number_of_name fleet fleets) UNKNOWN_FLEET (λ f.
     refused_where (is_among (l ∷ f ∷ []) earlier) DUPLICATE
     (Ok (record { leg = l; fleet = f; cost = units })))))))))
 
 -- the records of a file are the header and these costs
 abbrev pub CostsRead : List (List ℕ) → List (List ℕ) → List Fields → List PairCost → Type 0
-CostsRead flights fleets = TableReads pair_of (cost_read flights fleets) cost_header
+CostsRead flights fleets = TableReads cost_key (cost_read flights fleets) cost_header
 
 -- the first fault of a file of costs
 abbrev pub CostsBad : List (List ℕ) → List (List ℕ) → List Fields → ℕ → ℕ → Type 0
-CostsBad flights fleets = TableBad pair_of (cost_read flights fleets) cost_header
+CostsBad flights fleets = TableBad cost_key (cost_read flights fleets) cost_header

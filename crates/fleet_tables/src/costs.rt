@@ -3,7 +3,7 @@ ghost use Rattle.csv_fields.specs.Record.{records_of};
 ghost use Rattle.fleet_model.specs.Limits.{AreCosts};
 ghost use Rattle.fleet_model.specs.declared.limits.TheConstants.{MAX_FLEETS, MAX_LEGS};
 ghost use Rattle.fleet_model.specs.declared.refusals.TableFile.TheVariants as file;
-ghost use Rattle.fleet_tables.specs.Costs.{CostsBad, CostsRead, cost_read, flight_of, pair_of};
+ghost use Rattle.fleet_tables.specs.Costs.{CostsBad, CostsRead, cost_key, cost_read, flight_of};
 ghost use Rattle.fleet_tables.specs.Fleets.{fleet_name_of};
 ghost use Rattle.table_rows.specs.Outcome.{IsFirstFault};
 
@@ -72,7 +72,7 @@ impl CostReader {
 impl RowReader for CostReader {
     type Entry = PairCost;
 
-    ghost key = { pair_of };
+    ghost key = { cost_key };
 
     ghost keys = { λ reader. reader.pairs };
 

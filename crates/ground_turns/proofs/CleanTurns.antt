@@ -12,7 +12,7 @@ use Rattle.fleet_model.specs.Counts.{weights_of}
 use Rattle.fleet_model.specs.Use.{stand_of}
 use Rattle.fleet_model.specs.Schedule.{period_of}
 use Rattle.ground_turns.specs.Laws.{SegmentsTellClean}
-use Rattle.ground_turns.specs.Segments.{is_among, minutes_of}
+use Rattle.ground_turns.specs.Segments.{is_minute_among, span_of}
 use Rattle.ground_turns.specs.Turns.{departs_at, minutes_round, ready_at, station_at, waits_at}
 
 is_some : (n : ℕ) → n ≢ 0 → (n == 0) ≡ false
@@ -30,25 +30,25 @@ segments_tell_clean t a f turn minutes numbers bare whole ends = (
   },
 )
   where
-    within : (m : ℕ) → m < period_of t → m < minutes_of numbers
+    within : (m : ℕ) → m < period_of t → m < span_of numbers
     within m moment = subst (λ n. m < n) (sym whole) moment
 
-    below : (m : ℕ) → m < minutes_of numbers → m < period_of t
+    below : (m : ℕ) → m < span_of numbers → m < period_of t
     below m lt = subst (λ n. m < n) whole lt
 
     turned : (m : ℕ) → IsTrue (waits_at t f turn m)
-        → IsTrue (nat_lt (minutes_round (minutes_of numbers) (ready_at t f turn) m) (minutes_round (minutes_of numbers) (ready_at t f turn) (departs_at t f turn)))
+        → IsTrue (nat_lt (minutes_round (span_of numbers) (ready_at t f turn) m) (minutes_round (span_of numbers) (ready_at t f turn) (departs_at t f turn)))
     turned m waits = subst (λ n. IsTrue (nat_lt (minutes_round n (ready_at t f turn) m) (minutes_round n (ready_at t f turn) (departs_at t f turn)))) (sym whole) waits
 
-    back : (m : ℕ) → IsTrue (nat_lt (minutes_round (minutes_of numbers) (ready_at t f turn) m) (minutes_round (minutes_of numbers) (ready_at t f turn) (departs_at t f turn)))
+    back : (m : ℕ) → IsTrue (nat_lt (minutes_round (span_of numbers) (ready_at t f turn) m) (minutes_round (span_of numbers) (ready_at t f turn) (departs_at t f turn)))
         → IsTrue (waits_at t f turn m)
     back m waits = subst (λ n. IsTrue (nat_lt (minutes_round n (ready_at t f turn) m) (minutes_round n (ready_at t f turn) (departs_at t f turn)))) whole waits
 
 -- what one number more brings
-last_among : (p : ℕ → Bool) (n m : ℕ) → is_among (filter p (n ∷ [])) m ≡ (p n && (n == m))
+last_among : (p : ℕ → Bool) (n m : ℕ) → is_minute_among (filter p (n ∷ [])) m ≡ (p n && (n == m))
 last_among p n m = by_last (p n)
   where
-    by_last : (b : Bool) → is_among (if b then n ∷ [] else []) m ≡ (b && (n == m))
+    by_last : (b : Bool) → is_minute_among (if b then n ∷ [] else []) m ≡ (b && (n == m))
     by_last true = grind (arith, nat_tests)
     by_last false = refl
 
@@ -64,19 +64,19 @@ both_kinds b c n m h = elim (cases_eq n m) [
     apart : (b c : Bool) (n m : ℕ) → n ≢ m → ((nat_lt m n && c) || (b && (n == m))) ≡ (nat_lt m (suc n) && c)
     apart b c n m g = grind (arith, nat_tests)
 
-among_below : (p : ℕ → Bool) (n m : ℕ) → is_among (filter p (list_below (λ k. k) n)) m ≡ (nat_lt m n && p m)
+among_below : (p : ℕ → Bool) (n m : ℕ) → is_minute_among (filter p (list_below (λ k. k) n)) m ≡ (nat_lt m n && p m)
 among_below p zero m = grind (arith, nat_tests)
 among_below p (suc n) m =
-    ap (λ k. is_among (filter p (list_below (λ j. j) k)) m) (suc-eq-add-one n)
-    ∙ ap (λ xs. is_among (filter p xs) m) (list_below-more (λ k. k) n)
-    ∙ ap (λ xs. is_among xs m) (filter-append p (list_below (λ k. k) n) (n ∷ []))
+    ap (λ k. is_minute_among (filter p (list_below (λ j. j) k)) m) (suc-eq-add-one n)
+    ∙ ap (λ xs. is_minute_among (filter p xs) m) (list_below-more (λ k. k) n)
+    ∙ ap (λ xs. is_minute_among xs m) (filter-append p (list_below (λ k. k) n) (n ∷ []))
     ∙ list_any-append (λ k. k == m) (filter p (list_below (λ k. k) n)) (filter p (n ∷ []))
-    ∙ ap (λ b. b || is_among (filter p (n ∷ [])) m) (among_below p n m)
+    ∙ ap (λ b. b || is_minute_among (filter p (n ∷ [])) m) (among_below p n m)
     ∙ ap (λ b. (nat_lt m n && p m) || b) (last_among p n m)
     ∙ both_kinds (p n) (p m) n m (ap p)
 
 -- a number below n is among those that pass exactly where it passes
-pub among_filtered : (p : ℕ → Bool) (n m : ℕ) → m < n → is_among (filter p (list_below (λ k. k) n)) m ≡ p m
+pub among_filtered : (p : ℕ → Bool) (n m : ℕ) → m < n → is_minute_among (filter p (list_below (λ k. k) n)) m ≡ p m
 among_filtered p n m lt = among_below p n m ∙ within (p m)
   where
     within : (b : Bool) → (nat_lt m n && b) ≡ b

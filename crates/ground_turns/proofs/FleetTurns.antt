@@ -15,7 +15,7 @@ use Rattle.fleet_model.specs.Counts.{choice_at, weights_of}
 use Rattle.fleet_model.specs.Schedule.{leg_on, legs_in}
 use Rattle.fleet_model.specs.Plain.{IsPlain}
 use Rattle.ground_turns.specs.Laws.{NextIsMap}
-use Rattle.ground_turns.specs.Maps.{IsNext, IsSuccessorMap, arrivals_of, departures_of, no_turn, turn_at, turn_by, turns_by}
+use Rattle.ground_turns.specs.Maps.{IsNext, IsSuccessorMap, arrivals_of, departures_of, no_turn, turn_at, turn_to_next, turns_by}
 use Rattle.ground_turns.specs.Turns.{IsTurn}
 use Rattle.ground_turns.proofs.Regroup.{by_places}
 use Rattle.ground_turns.proofs.Rounds.{bit}
@@ -48,26 +48,26 @@ without_more : (xs : List Connection) → xs ++ [] ≡ xs
 without_more xs = append-nil xs
 
 module _ (a : List ℕ) (f : ℕ) (next : ℕ → ℕ) where
-  pub each_turn : (P : Connection → Type 0) (n : ℕ) → ((l : ℕ) → l < n → choice_at a l ≡ f → P (turn_by next l))
+  pub each_turn : (P : Connection → Type 0) (n : ℕ) → ((l : ℕ) → l < n → choice_at a l ≡ f → P (turn_to_next next l))
       → (k : ℕ) → k < length (turns_by a f next n) → P (turn_at (turns_by a f next n) k)
   each_turn P zero h k lt = absurd (omega arith)
   each_turn P (suc n) h k lt = by_last (choice_at a n == f) (λ e. h n (omega arith) (eqb-true _ _ e)) (each_turn P n (λ l less. h l (omega arith))) k lt
     where
-      by_last : (b : Bool) → (b ≡ true → P (turn_by next n)) → ((k : ℕ) → k < length (turns_by a f next n) → P (turn_at (turns_by a f next n) k))
-          → (k : ℕ) → k < length (turns_by a f next n ++ (if b then turn_by next n ∷ [] else [])) → P (turn_at (turns_by a f next n ++ (if b then turn_by next n ∷ [] else [])) k)
-      by_last true last before = of_one_more P (turns_by a f next n) (turn_by next n) before (last refl)
+      by_last : (b : Bool) → (b ≡ true → P (turn_to_next next n)) → ((k : ℕ) → k < length (turns_by a f next n) → P (turn_at (turns_by a f next n) k))
+          → (k : ℕ) → k < length (turns_by a f next n ++ (if b then turn_to_next next n ∷ [] else [])) → P (turn_at (turns_by a f next n ++ (if b then turn_to_next next n ∷ [] else [])) k)
+      by_last true last before = of_one_more P (turns_by a f next n) (turn_to_next next n) before (last refl)
       by_last false last before = subst (λ xs. (k : ℕ) → k < length xs → P (turn_at xs k)) (sym (without_more (turns_by a f next n))) before
 
   -- a sum over the turns is one over the legs
   pub over_turns : (g : Connection → ℕ) (n : ℕ)
-      → sum_below (λ k. g (turn_at (turns_by a f next n) k)) (length (turns_by a f next n)) ≡ sum_below (λ l. bit (choice_at a l == f) * g (turn_by next l)) n
+      → sum_below (λ k. g (turn_at (turns_by a f next n) k)) (length (turns_by a f next n)) ≡ sum_below (λ l. bit (choice_at a l == f) * g (turn_to_next next l)) n
   over_turns g zero = refl
   over_turns g (suc n) = by_last (choice_at a n == f) (over_turns g n)
     where
-      by_last : (b : Bool) → sum_below (λ k. g (turn_at (turns_by a f next n) k)) (length (turns_by a f next n)) ≡ sum_below (λ l. bit (choice_at a l == f) * g (turn_by next l)) n
-          → sum_below (λ k. g (turn_at (turns_by a f next n ++ (if b then turn_by next n ∷ [] else [])) k)) (length (turns_by a f next n ++ (if b then turn_by next n ∷ [] else [])))
-          ≡ sum_below (λ l. bit (choice_at a l == f) * g (turn_by next l)) n + bit b * g (turn_by next n)
-      by_last true rest = omega (arith, with_one g (turns_by a f next n) (turn_by next n), rest)
+      by_last : (b : Bool) → sum_below (λ k. g (turn_at (turns_by a f next n) k)) (length (turns_by a f next n)) ≡ sum_below (λ l. bit (choice_at a l == f) * g (turn_to_next next l)) n
+          → sum_below (λ k. g (turn_at (turns_by a f next n ++ (if b then turn_to_next next n ∷ [] else [])) k)) (length (turns_by a f next n ++ (if b then turn_to_next next n ∷ [] else [])))
+          ≡ sum_below (λ l. bit (choice_at a l == f) * g (turn_to_next next l)) n + bit b * g (turn_to_next next n)
+      by_last true rest = omega (arith, with_one g (turns_by a f next n) (turn_to_next next n), rest)
       by_last false rest = omega (arith, ap (λ xs. sum_below (λ k. g (turn_at xs k)) (length xs)) (without_more (turns_by a f next n)), rest)
 
 -- terms that are no more, and no less in sum, are equal

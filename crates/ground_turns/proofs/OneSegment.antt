@@ -7,7 +7,7 @@ use Rattle.std.proofs.Math.Numerals.{suc-eq-add-one}
 use Rattle.sums.specs.Places.{list_below}
 use Rattle.sums.proofs.Places.{get_or-list_below, length-list_below}
 use Rattle.sums.proofs.Tests.{no_both}
-use Rattle.ground_turns.specs.Segments.{AreNumbers, EndAt, NoneBetween, NoneEnds, ends_at, is_among, is_marked, marked_before, minutes_of}
+use Rattle.ground_turns.specs.Segments.{AreNumbers, EndAt, NoneBetween, NoneEnds, ends_at, is_marked, is_minute_among, marked_before, span_of}
 use Rattle.ground_turns.specs.Turns.{minutes_round}
 use Rattle.ground_turns.proofs.Rounds.{bit, until_later, until_next}
 
@@ -33,13 +33,13 @@ same_number : (m n : ℕ) → not (m == n) ≡ false → m ≡ n
 same_number m n e = grind (arith, nat_tests)
 
 -- two minutes have one number exactly where no segment ends between
-pub none_between : (numbers : List ℕ) (from to : ℕ) → AreNumbers numbers → from ≤ to → to ≤ minutes_of numbers
+pub none_between : (numbers : List ℕ) (from to : ℕ) → AreNumbers numbers → from ≤ to → to ≤ span_of numbers
     → IsTrue (nat_eq (slice_index numbers from) (slice_index numbers to)) ↔ NoneBetween numbers from to
 none_between numbers from to h order within = (
   λ same. record {
     each = λ m after before.
-        let first = rising (slice_index numbers) (minutes_of numbers) from m h.rise after (omega arith) in
-        let last = rising (slice_index numbers) (minutes_of numbers) (suc m) to h.rise before within in
+        let first = rising (slice_index numbers) (span_of numbers) from m h.rise after (omega arith) in
+        let last = rising (slice_index numbers) (span_of numbers) (suc m) to h.rise before within in
         let one = h.rise m (omega arith) in
         let both = eqb-true (slice_index numbers from) (slice_index numbers to) same in
         no_end (slice_index numbers m) (slice_index numbers (suc m)) (omega arith);
@@ -83,38 +83,38 @@ round_only w r d m next ready before waits = less (at_next (until_next w r d nex
     less h = grind (arith, nat_tests)
 
 -- a wait that doesn't cross
-pub waits_later : (numbers : List ℕ) (r d : ℕ) → r ≤ d → d < minutes_of numbers → NoneBetween numbers r d ↔ NoneEnds numbers r d
+pub waits_later : (numbers : List ℕ) (r d : ℕ) → r ≤ d → d < span_of numbers → NoneBetween numbers r d ↔ NoneEnds numbers r d
 waits_later numbers r d order within = (
-  λ none. record { each = λ m moment waits. let at = in_wait_only (minutes_of numbers) r d m order within (omega arith) moment waits in none.each m at.0 at.1 },
-  λ none. record { each = λ m after before. none.each m (omega arith) (in_wait (minutes_of numbers) r d m order within after before) },
+  λ none. record { each = λ m moment waits. let at = in_wait_only (span_of numbers) r d m order within (omega arith) moment waits in none.each m at.0 at.1 },
+  λ none. record { each = λ m after before. none.each m (omega arith) (in_wait (span_of numbers) r d m order within after before) },
 )
 
 -- one that does
-pub waits_round : (numbers : List ℕ) (r d : ℕ) → d < r → r < minutes_of numbers
-    → (NoneBetween numbers r (minutes_of numbers) → NoneBetween numbers 0 d → NoneEnds numbers r d)
-    × (NoneEnds numbers r d → NoneBetween numbers r (minutes_of numbers) × NoneBetween numbers 0 d)
+pub waits_round : (numbers : List ℕ) (r d : ℕ) → d < r → r < span_of numbers
+    → (NoneBetween numbers r (span_of numbers) → NoneBetween numbers 0 d → NoneEnds numbers r d)
+    × (NoneEnds numbers r d → NoneBetween numbers r (span_of numbers) × NoneBetween numbers 0 d)
 waits_round numbers r d next ready = (
   λ first second. record {
     each = λ m moment waits. elim (cases_lt m r) [
-      | inl before ↦ second.each m (omega arith) (round_only (minutes_of numbers) r d m next ready before waits)
+      | inl before ↦ second.each m (omega arith) (round_only (span_of numbers) r d m next ready before waits)
       | inr after ↦ first.each m after moment
     ];
   },
   λ none. (
-    record { each = λ m after moment. none.each m moment (round_after (minutes_of numbers) r d m next ready after moment) },
-    record { each = λ m from before. none.each m (omega arith) (round_before (minutes_of numbers) r d m next ready before) },
+    record { each = λ m after moment. none.each m moment (round_after (span_of numbers) r d m next ready after moment) },
+    record { each = λ m from before. none.each m (omega arith) (round_before (span_of numbers) r d m next ready before) },
   ),
 )
 
 -- what the tests of the two parts of a wait that crosses tell
-pub told_round : (numbers : List ℕ) (r d minutes : ℕ) (first second : Bool) → minutes ≡ minutes_of numbers → d < r → r < minutes_of numbers
+pub told_round : (numbers : List ℕ) (r d minutes : ℕ) (first second : Bool) → minutes ≡ span_of numbers → d < r → r < span_of numbers
     → IsTrue first ↔ NoneBetween numbers r minutes → first ≡ true → IsTrue second ↔ NoneBetween numbers 0 d → IsTrue second ↔ NoneEnds numbers r d
 told_round numbers r d minutes first second whole next ready one passes other = (
   λ e. (waits_round numbers r d next ready).0 (subst (NoneBetween numbers r) whole (one.0 passes)) (other.0 e),
   λ none. other.1 ((waits_round numbers r d next ready).1 none).1,
 )
 
-pub told_not : (numbers : List ℕ) (r d minutes : ℕ) (first : Bool) → minutes ≡ minutes_of numbers → d < r → r < minutes_of numbers
+pub told_not : (numbers : List ℕ) (r d minutes : ℕ) (first : Bool) → minutes ≡ span_of numbers → d < r → r < span_of numbers
     → IsTrue first ↔ NoneBetween numbers r minutes → first ≡ false → IsTrue first ↔ NoneEnds numbers r d
 told_not numbers r d minutes first whole next ready one fails = (
   λ e. absurd (no_both fails e),
@@ -123,7 +123,7 @@ told_not numbers r d minutes first whole next ready one fails = (
 
 -- two numbers as they are read
 pub read_between : (items now : List ℕ) (from to i j x y : ℕ) → AreNumbers items → items ≡ now → i ≡ from → j ≡ to → x ≡ get_or items i x → y ≡ get_or items j y
-    → from ≤ to → to ≤ minutes_of now → IsTrue (nat_eq x y) ↔ NoneBetween now from to
+    → from ≤ to → to ≤ span_of now → IsTrue (nat_eq x y) ↔ NoneBetween now from to
 read_between items now from to i j x y h view at_from at_to first second order within =
     let size : length items ≡ length now = ap length view in
     let left : x ≡ slice_index now from =
@@ -134,7 +134,7 @@ read_between items now from to i j x y h view at_from at_to first second order w
 
 -- numbers that count marks
 module _ (marks : List Bool) (numbers : List ℕ) (are : numbers ≡ list_below (marked_before marks) (length marks + 1)) where
-  pub minutes_are : minutes_of numbers ≡ length marks
+  pub minutes_are : span_of numbers ≡ length marks
   minutes_are = let size = ap length are ∙ length-list_below (marked_before marks) (length marks + 1) in omega (arith, size)
 
   number_at : (m : ℕ) → m < length marks + 1 → slice_index numbers m ≡ marked_before marks m
@@ -147,7 +147,7 @@ module _ (marks : List Bool) (numbers : List ℕ) (are : numbers ≡ list_below 
     rise = λ m lt. omega (arith, number_at m (omega (arith, minutes_are, lt)), number_at (suc m) (omega (arith, minutes_are, lt)));
   }
 
-  ends_as_marked : (m : ℕ) → m < minutes_of numbers → ends_at numbers m ≡ is_marked marks m
+  ends_as_marked : (m : ℕ) → m < span_of numbers → ends_at numbers m ≡ is_marked marks m
   ends_as_marked m lt = ap (λ n. not (n == slice_index numbers (suc m))) (number_at m (omega (arith, minutes_are, lt)))
       ∙ ap (λ n. not (marked_before marks m == n)) (number_at (suc m) (omega (arith, minutes_are, lt))) ∙ by_mark (is_marked marks m) (marked_before marks m)
     where
@@ -155,11 +155,11 @@ module _ (marks : List Bool) (numbers : List ℕ) (are : numbers ≡ list_below 
       by_mark true n = grind (arith, nat_tests)
       by_mark false n = grind (arith, nat_tests)
 
-  pub end_at : (list : List ℕ) (minutes : ℕ) → marks ≡ list_below (is_among list) minutes → EndAt list numbers
-  end_at list minutes e = record { each = λ m lt. ends_as_marked m lt ∙ ap (λ xs. is_marked xs m) e ∙ get_or-list_below (is_among list) minutes m false (within m lt) }
+  pub end_at : (list : List ℕ) (minutes : ℕ) → marks ≡ list_below (is_minute_among list) minutes → EndAt list numbers
+  end_at list minutes e = record { each = λ m lt. ends_as_marked m lt ∙ ap (λ xs. is_marked xs m) e ∙ get_or-list_below (is_minute_among list) minutes m false (within m lt) }
     where
-      within : (m : ℕ) → m < minutes_of numbers → m < minutes
-      within m lt = omega (arith, lt, minutes_are, ap length e ∙ length-list_below (is_among list) minutes)
+      within : (m : ℕ) → m < span_of numbers → m < minutes
+      within m lt = omega (arith, lt, minutes_are, ap length e ∙ length-list_below (is_minute_among list) minutes)
 
 -- one mark more
 pub counted_more : (marks : List Bool) (i old new : ℕ) (b : Bool) → is_marked marks i ≡ b → old ≡ marked_before marks i → new ≡ old + bit b → new ≡ marked_before marks (i + 1)

@@ -18,7 +18,7 @@ use Rattle.fleet_model.proofs.PeriodMinutes.{by_last, in_period}
 use Rattle.fleet_model.proofs.PlainTables.{plain_arrived, plain_departed, plain_departs}
 use Rattle.ground_turns.specs.FirstOut.{AreFirstOut, IsFirstOut, departure_place, free_departed, free_excess, free_landed, free_landings, free_need, is_free_departure, is_free_landing, landing_place}
 use Rattle.ground_turns.specs.Laws.{SomeFits, surplus_at}
-use Rattle.ground_turns.specs.Maps.{Holds, IsFitting, IsHeld, IsNext, IsSuccessorMap, crossings_at, turn_by, turns_by}
+use Rattle.ground_turns.specs.Maps.{Holds, IsFitting, IsHeldByMap, IsNext, IsSuccessorMap, crossings_at, turn_to_next, turns_by}
 use Rattle.ground_turns.specs.Turns.{IsTurn}
 use Rattle.ground_turns.proofs.Fits.{periods_beyond_use}
 use Rattle.sums.proofs.Rounds.{mod_cases}
@@ -165,7 +165,7 @@ module _ (t : Tables) (a : List ℕ) (f : ℕ) (plain : IsPlain t) (balanced : I
       (lands l flies) (subst (λ at. is_free_landing t a f [] at k ≡ true) same (lands k flies'))
       (sym (landing_is t a f [] s l below) ∙ places ∙ landing_is t a f [] s k within)
 
-  a_turn : (l : ℕ) → l < legs_in t → in_fleet l ≡ true → IsTurn t a f (turn_by next l)
+  a_turn : (l : ℕ) → l < legs_in t → in_fleet l ≡ true → IsTurn t a f (turn_to_next next l)
   a_turn l below flies = record {
     arriving = below;
     departing = (next_is l below flies).0;
@@ -208,7 +208,7 @@ module _ (t : Tables) (a : List ℕ) (f : ℕ) (plain : IsPlain t) (balanced : I
       let zeros = sum_below-agree (surplus_at t a f turns) (λ s. 0) (stations_in t) (record { each = λ s below. let less = crosses_needed s in omega arith }) in
       record { map = map; fits = omega (arith, periods_beyond_use t a f turns map, zeros, sum_below-zero (stations_in t)) }
 
-  pub is_held : IsHeld t a f []
+  pub is_held : IsHeldByMap t a f []
   is_held = record { turns = turns; fitting = fitting; holds = holds }
 
 pub some_fits : SomeFits

@@ -10,10 +10,10 @@ use Rattle.fleet_model.specs.Use.{IsBalanced, need_of, stand_of, used_of}
 use Rattle.fleet_model.specs.Plain.{IsPlain}
 use Rattle.fleet_model.specs.Times.{departure}
 use Rattle.ground_turns.specs.FirstOut.{AreFirstOut}
-use Rattle.ground_turns.specs.Maps.{AreClean, AreExchanged, Holds, IsFitting, IsHeld, IsNext, IsSuccessorMap, IsTour, arrivals_of, crossings_at, periods_in_turn, periods_of, turn_at, turns_by, turns_round, waiting_at}
+use Rattle.ground_turns.specs.Maps.{AreClean, AreExchanged, Holds, IsFitting, IsHeldByMap, IsNext, IsSuccessorMap, IsTour, arrivals_of, crossings_at, periods_in_turn, periods_of, turn_at, turns_by, turns_round, waiting_at}
 use Rattle.ground_turns.specs.Nights.{IsKeptFor, is_short, maintained_in, nights_at_maintenance, nights_in, nights_in_turns}
 use Rattle.ground_turns.specs.Parts.{KeepsPart, NeverTouches}
-use Rattle.ground_turns.specs.Segments.{EndAt, NoneEnds, is_among, minutes_of}
+use Rattle.ground_turns.specs.Segments.{EndAt, NoneEnds, is_minute_among, span_of}
 use Rattle.ground_turns.specs.declared.nights.Night.{Night}
 use Rattle.ground_turns.specs.Turns.{IsClean, departs_at, minutes_until, nights_waited, ready_at, station_at, touches, wait_of}
 
@@ -134,7 +134,7 @@ ExchangedHolds = (given old new : List Connection) (i j : ℕ) → Holds old giv
 
 -- where some fitting map holds given pairs, a map that holds them fits if aircraft depart first in, first out beside them
 abbrev pub FirstOutFits : Type 0
-FirstOutFits = (t : Tables) (a : List ℕ) (f : ℕ) (given turns : List Connection) → IsHeld t a f given → IsSuccessorMap t a f turns → Holds turns given
+FirstOutFits = (t : Tables) (a : List ℕ) (f : ℕ) (given turns : List Connection) → IsHeldByMap t a f given → IsSuccessorMap t a f turns → Holds turns given
     → AreFirstOut t a f given turns → IsFitting t a f turns
 
 -- two turns at a station that are none of the given pairs; where both aircraft become ready in one minute, the first has
@@ -166,16 +166,16 @@ TourIsWhole = (t : Tables) (a : List ℕ) (f : ℕ) (legs : List ℕ) (inside : 
 
 -- where as many aircraft of a fleet come to each station as leave it, some map fits on plain tables
 abbrev pub SomeFits : Type 0
-SomeFits = (t : Tables) (a : List ℕ) (f : ℕ) → IsPlain t → IsBalanced t (weights_of a) → f < fleets_in t → IsHeld t a f []
+SomeFits = (t : Tables) (a : List ℕ) (f : ℕ) → IsPlain t → IsBalanced t (weights_of a) → f < fleets_in t → IsHeldByMap t a f []
 
 -- the list has those minutes at whose end none of the fleet's aircraft stands at the station
 pub record AreBareMinutes (t : Tables) (a : List ℕ) (f s : ℕ) (minutes : List ℕ) : Type 0 where
-  pub each : (m : ℕ) → m < period_of t → is_among minutes m ≡ (stand_of t (weights_of a) f s m == 0)
+  pub each : (m : ℕ) → m < period_of t → is_minute_among minutes m ≡ (stand_of t (weights_of a) f s m == 0)
 
 -- segments that end with these minutes tell whether a turn at the station is clean
 abbrev pub SegmentsTellClean : Type 0
 SegmentsTellClean = (t : Tables) (a : List ℕ) (f : ℕ) (turn : Connection) (minutes numbers : List ℕ) → AreBareMinutes t a f (station_at t turn) minutes
-    → minutes_of numbers ≡ period_of t → EndAt minutes numbers → (NoneEnds numbers (ready_at t f turn) (departs_at t f turn) ↔ IsClean t a f turn)
+    → span_of numbers ≡ period_of t → EndAt minutes numbers → (NoneEnds numbers (ready_at t f turn) (departs_at t f turn) ↔ IsClean t a f turn)
 
 -- where the next of each leg makes a turn with it and no two have the same, these turns are a successor map on plain tables
 abbrev pub NextIsMap : Type 0

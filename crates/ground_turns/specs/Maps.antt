@@ -33,16 +33,16 @@ pub record IsSuccessorMap (t : Tables) (a : List ℕ) (f : ℕ) (turns : List Co
   pub departs : (l : ℕ) → l < legs_in t → departures_of turns l ≡ weights_of a (leg_on l f)
 
 -- the turns of the fleet's first legs, in the order of those that arrive, where for each of them the next is given
-abbrev pub turn_by : (ℕ → ℕ) → ℕ → Connection
-turn_by next l = record { arriving = l; departing = next l }
+abbrev pub turn_to_next : (ℕ → ℕ) → ℕ → Connection
+turn_to_next next l = record { arriving = l; departing = next l }
 
 abbrev pub turns_by : List ℕ → ℕ → (ℕ → ℕ) → ℕ → List Connection
 turns_by a f next zero = []
-turns_by a f next (suc n) = turns_by a f next n ++ (if choice_at a n == f then turn_by next n ∷ [] else [])
+turns_by a f next (suc n) = turns_by a f next n ++ (if choice_at a n == f then turn_to_next next n ∷ [] else [])
 
 -- the next of each of the fleet's legs makes a turn with it, and no two have the same
 pub record IsNext (t : Tables) (a : List ℕ) (f : ℕ) (next : ℕ → ℕ) : Type 0 where
-  pub turn : (l : ℕ) → l < legs_in t → choice_at a l ≡ f → IsTurn t a f (turn_by next l)
+  pub turn : (l : ℕ) → l < legs_in t → choice_at a l ≡ f → IsTurn t a f (turn_to_next next l)
   pub once : (l k : ℕ) → l < legs_in t → k < legs_in t → choice_at a l ≡ f → choice_at a k ≡ f → next l ≡ next k → l ≡ k
 
 -- all turns are clean
@@ -89,7 +89,7 @@ pub record Holds (turns pairs : List Connection) : Type 0 where
   pub each : (k : ℕ) → k < length pairs → HasTurn turns (turn_at pairs k)
 
 -- some fitting map holds the pairs
-pub record IsHeld (t : Tables) (a : List ℕ) (f : ℕ) (pairs : List Connection) : Type 0 where
+pub record IsHeldByMap (t : Tables) (a : List ℕ) (f : ℕ) (pairs : List Connection) : Type 0 where
   pub turns : List Connection
   pub fitting : IsFitting t a f turns
   pub holds : Holds turns pairs

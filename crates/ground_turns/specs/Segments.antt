@@ -5,8 +5,8 @@ use Rattle.sums.specs.Below.{count_below}
 use Rattle.ground_turns.specs.Turns.{minutes_round}
 
 -- the number of the segment of each minute, and last the number of that which the next period begins with, counted on
-abbrev pub minutes_of : List ℕ → ℕ
-minutes_of numbers = length numbers - 1
+abbrev pub span_of : List ℕ → ℕ
+span_of numbers = length numbers - 1
 
 -- a segment ends with the minute
 abbrev pub ends_at : List ℕ → ℕ → Bool
@@ -15,15 +15,15 @@ ends_at numbers m = not (slice_index numbers m == slice_index numbers (suc m))
 pub record AreNumbers (numbers : List ℕ) : Type 0 where
   pub some : 1 < length numbers
   pub few : length numbers ≤ 2 ^ 16
-  pub rise : (m : ℕ) → m < minutes_of numbers → slice_index numbers m ≤ slice_index numbers (suc m)
+  pub rise : (m : ℕ) → m < span_of numbers → slice_index numbers m ≤ slice_index numbers (suc m)
 
 -- the minute is one of the list
-abbrev pub is_among : List ℕ → ℕ → Bool
-is_among minutes m = list_any (λ minute. minute == m) minutes
+abbrev pub is_minute_among : List ℕ → ℕ → Bool
+is_minute_among minutes m = list_any (λ minute. minute == m) minutes
 
 -- segments end with the minutes of the list, and no others
 pub record EndAt (minutes numbers : List ℕ) : Type 0 where
-  pub each : (m : ℕ) → m < minutes_of numbers → ends_at numbers m ≡ is_among minutes m
+  pub each : (m : ℕ) → m < span_of numbers → ends_at numbers m ≡ is_minute_among minutes m
 
 -- no segment ends from one minute on and before another
 pub record NoneBetween (numbers : List ℕ) (from to : ℕ) : Type 0 where
@@ -31,8 +31,8 @@ pub record NoneBetween (numbers : List ℕ) (from to : ℕ) : Type 0 where
 
 -- no segment ends while an aircraft waits that is ready in one minute and departs in another
 pub record NoneEnds (numbers : List ℕ) (ready departure : ℕ) : Type 0 where
-  pub each : (m : ℕ) → m < minutes_of numbers
-      → IsTrue (nat_lt (minutes_round (minutes_of numbers) ready m) (minutes_round (minutes_of numbers) ready departure))
+  pub each : (m : ℕ) → m < span_of numbers
+      → IsTrue (nat_lt (minutes_round (span_of numbers) ready m) (minutes_round (span_of numbers) ready departure))
       → ends_at numbers m ≡ false
 
 -- how many of the marks stand before a place

@@ -4,25 +4,25 @@ use Rattle.sums.specs.Below.{sum_below_ℤ}
 use Rattle.fleet_model.specs.declared.parts.Connection.{Connection}
 use Rattle.fleet_model.specs.declared.parts.Through.{Through}
 use Rattle.fleet_model.specs.declared.tables.Tables.{Tables}
-use Rattle.ground_turns.specs.Maps.{IsHeld, turn_at}
+use Rattle.ground_turns.specs.Maps.{IsHeldByMap, turn_at}
 use Rattle.ground_turns.specs.Turns.{IsClean, IsTurn, nights_waited, wait_of}
 
 -- the entry is of these two legs
-abbrev pub is_of : Connection → Through → Bool
-is_of pair entry = (entry.arriving == pair.arriving) && (entry.departing == pair.departing)
+abbrev pub is_through_of : Connection → Through → Bool
+is_through_of pair entry = (entry.arriving == pair.arriving) && (entry.departing == pair.departing)
 
 -- what the first entry of these two legs is worth, and nothing where there is none
-abbrev pub value_in : List Through → Connection → Option ℤ
-value_in [] pair = None
-value_in (entry ∷ entries) pair = if is_of pair entry then Some entry.value else value_in entries pair
+abbrev pub through_value_in : List Through → Connection → Option ℤ
+through_value_in [] pair = None
+through_value_in (entry ∷ entries) pair = if is_through_of pair entry then Some entry.value else through_value_in entries pair
 
 -- what a through pair of the tables is worth
-abbrev pub value_of : Tables → Connection → Option ℤ
-value_of t pair = value_in t.throughs pair
+abbrev pub through_value : Tables → Connection → Option ℤ
+through_value t pair = through_value_in t.throughs pair
 
 -- a through pair of the tables that the fleet can fly by the assignment: a clean turn, not too long, with no night
 pub record IsThroughTurn (t : Tables) (a : List ℕ) (f : ℕ) (pair : Connection) : Type 0 where
-  pub listed : IsSome (value_of t pair)
+  pub listed : IsSome (through_value t pair)
   pub turn : IsTurn t a f pair
   pub clean : IsClean t a f pair
   pub no_night : nights_waited t f pair ≡ 0
@@ -37,11 +37,11 @@ pub record AreApart (pairs : List Connection) : Type 0 where
 pub record IsThroughSet (t : Tables) (a : List ℕ) (f : ℕ) (pairs : List Connection) : Type 0 where
   pub each : (k : ℕ) → k < length pairs → IsThroughTurn t a f (turn_at pairs k)
   pub apart : AreApart pairs
-  pub held : IsHeld t a f pairs
+  pub held : IsHeldByMap t a f pairs
 
 -- what they are worth, added up
-abbrev pub worth_at : Tables → List Connection → ℕ → ℤ
-worth_at t pairs k = unwrap_or (value_of t (turn_at pairs k)) (pos 0)
+abbrev pub through_worth_at : Tables → List Connection → ℕ → ℤ
+through_worth_at t pairs k = unwrap_or (through_value t (turn_at pairs k)) (pos 0)
 
 unfoldable pub value_of_set : Tables → List Connection → ℤ
-value_of_set t pairs = sum_below_ℤ (worth_at t pairs) (length pairs)
+value_of_set t pairs = sum_below_ℤ (through_worth_at t pairs) (length pairs)

@@ -1,7 +1,7 @@
 ghost use Rattle.std.specs.Prelude.{◌≡◌, ◌<◌, ◌≤◌, ◌+◌, ◌↔◌, ◌^◌, IfOk, IsTrue, false, length, slice_index_or, suc};
 ghost use Rattle.sums.specs.Below.{count_below};
 ghost use Rattle.sums.specs.Places.{list_below};
-ghost use Rattle.ground_turns.specs.Segments.{EndAt, NoneBetween, NoneEnds, is_among, marked_before, minutes_of};
+ghost use Rattle.ground_turns.specs.Segments.{EndAt, NoneBetween, NoneEnds, is_minute_among, marked_before, span_of};
 
 use entries::NoMemory;
 use std::alloc::Global;
@@ -31,7 +31,7 @@ impl Segments {
     pub fn new(alloc: Global, minutes: u16, ends: &[u16]) -> Result<Segments, NoMemory>
         requires some { 0 < minutes }
         requires few { minutes ≤ 20160 }
-        ensures minutes { IfOk result (λ segments. minutes_of segments ≡ minutes) }
+        ensures minutes { IfOk result (λ segments. span_of segments ≡ minutes) }
         ensures ends { IfOk result (λ segments. EndAt ends.now segments) }
     {
         let marks = marks(alloc, minutes, ends)?;
@@ -42,8 +42,8 @@ impl Segments {
     /// Whether no segment ends while an aircraft waits that is ready in one minute and departs in another, going
     /// round. Takes no memory.
     pub fn is_clean(&self, ready: u16, departure: u16) -> bool
-        requires ready { ready < minutes_of self.now }
-        requires departure { departure < minutes_of self.now }
+        requires ready { ready < span_of self.now }
+        requires departure { departure < span_of self.now }
         ensures { IsTrue result ↔ NoneEnds self.now ready departure }
     {
         let minutes = (self.numbers.len() - 1) as u16;
@@ -57,7 +57,7 @@ impl Segments {
     // Whether no segment ends from one minute on and before another, in which the period may end.
     fn is_one(&self, from: u16, to: u16) -> bool
         requires order { from ≤ to }
-        requires within { to ≤ minutes_of self.now }
+        requires within { to ≤ span_of self.now }
         ensures { IsTrue result ↔ NoneBetween self.now from to }
     {
         self.numbers[usize::from(from)] == self.numbers[usize::from(to)]
@@ -66,7 +66,7 @@ impl Segments {
 
 // Of each of so many minutes, whether it is one of the list.
 fn marks(alloc: Global, minutes: u16, list: &[u16]) -> Result<Vec<bool>, NoMemory>
-    ensures { IfOk result (λ marks. marks.items ≡ list_below (is_among list.now) minutes) }
+    ensures { IfOk result (λ marks. marks.items ≡ list_below (is_minute_among list.now) minutes) }
 {
     let mut marks = vec![in alloc; false; usize::from(minutes)]?;
     for minute in list {

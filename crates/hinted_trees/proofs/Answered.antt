@@ -15,7 +15,7 @@ use Rattle.cert_check.specs.Nodes.{Node, nodes_in}
 use Rattle.cert_check.specs.Walking.{AreWalked, IsOwnBound}
 use Rattle.cert_check.specs.declared.reached.Reached.{Reached}
 use Rattle.node_bounding.specs.Found.{FallsShort}
-use Rattle.hinted_trees.specs.Parts.{AreAnswered, FallsBelow, IsAnswered, IsCovered, IsToldAnswered}
+use Rattle.hinted_trees.specs.Parts.{AreAnswered, FallsBelow, IsCovered, IsNodeAnswered, IsToldAnswered}
 use Rattle.node_bounding.proofs.Nodes.{node}
 
 -- ---- a leaf, by the test of its bound
@@ -36,14 +36,14 @@ module _ (t : Tables) (cost : Option ℤ) (keeps : Domains) where
       let gone : Some b ≡ None = is.none nothing in cc
 
   pub sole_test : (whole : Tree) (bound : Option ℤ) (b : Bool) → whole ≡ tree.Sole → IsOwnBound t keeps whole bound → MatchBool b (IsCovered cost bound) (¬ (IsCovered cost bound))
-      → MatchBool b (IsAnswered t cost (node keeps whole)) (¬ (IsAnswered t cost (node keeps whole)))
+      → MatchBool b (IsNodeAnswered t cost (node keeps whole)) (¬ (IsNodeAnswered t cost (node keeps whole)))
   sole_test whole bound b e own test =
-      subst (λ w. MatchBool b (IsAnswered t cost (node keeps w)) (¬ (IsAnswered t cost (node keeps w)))) (sym e) (by_test b test)
+      subst (λ w. MatchBool b (IsNodeAnswered t cost (node keeps w)) (¬ (IsNodeAnswered t cost (node keeps w)))) (sym e) (by_test b test)
     where
       is : IsSoleBound t keeps bound
       is = subst (λ w. IsOwnBound t keeps w bound) e own
 
-      by_test : (b : Bool) → MatchBool b (IsCovered cost bound) (¬ (IsCovered cost bound)) → MatchBool b (IsAnswered t cost (node keeps tree.Sole)) (¬ (IsAnswered t cost (node keeps tree.Sole)))
+      by_test : (b : Bool) → MatchBool b (IsCovered cost bound) (¬ (IsCovered cost bound)) → MatchBool b (IsNodeAnswered t cost (node keeps tree.Sole)) (¬ (IsNodeAnswered t cost (node keeps tree.Sole)))
       by_test true covered = record {
         sole = record { answers = λ same a kept legal. covered_at bound (total_cost t a) (is.legal a kept legal) covered };
         gap = record { gap = λ prices why other. absurd (cc) };
@@ -60,9 +60,9 @@ module _ (t : Tables) (cost : Option ℤ) (keeps : Domains) where
   below_of prices bound (Some c) some is short = rw is.is (omega (arith, ints, short.short, same_ceiling _ _ is.least short.least some is.rounded short.rounded))
 
   pub open_test : (whole : Tree) (prices : Prices) (why : Cause) (bound : Option ℤ) (b : Bool) → whole ≡ tree.Open prices why → pos 1 ≤ℤ prices.scale → IsOwnBound t keeps whole bound
-      → MatchBool b (FallsBelow cost bound) (¬ (FallsBelow cost bound)) → MatchBool b (IsAnswered t cost (node keeps whole)) (¬ (IsAnswered t cost (node keeps whole)))
+      → MatchBool b (FallsBelow cost bound) (¬ (FallsBelow cost bound)) → MatchBool b (IsNodeAnswered t cost (node keeps whole)) (¬ (IsNodeAnswered t cost (node keeps whole)))
   open_test whole prices why bound b e some own test =
-      subst (λ w. MatchBool b (IsAnswered t cost (node keeps w)) (¬ (IsAnswered t cost (node keeps w)))) (sym e) (by_test b test)
+      subst (λ w. MatchBool b (IsNodeAnswered t cost (node keeps w)) (¬ (IsNodeAnswered t cost (node keeps w)))) (sym e) (by_test b test)
     where
       is : IsPriceBound t keeps prices bound
       is = subst (λ w. IsOwnBound t keeps w bound) e own
@@ -71,7 +71,7 @@ module _ (t : Tables) (cost : Option ℤ) (keeps : Domains) where
       gap_at falls other cause same = let prices_are : prices ≡ other = cc in subst (λ p. IfSome cost (FallsShort t keeps p)) prices_are (short_of prices bound cost is falls.falls)
 
       by_test : (b : Bool) → MatchBool b (FallsBelow cost bound) (¬ (FallsBelow cost bound))
-          → MatchBool b (IsAnswered t cost (node keeps (tree.Open prices why))) (¬ (IsAnswered t cost (node keeps (tree.Open prices why))))
+          → MatchBool b (IsNodeAnswered t cost (node keeps (tree.Open prices why))) (¬ (IsNodeAnswered t cost (node keeps (tree.Open prices why))))
       by_test true falls = record {
         sole = record { answers = λ same. absurd (cc) };
         gap = record { gap = gap_at falls };
@@ -81,24 +81,24 @@ module _ (t : Tables) (cost : Option ℤ) (keeps : Domains) where
 -- ---- a tree
 -- what a walk finds of its nodes, it finds of all
 told : (t : Tables) (cost : Option ℤ) (nodes : List Node) (before after : Reached) (ended : Bool) → AreWalked (IsToldAnswered t cost) nodes before after ended
-    → MatchBool ended (¬ (All (IsAnswered t cost) nodes)) (All (IsAnswered t cost) nodes)
+    → MatchBool ended (¬ (All (IsNodeAnswered t cost) nodes)) (All (IsNodeAnswered t cost) nodes)
 told t cost [] before after true is = absurd (let e = is.0 in cc)
-told t cost [] before after false is = All-nil (IsAnswered t cost)
-told t cost (one ∷ nodes) before after true (inl here) = λ all. here.found (All-head (IsAnswered t cost) one nodes all)
-told t cost (one ∷ nodes) before after true (inr on) = λ all. told t cost nodes on.between after true on.visited (All-tail (IsAnswered t cost) one nodes all)
+told t cost [] before after false is = All-nil (IsNodeAnswered t cost)
+told t cost (one ∷ nodes) before after true (inl here) = λ all. here.found (All-head (IsNodeAnswered t cost) one nodes all)
+told t cost (one ∷ nodes) before after true (inr on) = λ all. told t cost nodes on.between after true on.visited (All-tail (IsNodeAnswered t cost) one nodes all)
 told t cost (one ∷ nodes) before after false (inl here) = absurd (let e = here.ends in cc)
-told t cost (one ∷ nodes) before after false (inr on) = All-cons (IsAnswered t cost) one nodes on.passed (told t cost nodes on.between after false on.visited)
+told t cost (one ∷ nodes) before after false (inr on) = All-cons (IsNodeAnswered t cost) one nodes on.passed (told t cost nodes on.between after false on.visited)
 
 pub tree_told : (t : Tables) (cost : Option ℤ) (keeps : Domains) (whole : Tree) (before after : Reached) (ended : Bool) → keeps ≡ all_pairs t → AreWalked (IsToldAnswered t cost) (nodes_in keeps whole) before after ended
     → MatchBool (not ended) (AreAnswered t cost (all_pairs t) whole) (¬ (AreAnswered t cost (all_pairs t) whole))
 tree_told t cost keeps whole before after ended e visited = by_end ended (told t cost (nodes_in (all_pairs t) whole) before after ended (subst (λ k. AreWalked (IsToldAnswered t cost) (nodes_in k whole) before after ended) e visited))
   where
-    by_end : (b : Bool) → MatchBool b (¬ (All (IsAnswered t cost) (nodes_in (all_pairs t) whole))) (All (IsAnswered t cost) (nodes_in (all_pairs t) whole))
+    by_end : (b : Bool) → MatchBool b (¬ (All (IsNodeAnswered t cost) (nodes_in (all_pairs t) whole))) (All (IsNodeAnswered t cost) (nodes_in (all_pairs t) whole))
         → MatchBool (not b) (AreAnswered t cost (all_pairs t) whole) (¬ (AreAnswered t cost (all_pairs t) whole))
     by_end true other = λ all. other all.each
     by_end false all = record { each = all }
 
 -- what is found of a node by its own test
-pub node_told : (t : Tables) (cost : Option ℤ) (one : Node) (before after : Reached) (b : Bool) → MatchBool b (IsAnswered t cost one) (¬ (IsAnswered t cost one)) → IsToldAnswered t cost one before after (not b)
+pub node_told : (t : Tables) (cost : Option ℤ) (one : Node) (before after : Reached) (b : Bool) → MatchBool b (IsNodeAnswered t cost one) (¬ (IsNodeAnswered t cost one)) → IsToldAnswered t cost one before after (not b)
 node_told t cost one before after true is = is
 node_told t cost one before after false is = is

@@ -8,17 +8,17 @@ use Rattle.dual_bound.specs.Bound.{IsBound}
 use Rattle.dual_bound.specs.Leaves.{has_open}
 use Rattle.dual_bound.specs.declared.solved.Solved.TheVariants as solved
 use Rattle.dual_bound.specs.declared.trees.Tree.{Tree}
-use Rattle.cert_check.specs.Nodes.{nodes_of}
+use Rattle.cert_check.specs.Nodes.{nodes_of_tree}
 use Rattle.cert_check.specs.Verdicts.{BoundsAll, HoldsWith}
 use Rattle.node_bounding.specs.Found.{AnswersSole, LeavesGap}
-use Rattle.node_bounding.specs.Subproblems.{IsPlan, cost_of}
+use Rattle.node_bounding.specs.Subproblems.{IsPlan, cost_of_plan}
 use Rattle.node_bounding.specs.declared.plans.Plan.{Plan}
 use Rattle.hinted_trees.specs.FreeTrees.{IsFreeTreeOf, IsFreelySolved}
-use Rattle.hinted_trees.specs.Parts.{AreAnswered, IsAnswered, IsWritten, SpendsSplits, go_together, settled}
+use Rattle.hinted_trees.specs.Parts.{AreAnswered, IsNodeAnswered, IsTreeWritten, SpendsSplits, go_together, settled}
 
 module _ (t : Tables) (nodes : ℕ) (whole : Tree) where
   -- what was tested of a tree
-  free_tree : (cost bound : Option ℤ) → IsWritten t whole → HoldsWith t cost whole bound → SpendsSplits nodes whole → AreAnswered t cost (all_pairs t) whole → IsFreeTreeOf t nodes cost whole
+  free_tree : (cost bound : Option ℤ) → IsTreeWritten t whole → HoldsWith t cost whole bound → SpendsSplits nodes whole → AreAnswered t cost (all_pairs t) whole → IsFreeTreeOf t nodes cost whole
   free_tree cost bound written holds spent answered = record {
     of_tables = written.of_tables;
     in_order = written.in_order;
@@ -28,8 +28,8 @@ module _ (t : Tables) (nodes : ℕ) (whole : Tree) where
     all_spent = spent.all_spent;
     no_pivots = spent.no_pivots;
     none_grew = spent.none_grew;
-    soles = All-weaker (IsAnswered t cost) (AnswersSole t cost) (λ n is. is.sole) (nodes_of t whole) answered.each;
-    gaps = All-weaker (IsAnswered t cost) (LeavesGap t cost) (λ n is. is.gap) (nodes_of t whole) answered.each;
+    soles = All-weaker (IsNodeAnswered t cost) (AnswersSole t cost) (λ n is. is.sole) (nodes_of_tree t whole) answered.each;
+    gaps = All-weaker (IsNodeAnswered t cost) (LeavesGap t cost) (λ n is. is.gap) (nodes_of_tree t whole) answered.each;
   }
 
   module _ (plan : Plan) (is : IsPlan t plan) (bound : ℤ) (proved : IsFreeTreeOf t nodes (Some plan.cost) whole) (bounded : IsBound t whole (Some bound)) (all : BoundsAll t (Some bound)) where
@@ -55,13 +55,13 @@ module _ (t : Tables) (nodes : ℕ) (whole : Tree) where
   without_bound true is_open proved bounded all = tt
   without_bound false shut proved bounded all = record { right = record { none = all; closed = shut; no_bound = bounded }; proved = proved }
 
-  together : (best : Option Plan) (bound : Option ℤ) → IfSome best (IsPlan t) → IsFreeTreeOf t nodes (cost_of best) whole → IsBound t whole bound → BoundsAll t bound
+  together : (best : Option Plan) (bound : Option ℤ) → IfSome best (IsPlan t) → IsFreeTreeOf t nodes (cost_of_plan best) whole → IsBound t whole bound → BoundsAll t bound
       → IfSome (settled best bound whole) (IsFreelySolved t nodes)
   together (Some plan) (Some bound) is proved bounded all = with_plan plan is bound proved bounded all (has_open whole) (go_together (has_open whole) bound plan.cost) refl refl
   together (Some plan) None is proved bounded all = tt
   together None (Some bound) is proved bounded all = without_plan (has_open whole) refl bound proved bounded all
   together None None is proved bounded all = without_bound (has_open whole) refl proved bounded all
 
-  pub solves : (best : Option Plan) (bound : Option ℤ) → IfSome best (IsPlan t) → IsWritten t whole → HoldsWith t (cost_of best) whole bound → BoundsAll t bound → SpendsSplits nodes whole
-      → AreAnswered t (cost_of best) (all_pairs t) whole → IfSome (settled best bound whole) (IsFreelySolved t nodes)
-  solves best bound is written holds all spent answered = together best bound is (free_tree (cost_of best) bound written holds spent answered) holds.bounded all
+  pub solves : (best : Option Plan) (bound : Option ℤ) → IfSome best (IsPlan t) → IsTreeWritten t whole → HoldsWith t (cost_of_plan best) whole bound → BoundsAll t bound → SpendsSplits nodes whole
+      → AreAnswered t (cost_of_plan best) (all_pairs t) whole → IfSome (settled best bound whole) (IsFreelySolved t nodes)
+  solves best bound is written holds all spent answered = together best bound is (free_tree (cost_of_plan best) bound written holds spent answered) holds.bounded all

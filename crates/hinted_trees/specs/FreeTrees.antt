@@ -8,7 +8,7 @@ use Rattle.dual_bound.specs.Solved.{plan_cost, tree_of}
 use Rattle.dual_bound.specs.WrittenOrder.{InWrittenOrder, IsShallow}
 use Rattle.dual_bound.specs.declared.solved.Solved.{Solved}
 use Rattle.dual_bound.specs.declared.trees.Tree.{Tree}
-use Rattle.cert_check.specs.Nodes.{nodes_of}
+use Rattle.cert_check.specs.Nodes.{nodes_of_tree}
 use Rattle.cert_check.specs.Verdicts.{AreSound}
 use Rattle.node_bounding.specs.Found.{AnswersSole, LeavesGap}
 use Rattle.branch_bound.specs.Solved.{IsRight}
@@ -26,8 +26,8 @@ pub record IsFreeTreeOf (t : Tables) (nodes : ℕ) (cost : Option ℤ) (tree : T
   pub all_spent : has_open tree ≡ true → splits_in tree ≡ nodes
   pub no_pivots : open_pivots tree ≡ 0
   pub none_grew : open_grew tree ≡ 0
-  pub soles : All (AnswersSole t cost) (nodes_of t tree)
-  pub gaps : All (LeavesGap t cost) (nodes_of t tree)
+  pub soles : All (AnswersSole t cost) (nodes_of_tree t tree)
+  pub gaps : All (LeavesGap t cost) (nodes_of_tree t tree)
 
 -- a solution of tables by a tree of at most so many splits, found in any way
 pub record IsFreelySolved (t : Tables) (nodes : ℕ) (s : Solved) : Type 0 where

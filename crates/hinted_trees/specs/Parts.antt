@@ -15,7 +15,7 @@ use Rattle.node_bounding.specs.Found.{AnswersSole, LeavesGap}
 use Rattle.node_bounding.specs.declared.plans.Plan.{Plan}
 
 -- a tree as a reader gives it: of the tables, in written order, and no deeper than it takes
-pub record IsWritten (t : Tables) (tree : Tree) : Type 0 where
+pub record IsTreeWritten (t : Tables) (tree : Tree) : Type 0 where
   pub of_tables : IsOfTables t tree
   pub in_order : InWrittenOrder t tree
   pub shallow : IsShallow tree
@@ -40,18 +40,18 @@ pub record FallsBelow (cost bound : Option ℤ) : Type 0 where
   pub falls : IfSome cost (λ c. IsSomeAnd bound (λ b. b <ℤ c))
 
 -- a node is answered by the cost of the plan, if any: a sole leaf holds no cheaper one, and an open leaf doesn't reach it
-pub record IsAnswered (t : Tables) (cost : Option ℤ) (node : Node) : Type 0 where
+pub record IsNodeAnswered (t : Tables) (cost : Option ℤ) (node : Node) : Type 0 where
   pub sole : AnswersSole t cost node
   pub gap : LeavesGap t cost node
 
 -- all nodes of a tree are
 pub record AreAnswered (t : Tables) (cost : Option ℤ) (keeps : Domains) (tree : Tree) : Type 0 where
-  pub each : All (IsAnswered t cost) (nodes_in keeps tree)
+  pub each : All (IsNodeAnswered t cost) (nodes_in keeps tree)
 
 -- what a walk finds of a node: it is answered, or the walk ends there
 abbrev pub IsToldAnswered : Tables → Option ℤ → Node → Reached → Reached → Bool → Type 0
-IsToldAnswered t cost node before after false = IsAnswered t cost node
-IsToldAnswered t cost node before after true = ¬ (IsAnswered t cost node)
+IsToldAnswered t cost node before after false = IsNodeAnswered t cost node
+IsToldAnswered t cost node before after true = ¬ (IsNodeAnswered t cost node)
 
 -- ---- a plan, a bound and a tree together
 
@@ -60,8 +60,8 @@ abbrev pub go_together : Bool → ℤ → ℤ → Bool
 go_together true bound cost = int_lt bound cost
 go_together false bound cost = int_eq bound cost
 
-abbrev pub planned : Plan → ℤ → Tree → Option Solved
-planned plan bound tree = if go_together (has_open tree) bound plan.cost then Some (solved.Planned plan.assignment plan.cost bound tree) else None
+abbrev pub solved_by_plan : Plan → ℤ → Tree → Option Solved
+solved_by_plan plan bound tree = if go_together (has_open tree) bound plan.cost then Some (solved.Planned plan.assignment plan.cost bound tree) else None
 
 -- without one there is a bound just where a leaf is open
 abbrev pub unplanned : Option ℤ → Tree → Option Solved
@@ -70,6 +70,6 @@ unplanned None tree = if has_open tree then None else Some (solved.Infeasible tr
 
 -- the solution of a plan, if any, of a bound, if any, and of a tree, where they go together
 abbrev pub settled : Option Plan → Option ℤ → Tree → Option Solved
-settled (Some plan) (Some bound) tree = planned plan bound tree
+settled (Some plan) (Some bound) tree = solved_by_plan plan bound tree
 settled (Some plan) None tree = None
 settled None bound tree = unplanned bound tree

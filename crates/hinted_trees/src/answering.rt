@@ -6,7 +6,7 @@ ghost use Rattle.dual_bound.specs.OfTables.{IsOfTables};
 ghost use Rattle.cert_check.specs.Nodes.{node_at};
 ghost use Rattle.cert_check.specs.Rules.{IsSound};
 ghost use Rattle.cert_check.specs.Verdicts.{AreSound};
-ghost use Rattle.hinted_trees.specs.Parts.{AreAnswered, FallsBelow, IsAnswered, IsCovered, IsToldAnswered};
+ghost use Rattle.hinted_trees.specs.Parts.{AreAnswered, FallsBelow, IsCovered, IsNodeAnswered, IsToldAnswered};
 
 use cert_check::{Reached, Visit, Walker, own_bound, walk};
 use dual_bound::Tree;
@@ -43,7 +43,7 @@ impl Visit for Unanswered {
 // Whether a node is no sole and no open leaf, or one that is answered.
 fn is_answered(tables: &Tables, cost: &Option<i128>, kept: &Kept, node: &Tree) -> bool
     requires { IsSound tables.now cost.now (node_at kept.now node.now) }
-    ensures { MatchBool result (IsAnswered tables.now cost.now (node_at kept.now node.now)) (¬ (IsAnswered tables.now cost.now (node_at kept.now node.now))) }
+    ensures { MatchBool result (IsNodeAnswered tables.now cost.now (node_at kept.now node.now)) (¬ (IsNodeAnswered tables.now cost.now (node_at kept.now node.now))) }
 {
     match node {
         Tree::Sole => is_covered(cost, &own_bound(tables, Sizes::Own, kept, node)),

@@ -1,14 +1,14 @@
 //! What a plan, a bound and a tree say together.
 ghost use Rattle.std.specs.Prelude.{◌≡◌, Some};
-ghost use Rattle.node_bounding.specs.Subproblems.{cost_of};
-ghost use Rattle.hinted_trees.specs.Parts.{planned, settled, unplanned};
+ghost use Rattle.node_bounding.specs.Subproblems.{cost_of_plan};
+ghost use Rattle.hinted_trees.specs.Parts.{settled, solved_by_plan, unplanned};
 
 use dual_bound::{Solved, Tree};
 use node_bounding::Plan;
 
 /// What a plan costs, where there is one.
 pub(crate) fn cost_of(best: &Option<Plan>) -> Option<i128>
-    ensures { result ≡ cost_of best.now }
+    ensures { result ≡ cost_of_plan best.now }
 {
     match best {
         Some(plan) => Some(plan.cost),
@@ -29,7 +29,7 @@ pub(crate) fn settled(best: Option<Plan>, bound: Option<i128>, tree: Tree) -> Op
 
 /// With a plan: the bound is its cost where no leaf is open, and less where one is.
 fn planned(plan: Plan, bound: i128, tree: Tree) -> Option<Solved>
-    ensures { result ≡ planned plan bound tree }
+    ensures { result ≡ solved_by_plan plan bound tree }
 {
     let together = if tree.has_open() {
         bound < plan.cost

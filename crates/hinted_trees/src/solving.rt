@@ -3,7 +3,7 @@ ghost use Rattle.std.specs.Prelude.{IfOk, IfSome, ◌<◌, ◌-◌, ◌^◌};
 ghost use Rattle.fleet_model.specs.Legal.{IsAssignment};
 ghost use Rattle.node_bounding.specs.Subproblems.{IsPlan};
 ghost use Rattle.hinted_trees.specs.FreeTrees.{IsFreelySolved};
-ghost use Rattle.hinted_trees.specs.Parts.{IsWritten};
+ghost use Rattle.hinted_trees.specs.Parts.{IsTreeWritten};
 
 use crate::answering::are_answered;
 use crate::settling::{cost_of, settled};
@@ -49,7 +49,7 @@ fn solved_by_proof(
     proof: Proof,
 ) -> Result<Option<Solved>, NoMemory>
     requires few { nodes < 2 ^ 64 - 1 }
-    requires written { IsWritten tables.now proof.tree }
+    requires written { IsTreeWritten tables.now proof.tree }
     ensures { IfOk result (λ found. IfSome found (IsFreelySolved tables.now nodes)) }
 {
     if !proof.planned {
@@ -66,7 +66,7 @@ fn solved_by_proof(
 fn solved_by_plan(tables: &Tables, nodes: u64, assignment: Assignment, tree: Tree) -> Option<Solved>
     requires few { nodes < 2 ^ 64 - 1 }
     requires plan { IsAssignment tables.now assignment }
-    requires written { IsWritten tables.now tree }
+    requires written { IsTreeWritten tables.now tree }
     ensures { IfSome result (IsFreelySolved tables.now nodes) }
 {
     match judge(tables, &assignment) {
@@ -82,7 +82,7 @@ fn solved_by_plan(tables: &Tables, nodes: u64, assignment: Assignment, tree: Tre
 fn solved_by_tree(tables: &Tables, nodes: u64, best: Option<Plan>, tree: Tree) -> Option<Solved>
     requires few { nodes < 2 ^ 64 - 1 }
     requires plan { IfSome best (IsPlan tables.now) }
-    requires written { IsWritten tables.now tree }
+    requires written { IsTreeWritten tables.now tree }
     ensures { IfSome result (IsFreelySolved tables.now nodes) }
 {
     let cost = cost_of(&best);

@@ -7,7 +7,7 @@ use Rattle.sums.proofs.Naturals.{zero_number}
 use Rattle.sums.proofs.Places.{nothing_at}
 use Rattle.sums.proofs.Sums.{sum_below-agree, sum_below-zero}
 use Rattle.sums.proofs.Tests.{by_test, none_some, some_is}
-use Rattle.island_cut.specs.Islands.{first_where}
+use Rattle.island_cut.specs.Islands.{first_passing}
 
 -- where the count is 0, each number fails
 pub none_counted : (p : ℕ → Bool) (n k : ℕ) → (count_below p n == 0) ≡ true → k < n → p k ≡ false
@@ -34,18 +34,18 @@ gives_first {X} f (suc n) x e = by_first (first_below f n) refl (gives_first f n
     by_first None none front = (n, omega arith, ap (λ o. or_else o (f n)) (sym none) ∙ e)
 
 -- of numbers of which one passes, the first one that does
-pub first_passes : (p : ℕ → Bool) (n k : ℕ) → k < n → p k ≡ true → (first_where p n < n) × (p (first_where p n) ≡ true)
+pub first_passes : (p : ℕ → Bool) (n k : ℕ) → k < n → p k ≡ true → (first_passing p n < n) × (p (first_passing p n) ≡ true)
 first_passes p n k below passes = by_first (first_below (λ j. if p j then Some j else None) n) refl
   where
     at : (j : ℕ) (b : Bool) (x : ℕ) → p j ≡ b → ◌≡◌ {A = Option ℕ} (if b then Some j else None) (Some x) → (j ≡ x) × (p j ≡ true)
     at j true x e some = (some_is j x some, e)
     at j false x e some = absurd (none_some some)
 
-    by_first : (o : Option ℕ) → first_below (λ j. if p j then Some j else None) n ≡ o → (first_where p n < n) × (p (first_where p n) ≡ true)
+    by_first : (o : Option ℕ) → first_below (λ j. if p j then Some j else None) n ≡ o → (first_passing p n < n) × (p (first_passing p n) ≡ true)
     by_first (Some x) given =
         let found = gives_first (λ j. if p j then Some j else None) n x given in
         let is = at found.0 (p found.0) x refl found.2 in
-        let there : first_where p n ≡ found.0 = ap (λ o. unwrap_or o 0) given ∙ sym is.0 in
+        let there : first_passing p n ≡ found.0 = ap (λ o. unwrap_or o 0) given ∙ sym is.0 in
         rw there (found.1, is.1)
     by_first None none =
         let nothing : ◌≡◌ {A = Option ℕ} (if p k then Some k else None) None = nothing_at (λ j. if p j then Some j else None) n k none below in

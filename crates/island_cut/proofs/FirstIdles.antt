@@ -8,23 +8,23 @@ use Rattle.std.proofs.lemmas.List.{get_or_default}
 use Rattle.sums.proofs.Tests.{by_test, no_both}
 use Rattle.island_cut.specs.declared.idle_minutes.Idle.{Idle}
 use Rattle.island_cut.specs.Islands.{idle_at}
-use Rattle.island_cut.specs.Lookup.{IdlesRise, IsFirstIdle, IsParting, comes_before}
+use Rattle.island_cut.specs.Lookup.{IdlesRise, IsFirstIdle, IsPartingIdles, idle_before}
 
 -- the order is transitive
 before_trans : (a b c : ℕ) (x y z : ℕ) → (nat_lt a b || ((a == b) && nat_lt x y)) ≡ true → (nat_lt b c || ((b == c) && nat_lt y z)) ≡ true → (nat_lt a c || ((a == c) && nat_lt x z)) ≡ true
 before_trans a b c x y z first second = grind (arith, nat_tests)
 
 -- so the entries before a minute of a station stand in front
-pub partitioned : (idles : List Idle) (s m : ℕ) → IdlesRise idles → IsPartitionedBy (λ e. comes_before e s m) idles
+pub partitioned : (idles : List Idle) (s m : ℕ) → IdlesRise idles → IsPartitionedBy (λ e. idle_before e s m) idles
 partitioned idles s m rise i j d order within by = elim (cases_lt i j) [
   | inl before ↦
       let first : slice_index_or idles i d ≡ slice_index_or idles i (idle_at 0 0) = get_or_default idles i d (idle_at 0 0) (omega arith) in
       let second : slice_index_or idles j d ≡ slice_index_or idles j (idle_at 0 0) = get_or_default idles j d (idle_at 0 0) within in
       let x = slice_index_or idles i (idle_at 0 0) in
       let y = slice_index_or idles j (idle_at 0 0) in
-      let there : comes_before y s m ≡ true = ap (λ e. comes_before e s m) (sym second) ∙ by in
-      ap (λ e. comes_before e s m) first ∙ before_trans x.station y.station s x.minute y.minute m (rise.each i j before within) there
-  | inr after ↦ let same : i ≡ j = omega arith in subst (λ k. comes_before (slice_index_or idles k d) s m ≡ true) (sym same) by
+      let there : idle_before y s m ≡ true = ap (λ e. idle_before e s m) (sym second) ∙ by in
+      ap (λ e. idle_before e s m) first ∙ before_trans x.station y.station s x.minute y.minute m (rise.each i j before within) there
+  | inr after ↦ let same : i ≡ j = omega arith in subst (λ k. idle_before (slice_index_or idles k d) s m ≡ true) (sym same) by
 ]
 
 -- an entry of the station that isn't before the minute is no earlier
@@ -43,7 +43,7 @@ later_there r s n m same before = grind (arith, nat_tests)
 other_station : (r s n from m : ℕ) → (r ≡ s → ⊥) → (nat_lt r s || ((r == s) && nat_lt n from)) ≡ false → (nat_lt r s || ((r == s) && nat_lt n m)) ≡ true → ⊥
 other_station r s n from m other fails before = grind (arith, nat_tests)
 
-module _ (idles : List Idle) (s from place : ℕ) (rise : IdlesRise idles) (parts : IsParting idles s from place) where
+module _ (idles : List Idle) (s from place : ℕ) (rise : IdlesRise idles) (parts : IsPartingIdles idles s from place) where
   abbrev entry_of : ℕ → Idle
   entry_of k = slice_index_or idles k (idle_at 0 0)
 
@@ -52,7 +52,7 @@ module _ (idles : List Idle) (s from place : ℕ) (rise : IdlesRise idles) (part
   stands m order found = elim (cases_lt found.0 place) [
     | inl before ↦
         let here : entry_of found.0 ≡ idle_at s m = get_or_default idles found.0 (idle_at 0 0) (idle_at s m) found.1 ∙ found.2 in
-        absurd (no_both (not_before s m from order) (ap (λ e. comes_before e s from) (sym here) ∙ parts.before found.0 before))
+        absurd (no_both (not_before s m from order) (ap (λ e. idle_before e s from) (sym here) ∙ parts.before found.0 before))
     | inr after ↦ after
   ]
 
@@ -64,7 +64,7 @@ module _ (idles : List Idle) (s from place : ℕ) (rise : IdlesRise idles) (part
   none_of_other within other m order found = elim (cases_lt place found.0) [
     | inl before ↦
         let here : entry_of found.0 ≡ idle_at s m = get_or_default idles found.0 (idle_at 0 0) (idle_at s m) found.1 ∙ found.2 in
-        let first = ap (λ e. comes_before (entry_of place) e.station e.minute) (sym here) ∙ rise.each place found.0 before found.1 in
+        let first = ap (λ e. idle_before (entry_of place) e.station e.minute) (sym here) ∙ rise.each place found.0 before found.1 in
         other_station (entry_of place).station s (entry_of place).minute from m other (parts.after place (omega arith) within) first
     | inr after ↦
         let same : found.0 ≡ place = omega (arith, after, stands m order found) in
@@ -74,7 +74,7 @@ module _ (idles : List Idle) (s from place : ℕ) (rise : IdlesRise idles) (part
   no_later : (m : ℕ) → from ≤ m → (found : Contains idles (idle_at s m)) → place < length idles → (entry_of place).station ≡ s → (entry_of place).minute ≤ m
   no_later m order found within same = elim (cases_lt place found.0) [
     | inl before ↦ later_there (entry_of place).station s (entry_of place).minute m same
-        (ap (λ e. comes_before (entry_of place) e.station e.minute) (sym (get_or_default idles found.0 (idle_at 0 0) (idle_at s m) found.1 ∙ found.2)) ∙ rise.each place found.0 before found.1)
+        (ap (λ e. idle_before (entry_of place) e.station e.minute) (sym (get_or_default idles found.0 (idle_at 0 0) (idle_at s m) found.1 ∙ found.2)) ∙ rise.each place found.0 before found.1)
     | inr after ↦
         let at : found.0 ≡ place = omega (arith, after, stands m order found) in
         let is : (entry_of place).minute ≡ m = ap (λ k. (entry_of k).minute) (sym at) ∙ ap (λ e. e.minute) (get_or_default idles found.0 (idle_at 0 0) (idle_at s m) found.1 ∙ found.2) in
@@ -92,7 +92,7 @@ module _ (idles : List Idle) (s from place : ℕ) (rise : IdlesRise idles) (part
       itself e is = ap (λ r. idle_at r e.minute) is
 
 -- what an entry of the place says
-pub found_at : (idles : List Idle) (s from place : ℕ) (entry : Idle) → IdlesRise idles → IsParting idles s from place → place < length idles → entry ≡ slice_index_or idles place (idle_at 0 0)
+pub found_at : (idles : List Idle) (s from place : ℕ) (entry : Idle) → IdlesRise idles → IsPartingIdles idles s from place → place < length idles → entry ≡ slice_index_or idles place (idle_at 0 0)
     → MatchOption (then_some (entry.station == s) entry.minute) ((m : ℕ) → from ≤ m → ¬ (Contains idles (idle_at s m))) (IsFirstIdle idles s from)
 found_at idles s from place entry rise parts within is = by_test (entry.station == s)
     (λ e.
@@ -102,5 +102,5 @@ found_at idles s from place entry rise parts within is = by_test (entry.station 
     let other : (slice_index_or idles place (idle_at 0 0)).station ≡ s → ⊥ = λ same. eqb-false entry.station s e (ap (λ x. x.station) is ∙ same) in
     rw e (none_of_other idles s from place rise parts within other))
 
-pub found_none : (idles : List Idle) (s from place : ℕ) → IdlesRise idles → IsParting idles s from place → length idles ≤ place → (m : ℕ) → from ≤ m → ¬ (Contains idles (idle_at s m))
+pub found_none : (idles : List Idle) (s from place : ℕ) → IdlesRise idles → IsPartingIdles idles s from place → length idles ≤ place → (m : ℕ) → from ≤ m → ¬ (Contains idles (idle_at s m))
 found_none idles s from place rise parts end = none_at_end idles s from place rise parts end

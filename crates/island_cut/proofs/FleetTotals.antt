@@ -1,6 +1,6 @@
 -- By any mixed plan of pairs that may be flown, all fleets need at each station, with the laps of what comes there, no
--- fewer aircraft than the joined schedule. So where no aircraft is left over they need as many at each station, and
--- where none of the joined schedule's stands, none of theirs does.
+-- fewer aircraft than the joined_flights schedule. So where no aircraft is left over they need as many at each station, and
+-- where none of the joined_flights schedule's stands, none of theirs does.
 use Rattle.std.proofs.Common.{◌≡◌, ◌≢◌, ℕ, ◌+◌, ◌*◌, ◌-◌, ◌<◌, ◌≤◌, false, if◌then◌else◌, ◌==◌, ◌&&◌, nat_le, nat_lt, refl, sym, ◌∙◌, ap, subst, inl, inr, arith, mul-add}
 use Rattle.std.proofs.Math.Nat.{mul-le-mul_left}
 use Rattle.std.proofs.lemmas.Bool.{cases_lt, lt-ltb}
@@ -20,7 +20,7 @@ use Rattle.fleet_model.specs.Whole.{KeepAllowed}
 use Rattle.fleet_model.proofs.OwnPairs.{once_by_fleets, once_on, own_departure, own_flown}
 use Rattle.fleet_model.proofs.UseLaws.{need_suffices}
 use Rattle.stand_counts.specs.Flights.{arrived_by, coming_by, departed_by, excess_by, laps_at_by, laps_by, leaving_by, need_by, stand_by, used_by}
-use Rattle.island_cut.specs.Spare.{AreQuickest, aircraft_in, joined}
+use Rattle.island_cut.specs.Spare.{AreQuickest, aircraft_in, joined_flights}
 use Rattle.island_cut.proofs.LegSums.{max_at, one_departure, one_lap, one_pair, over_fleets, own_places, same_terms}
 use Rattle.island_cut.proofs.PlainDays.{IsPlainDay}
 use Rattle.island_cut.proofs.Slower.{slower_laps, slower_ready}
@@ -100,7 +100,7 @@ module _ (t : Tables) (keeps : Domains) (q : ℕ) (w : Weights) (fleets : ℕ �
   all_arrived s m = sum_below-agree (λ f. arrived t w f s m) (λ f. sum_below (coming_own f s m) (legs_in t)) (fleets_in t) (record { each = λ f known. arrived_own f s m known })
 
   -- ---- the laws
-  -- the laps of the flights that come to a station, of a fleet and of the joined schedule
+  -- the laps of the flights that come to a station, of a fleet and of the joined_flights schedule
   abbrev laps_there : ℕ → ℕ → ℕ → ℕ
   laps_there f s l = if (leg_of t l).to == s then w (own_pair t l f) * laps_of t (own_pair t l f) else 0
 
@@ -116,10 +116,10 @@ module _ (t : Tables) (keeps : Domains) (q : ℕ) (w : Weights) (fleets : ℕ �
   abbrev needs_at : ℕ → ℕ
   needs_at s = sum_below (λ f. need_of t w f s) (fleets_in t)
 
-  arrivals_law : (s m : ℕ) → sum_below (λ f. arrived t w f s m) (fleets_in t) + q * joined_laps_to s ≤ laps_to s + q * arrived_by t (joined t fleets) s m
+  arrivals_law : (s m : ℕ) → sum_below (λ f. arrived t w f s m) (fleets_in t) + q * joined_laps_to s ≤ laps_to s + q * arrived_by t (joined_flights t fleets) s m
   unfolding arrived_by
   arrivals_law s m =
-      let law = over_fleets (legs_in t) (fleets_in t) q (λ l f. w (own_pair t l f)) (λ l f. coming_own f s m l) (λ l f. laps_there f s l) (laps_joined s) (coming_by t (joined t fleets) s m)
+      let law = over_fleets (legs_in t) (fleets_in t) q (λ l f. w (own_pair t l f)) (λ l f. coming_own f s m l) (λ l f. laps_there f s l) (laps_joined s) (coming_by t (joined_flights t fleets) s m)
       (λ l f below known. one_pair ((leg_of t l).to == s) (nat_le (ready_minute t (own_pair t l f)) m) (nat_le (ready_minute t (own_pair t l (fleets l))) m)
       (w (own_pair t l f)) (laps_of t (own_pair t l f)) (laps_of t (own_pair t l (fleets l))) (λ some. slower_ready t l (fleets l) f (no_slower l f below known some) m))
       cover in
@@ -132,10 +132,10 @@ module _ (t : Tables) (keeps : Domains) (q : ℕ) (w : Weights) (fleets : ℕ �
       cover in
       omega (arith, law, ap (λ n. q * n) (sum_below-zero (legs_in t)))
 
-  departures_law : (s m : ℕ) → q * departed_by t (joined t fleets) s m ≤ sum_below (λ f. departed t w f s m) (fleets_in t)
+  departures_law : (s m : ℕ) → q * departed_by t (joined_flights t fleets) s m ≤ sum_below (λ f. departed t w f s m) (fleets_in t)
   unfolding departed_by
   departures_law s m =
-      let law = over_fleets (legs_in t) (fleets_in t) q (λ l f. w (own_pair t l f)) (λ l f. 0) (λ l f. leaving_own f s m l) (leaving_by t (joined t fleets) s m) (λ l. 0)
+      let law = over_fleets (legs_in t) (fleets_in t) q (λ l f. w (own_pair t l f)) (λ l f. 0) (λ l f. leaving_own f s m l) (leaving_by t (joined_flights t fleets) s m) (λ l. 0)
       (λ l f below known. own_leaves l f s m)
       cover in
       omega (arith, law, all_departed s m, ap (λ n. q * n) (sum_below-zero (legs_in t)))
@@ -150,16 +150,16 @@ module _ (t : Tables) (keeps : Domains) (q : ℕ) (w : Weights) (fleets : ℕ �
     sum_below-add (λ f. need_of t w f s) (λ f. arrived t w f s m) (fleets_in t),
   )
 
-  at_minute : (s m : ℕ) → m < period_of t → q * departed_by t (joined t fleets) s m + q * joined_laps_to s ≤ needs_at s + laps_to s + q * arrived_by t (joined t fleets) s m
+  at_minute : (s m : ℕ) → m < period_of t → q * departed_by t (joined_flights t fleets) s m + q * joined_laps_to s ≤ needs_at s + laps_to s + q * arrived_by t (joined_flights t fleets) s m
   at_minute s m within = omega (arith, arrivals_law s m, departures_law s m, needs_law s m within)
 
-  -- at each station the fleets need no fewer than the joined schedule
-  no_fewer : (s : ℕ) → q * need_by t (joined t fleets) s + q * joined_laps_to s ≤ needs_at s + laps_to s
+  -- at each station the fleets need no fewer than the joined_flights schedule
+  no_fewer : (s : ℕ) → q * need_by t (joined_flights t fleets) s + q * joined_laps_to s ≤ needs_at s + laps_to s
   unfolding need_by excess_by
-  no_fewer s = elim (max_at (excess_by t (joined t fleets) s) (period_of t)) [
+  no_fewer s = elim (max_at (excess_by t (joined_flights t fleets) s) (period_of t)) [
     | inl none ↦ omega (arith, ap (λ n. q * n) none, laps_law s)
     | inr found ↦
-        needed_at q (max_below (excess_by t (joined t fleets) s) (period_of t)) (departed_by t (joined t fleets) s found.0) (arrived_by t (joined t fleets) s found.0) (joined_laps_to s) (needs_at s + laps_to s)
+        needed_at q (max_below (excess_by t (joined_flights t fleets) s) (period_of t)) (departed_by t (joined_flights t fleets) s found.0) (arrived_by t (joined_flights t fleets) s found.0) (joined_laps_to s) (needs_at s + laps_to s)
         found.2 (at_minute s found.0 found.1) (omega (arith, laps_law s))
   ]
 
@@ -187,38 +187,38 @@ module _ (t : Tables) (keeps : Domains) (q : ℕ) (w : Weights) (fleets : ℕ �
     times_below q (λ f. q * (fleet_of t f).aircraft) (λ f. (fleet_of t f).aircraft) (fleets_in t) (λ f known. refl),
   )
 
-  joined_use : used_by t (joined t fleets) ≡ sum_below (need_by t (joined t fleets)) (stations_in t) + sum_below joined_laps_to (stations_in t)
+  joined_use : used_by t (joined_flights t fleets) ≡ sum_below (need_by t (joined_flights t fleets)) (stations_in t) + sum_below joined_laps_to (stations_in t)
   unfolding used_by laps_by
-  joined_use = ap (λ n. sum_below (need_by t (joined t fleets)) (stations_in t) + n) (
-      sum_below-agree (laps_at_by t (joined t fleets)) (λ l. laps_of t (own_pair t l (fleets l))) (legs_in t) (record { each = λ l below. omega arith })
+  joined_use = ap (λ n. sum_below (need_by t (joined_flights t fleets)) (stations_in t) + n) (
+      sum_below-agree (laps_at_by t (joined_flights t fleets)) (λ l. laps_of t (own_pair t l (fleets l))) (legs_in t) (record { each = λ l below. omega arith })
       ∙ sym (own_places (λ l. (leg_of t l).to) (λ l s. laps_of t (own_pair t l (fleets l))) (stations_in t) (legs_in t) (λ l below. (t.in_range.legs_fit.each l no_leg below).to)))
 
-  joined_scaled : sum_below (λ s. q * need_by t (joined t fleets) s + q * joined_laps_to s) (stations_in t) ≡ q * used_by t (joined t fleets)
+  joined_scaled : sum_below (λ s. q * need_by t (joined_flights t fleets) s + q * joined_laps_to s) (stations_in t) ≡ q * used_by t (joined_flights t fleets)
   joined_scaled = omega (
     arith,
-    sum_below-add (λ s. q * need_by t (joined t fleets) s) (λ s. q * joined_laps_to s) (stations_in t),
-    times_below q (λ s. q * need_by t (joined t fleets) s) (need_by t (joined t fleets)) (stations_in t) (λ s within. refl),
+    sum_below-add (λ s. q * need_by t (joined_flights t fleets) s) (λ s. q * joined_laps_to s) (stations_in t),
+    times_below q (λ s. q * need_by t (joined_flights t fleets) s) (need_by t (joined_flights t fleets)) (stations_in t) (λ s within. refl),
     times_below q (λ s. q * joined_laps_to s) joined_laps_to (stations_in t) (λ s within. refl),
     ap (λ n. q * n) joined_use,
-    mul-add q (sum_below (need_by t (joined t fleets)) (stations_in t)) (sum_below joined_laps_to (stations_in t)),
+    mul-add q (sum_below (need_by t (joined_flights t fleets)) (stations_in t)) (sum_below joined_laps_to (stations_in t)),
   )
 
   -- where none is left over, they need as many at each
-  as_many : used_by t (joined t fleets) ≡ aircraft_in t → (s : ℕ) → s < stations_in t → needs_at s + laps_to s ≡ q * need_by t (joined t fleets) s + q * joined_laps_to s
-  as_many none_left = same_terms (λ s. needs_at s + laps_to s) (λ s. q * need_by t (joined t fleets) s + q * joined_laps_to s) (stations_in t)
+  as_many : used_by t (joined_flights t fleets) ≡ aircraft_in t → (s : ℕ) → s < stations_in t → needs_at s + laps_to s ≡ q * need_by t (joined_flights t fleets) s + q * joined_laps_to s
+  as_many none_left = same_terms (λ s. needs_at s + laps_to s) (λ s. q * need_by t (joined_flights t fleets) s + q * joined_laps_to s) (stations_in t)
       (λ s within. no_fewer s)
       (omega (arith, all_use, have_enough, joined_scaled, ap (λ n. q * n) none_left))
 
-  none_stand : used_by t (joined t fleets) ≡ aircraft_in t → (s m : ℕ) → s < stations_in t → stand_by t (joined t fleets) s m ≡ 0
+  none_stand : used_by t (joined_flights t fleets) ≡ aircraft_in t → (s m : ℕ) → s < stations_in t → stand_by t (joined_flights t fleets) s m ≡ 0
       → sum_below (λ f. need_of t w f s + arrived t w f s m) (fleets_in t) ≤ sum_below (λ f. departed t w f s m) (fleets_in t)
   unfolding stand_by
   none_stand none_left s m within empty =
-      let law = none_stands_at q (need_by t (joined t fleets) s) (arrived_by t (joined t fleets) s m) (departed_by t (joined t fleets) s m) (needs_at s)
+      let law = none_stands_at q (need_by t (joined_flights t fleets) s) (arrived_by t (joined_flights t fleets) s m) (departed_by t (joined_flights t fleets) s m) (needs_at s)
       (sum_below (λ f. arrived t w f s m) (fleets_in t)) (sum_below (λ f. departed t w f s m) (fleets_in t)) (laps_to s) (joined_laps_to s) (needs_at s + laps_to s)
       (omega (arith, empty)) (as_many none_left s within) refl (arrivals_law s m) (departures_law s m) in
       omega (arith, law, sum_below-add (λ f. need_of t w f s) (λ f. arrived t w f s m) (fleets_in t))
 
-  pub empty_for_each : used_by t (joined t fleets) ≡ aircraft_in t → (f s m : ℕ) → f < fleets_in t → s < stations_in t → m < period_of t → stand_by t (joined t fleets) s m ≡ 0 → stand_of t w f s m ≡ 0
+  pub empty_for_each : used_by t (joined_flights t fleets) ≡ aircraft_in t → (f s m : ℕ) → f < fleets_in t → s < stations_in t → m < period_of t → stand_by t (joined_flights t fleets) s m ≡ 0 → stand_of t w f s m ≡ 0
   unfolding stand_of
   empty_for_each none_left f s m known station minute empty =
       let same = same_terms (λ g. need_of t w g s + arrived t w g s m) (λ g. departed t w g s m) (fleets_in t)

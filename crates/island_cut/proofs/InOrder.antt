@@ -9,7 +9,7 @@ use Rattle.fleet_model.specs.declared.tables.Tables.{Tables}
 use Rattle.fleet_model.specs.Schedule.{period_of, stations_in}
 use Rattle.island_cut.specs.declared.idle_minutes.Idle.{Idle}
 use Rattle.island_cut.specs.Islands.{idle_at, idles_below, idles_of, is_idle}
-use Rattle.island_cut.specs.Lookup.{IdlesRise, comes_before}
+use Rattle.island_cut.specs.Lookup.{IdlesRise, idle_before}
 use Rattle.island_cut.proofs.Listed.{entries_below, entries_of_station, entry_more, first_station, no_entries, station_more}
 
 -- the first of two minutes of stations comes before the other
@@ -22,7 +22,7 @@ entry_of idles k = slice_index_or idles k (idle_at 0 0)
 -- a list has the idle minutes before a minute of a station, in order
 pub record AreBefore (t : Tables) (s n : ℕ) (idles : List Idle) : Type 0 where
   pub rise : IdlesRise idles
-  pub before : (k : ℕ) → k < length idles → comes_before (entry_of idles k) s n ≡ true
+  pub before : (k : ℕ) → k < length idles → idle_before (entry_of idles k) s n ≡ true
   pub idle : (k : ℕ) → k < length idles → is_idle t (entry_of idles k).station (entry_of idles k).minute ≡ true
   pub has : (r j : ℕ) → j < period_of t → is_before r j s n ≡ true → is_idle t r j ≡ true → Contains idles (idle_at r j)
 
@@ -82,18 +82,18 @@ module _ (t : Tables) (s n : ℕ) (idles : List Idle) (are : AreBefore t s n idl
       | inl old ↦
           let first = old_entry i (omega (arith, earlier, old)) in
           let second = old_entry j old in
-          subst (λ e. comes_before (entry_of grown i) e.station e.minute ≡ true) (sym second) (subst (λ e. comes_before e (entry_of idles j).station (entry_of idles j).minute ≡ true) (sym first) (are.rise.each i j earlier old))
+          subst (λ e. idle_before (entry_of grown i) e.station e.minute ≡ true) (sym second) (subst (λ e. idle_before e (entry_of idles j).station (entry_of idles j).minute ≡ true) (sym first) (are.rise.each i j earlier old))
       | inr new ↦
           let last : length idles ≡ j = omega (arith, new, within, length_push idles (idle_at s n)) in
           let first = old_entry i (omega (arith, earlier, last)) in
-          subst (λ e. comes_before (entry_of grown i) e.station e.minute ≡ true) (sym (new_entry j last)) (subst (λ e. comes_before e s n ≡ true) (sym first) (are.before i (omega (arith, earlier, last))))
+          subst (λ e. idle_before (entry_of grown i) e.station e.minute ≡ true) (sym (new_entry j last)) (subst (λ e. idle_before e s n ≡ true) (sym first) (are.before i (omega (arith, earlier, last))))
     ];
   }
 
   pushed : AreBefore t s (n + 1) grown
   pushed = record {
     rise = rise_more;
-    before = of_all (λ e. comes_before e s (n + 1) ≡ true) (λ k within. minute_more (entry_of idles k).station (entry_of idles k).minute s n (are.before k within)) (just_before s n);
+    before = of_all (λ e. idle_before e s (n + 1) ≡ true) (λ k within. minute_more (entry_of idles k).station (entry_of idles k).minute s n (are.before k within)) (just_before s n);
     idle = of_all (λ e. is_idle t e.station e.minute ≡ true) are.idle on;
     has = λ r j within e idle. by_test (is_before r j s n)
         (λ earlier. Contains-append_left idles (idle_at s n ∷ []) (idle_at r j) (are.has r j within earlier idle))

@@ -11,7 +11,7 @@ use Rattle.fleet_model.specs.declared.tables.Tables.{Tables}
 use Rattle.fleet_model.specs.LeftOut.{leaves_out, left_out_on}
 use Rattle.fleet_model.specs.Legal.{cost_of}
 use Rattle.fleet_model.specs.Schedule.{IsPair, choices_in, days_in, departures_in, fleet_by, fleets_in, legs_in, parking_of, stations_in}
-use Rattle.island_cut.specs.PlainDay.{is_plain_day, left_out, limits_in}
+use Rattle.island_cut.specs.PlainDay.{choices_left_out, is_plain_day, limits_in}
 use Rattle.island_cut.proofs.Counted.{none_counted}
 
 pub record IsPlainDay (t : Tables) : Type 0 where
@@ -28,8 +28,8 @@ no_limits : (t : Tables) → (limits_in t == 0) ≡ true → (s : ℕ) → s < s
 unfolding limits_in
 no_limits t e s within = nothing (parking_of t s) (none_counted (λ r. is_some (parking_of t r)) (stations_in t) s e within)
 
-none_left_out : (t : Tables) → (left_out t == 0) ≡ true → (l c : ℕ) → l < legs_in t → c < choices_in t l → leaves_out t l c ≡ false
-unfolding left_out left_out_on
+none_left_out : (t : Tables) → (choices_left_out t == 0) ≡ true → (l c : ℕ) → l < legs_in t → c < choices_in t l → leaves_out t l c ≡ false
+unfolding choices_left_out left_out_on
 none_left_out t e l c below choice =
     let none : (left_out_on t l == 0) ≡ true = let most = term_le (left_out_on t) l (legs_in t) below in let all = zero_number (sum_below (left_out_on t) (legs_in t)) e in grind (arith, nat_tests) in
     none_counted (leaves_out t l) (choices_in t l) c none choice

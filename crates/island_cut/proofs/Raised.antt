@@ -7,7 +7,7 @@ use Rattle.sums.specs.Below.{sum_below}
 use Rattle.sums.specs.Places.{IsFilledBelow}
 use Rattle.sums.proofs.Places.{filled_more}
 use Rattle.fleet_model.specs.declared.limits.TheConstants.{MAX_LEGS}
-use Rattle.island_cut.specs.Movements.{AreCounts, AreRaised, TellEach}
+use Rattle.island_cut.specs.Movements.{AreMinuteCounts, AreRaised, TellEach}
 
 -- a count, one more from a minute on
 pub raised_by : List ℕ → ℕ → ℕ → ℕ
@@ -35,7 +35,7 @@ raised_all period old new from minute whole end filled = record { each = λ m wi
 one_at_most : (from m : ℕ) → (if nat_le from m then 1 else 0) ≤ 1
 one_at_most from m = grind (arith, nat_tests)
 
-pub raised_few : (period most : ℕ) (old new : List ℕ) (from : ℕ) → length new ≡ length old → AreCounts period most old → AreRaised period from old new → AreCounts period (most + 1) new
+pub raised_few : (period most : ℕ) (old new : List ℕ) (from : ℕ) → length new ≡ length old → AreMinuteCounts period most old → AreRaised period from old new → AreMinuteCounts period (most + 1) new
 raised_few period most old new from same counts raised = record {
   each_minute = same ∙ counts.each_minute;
   few = λ m within. omega (arith, raised.each m within, counts.few m within, one_at_most from m);
@@ -59,11 +59,11 @@ leg_more period f old new b from start l is so_far here raised m within =
 pub read_is : (xs : List ℕ) (k n : ℕ) → k < length xs → n ≡ get_or xs k n → n ≡ get_or xs k 0
 read_is xs k n within is = is ∙ get_or_default_zero xs k n within
 
-pub no_counts : (period : ℕ) (counts : List ℕ) → counts ≡ replicate period 0 → AreCounts period 0 counts × TellEach period (λ m. 0) counts
+pub no_counts : (period : ℕ) (counts : List ℕ) → counts ≡ replicate period 0 → AreMinuteCounts period 0 counts × TellEach period (λ m. 0) counts
 no_counts period counts is = (record { each_minute = ap length is ∙ length-replicate {A = ℕ} period 0; few = λ m within. omega (arith, zero_there m within) }, record { each = zero_there })
   where
     zero_there : (m : ℕ) → m < period → get_or counts m 0 ≡ 0
     zero_there m within = ap (λ xs. get_or xs m 0) is ∙ get_or-replicate {A = ℕ} period m 0 0 within
 
-pub counts_at_end : (period leg : ℕ) (counts : List ℕ) → leg ≤ MAX_LEGS → AreCounts period leg counts → AreCounts period MAX_LEGS counts
+pub counts_at_end : (period leg : ℕ) (counts : List ℕ) → leg ≤ MAX_LEGS → AreMinuteCounts period leg counts → AreMinuteCounts period MAX_LEGS counts
 counts_at_end period leg counts few are = record { each_minute = are.each_minute; few = λ m within. omega (arith, few, are.few m within) }

@@ -9,7 +9,7 @@ use Rattle.fleet_model.specs.OwnTimes.{own_pair}
 use Rattle.fleet_model.specs.Times.{busy_minutes, departure, laps_of, ready_minute}
 use Rattle.fleet_model.proofs.OwnPairs.{own_departure}
 use Rattle.stand_counts.specs.Flights.{arrived_by, coming_by, departed_by, excess_by, laps_at_by, laps_by, leaving_by, need_by, used_by}
-use Rattle.island_cut.specs.Spare.{AreQuickest, IsSpare, aircraft_in, joined, spare_of}
+use Rattle.island_cut.specs.Spare.{AreQuickest, IsSpare, aircraft_in, joined_flights, spare_of}
 
 module _ (t : Tables) (some other : ℕ → ℕ) (first : AreQuickest t some) (second : AreQuickest t other) where
   same_busy : (l : ℕ) → l < legs_in t → busy_minutes t (own_pair t l (some l)) ≡ busy_minutes t (own_pair t l (other l))
@@ -29,33 +29,33 @@ module _ (t : Tables) (some other : ℕ → ℕ) (first : AreQuickest t some) (s
   same_laps : (l : ℕ) → l < legs_in t → laps_of t (own_pair t l (some l)) ≡ laps_of t (own_pair t l (other l))
   same_laps l below = ap (λ n. n / period_of t) (same_end l below)
 
-  pub same_departed : (s m : ℕ) → departed_by t (joined t some) s m ≡ departed_by t (joined t other) s m
+  pub same_departed : (s m : ℕ) → departed_by t (joined_flights t some) s m ≡ departed_by t (joined_flights t other) s m
   unfolding departed_by
-  same_departed s m = sum_below-agree (leaving_by t (joined t some) s m) (leaving_by t (joined t other) s m) (legs_in t)
+  same_departed s m = sum_below-agree (leaving_by t (joined_flights t some) s m) (leaving_by t (joined_flights t other) s m) (legs_in t)
       (record { each = λ l below. ap (λ d. if ((leg_of t l).from == s) && nat_le d m then 1 else 0) (own_departure t l (some l) (other l)) })
 
-  pub same_arrived : (s m : ℕ) → arrived_by t (joined t some) s m ≡ arrived_by t (joined t other) s m
+  pub same_arrived : (s m : ℕ) → arrived_by t (joined_flights t some) s m ≡ arrived_by t (joined_flights t other) s m
   unfolding arrived_by
-  same_arrived s m = sum_below-agree (coming_by t (joined t some) s m) (coming_by t (joined t other) s m) (legs_in t)
+  same_arrived s m = sum_below-agree (coming_by t (joined_flights t some) s m) (coming_by t (joined_flights t other) s m) (legs_in t)
       (record { each = λ l below. ap (λ r. if ((leg_of t l).to == s) && nat_le r m then 1 else 0) (same_ready l below) })
 
-  same_excess : (s m : ℕ) → excess_by t (joined t some) s m ≡ excess_by t (joined t other) s m
+  same_excess : (s m : ℕ) → excess_by t (joined_flights t some) s m ≡ excess_by t (joined_flights t other) s m
   unfolding excess_by
   same_excess s m = rw (same_departed s m, same_arrived s m) refl
 
-  pub same_need : (s : ℕ) → need_by t (joined t some) s ≡ need_by t (joined t other) s
+  pub same_need : (s : ℕ) → need_by t (joined_flights t some) s ≡ need_by t (joined_flights t other) s
   unfolding need_by
-  same_need s = max_below-agree (excess_by t (joined t some) s) (excess_by t (joined t other) s) (period_of t) (record { each = λ m within. same_excess s m })
+  same_need s = max_below-agree (excess_by t (joined_flights t some) s) (excess_by t (joined_flights t other) s) (period_of t) (record { each = λ m within. same_excess s m })
 
-  pub same_laps_flown : laps_by t (joined t some) ≡ laps_by t (joined t other)
+  pub same_laps_flown : laps_by t (joined_flights t some) ≡ laps_by t (joined_flights t other)
   unfolding laps_by
-  same_laps_flown = sum_below-agree (laps_at_by t (joined t some)) (laps_at_by t (joined t other)) (legs_in t)
+  same_laps_flown = sum_below-agree (laps_at_by t (joined_flights t some)) (laps_at_by t (joined_flights t other)) (legs_in t)
       (record { each = λ l below. ap (λ n. 1 * n) (same_laps l below) })
 
-  same_needs : sum_below (need_by t (joined t some)) (stations_in t) ≡ sum_below (need_by t (joined t other)) (stations_in t)
-  same_needs = sum_below-agree (need_by t (joined t some)) (need_by t (joined t other)) (stations_in t) (record { each = λ s below. same_need s })
+  same_needs : sum_below (need_by t (joined_flights t some)) (stations_in t) ≡ sum_below (need_by t (joined_flights t other)) (stations_in t)
+  same_needs = sum_below-agree (need_by t (joined_flights t some)) (need_by t (joined_flights t other)) (stations_in t) (record { each = λ s below. same_need s })
 
-  pub same_use : used_by t (joined t some) ≡ used_by t (joined t other)
+  pub same_use : used_by t (joined_flights t some) ≡ used_by t (joined_flights t other)
   unfolding used_by
   same_use = rw (same_needs, same_laps_flown) refl
 

@@ -1,4 +1,4 @@
--- What counts of the joined schedule by minutes tell, whichever quickest fleets are taken.
+-- What counts of the joined_flights schedule by minutes tell, whichever quickest fleets are taken.
 use Rattle.std.proofs.Common.{◌≡◌, ℕ, suc, ◌+◌, ◌-◌, ◌<◌, ◌≤◌, ◌==◌, ◌&&◌, not, nat_le, Bool, true, false, if◌then◌else◌, List, slice_index, refl, ◌∙◌, ap, arith}
 use mir.Val.{bool_byte}
 use Rattle.std.proofs.lemmas.Bool.Decides.{nat_tests}
@@ -11,7 +11,7 @@ use Rattle.stand_counts.specs.Flights.{arrived_by, departed_by, excess_by, laps_
 use Rattle.island_cut.specs.Islands.{has_islands, have_pairs, is_idle, is_uneven, joined_legs, quickest_of}
 use Rattle.island_cut.specs.Movements.{TellEach, greatest_lead, lead}
 use Rattle.island_cut.specs.PlainDay.{is_plain_day}
-use Rattle.island_cut.specs.Spare.{AreQuickest, aircraft_in, joined}
+use Rattle.island_cut.specs.Spare.{AreQuickest, aircraft_in, joined_flights}
 use Rattle.island_cut.proofs.QuickestFleets.{pairs_tested, quickest_are}
 use Rattle.island_cut.proofs.SameUse.{same_arrived, same_departed, same_laps_flown}
 
@@ -32,7 +32,7 @@ module _ (t : Tables) (fleets : ℕ → ℕ) (pairs : have_pairs t ≡ true) (qu
   others : AreQuickest t (quickest_of t)
   others = quickest_are t (pairs_tested t pairs)
 
-  module _ (s : ℕ) (departed arrived : List ℕ) (left : TellEach (period_of t) (departed_by t (joined t fleets) s) departed) (come : TellEach (period_of t) (arrived_by t (joined t fleets) s) arrived) where
+  module _ (s : ℕ) (departed arrived : List ℕ) (left : TellEach (period_of t) (departed_by t (joined_flights t fleets) s) departed) (come : TellEach (period_of t) (arrived_by t (joined_flights t fleets) s) arrived) where
     left_same : (m : ℕ) → m < period_of t → slice_index departed m ≡ departed_by t (joined_legs t) s m
     left_same m within = left.each m within ∙ same_departed t fleets (quickest_of t) quick others s m
 
@@ -63,7 +63,7 @@ module _ (t : Tables) (fleets : ℕ → ℕ) (pairs : have_pairs t ≡ true) (qu
     even_found d a even d_is a_is even_is = ap not even_is ∙ rw (d_is, a_is) even_told
 
   pub islands_told : (uneven needed laps aircraft : ℕ) → uneven ≡ count_below (is_uneven t (joined_legs t)) (stations_in t) → needed ≡ sum_below (need_by t (joined_legs t)) (stations_in t)
-      → laps ≡ laps_by t (joined t fleets) → aircraft ≡ aircraft_in t → is_plain_day t ≡ true → ((uneven == 0) && (needed + laps == aircraft)) ≡ has_islands t
+      → laps ≡ laps_by t (joined_flights t fleets) → aircraft ≡ aircraft_in t → is_plain_day t ≡ true → ((uneven == 0) && (needed + laps == aircraft)) ≡ has_islands t
   unfolding has_islands used_by
   islands_told uneven needed laps aircraft first second third fourth day = with_day (is_plain_day t) _ _ day (with_two (have_pairs t) _ _ _ _ pairs (ap (λ n. n == 0) first)
       (let same = third ∙ same_laps_flown t fleets (quickest_of t) quick others in rw (second, same, fourth) refl))

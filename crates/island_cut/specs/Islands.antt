@@ -11,11 +11,11 @@ use Rattle.fleet_model.specs.Times.{busy_minutes}
 use Rattle.stand_counts.specs.Flights.{Flights, arrived_by, departed_by, stand_by, used_by}
 use Rattle.island_cut.specs.declared.idle_minutes.Idle.{Idle}
 use Rattle.island_cut.specs.PlainDay.{is_plain_day}
-use Rattle.island_cut.specs.Spare.{aircraft_in, joined}
+use Rattle.island_cut.specs.Spare.{aircraft_in, joined_flights}
 
 -- the first number below a bound that passes, and 0 where none does
-abbrev pub first_where : (ℕ → Bool) → ℕ → ℕ
-first_where p n = unwrap_or (first_below (λ k. if p k then Some k else None) n) 0
+abbrev pub first_passing : (ℕ → Bool) → ℕ → ℕ
+first_passing p n = unwrap_or (first_below (λ k. if p k then Some k else None) n) 0
 
 -- a fleet may fly the leg, and is quicker with it than another
 abbrev pub is_quicker : Tables → ℕ → ℕ → ℕ → Bool
@@ -27,11 +27,11 @@ is_quickest t l f = all_pairs t (own_pair t l f) && (count_below (is_quicker t l
 
 -- the first such fleet
 unfoldable pub quickest_of : Tables → ℕ → ℕ
-quickest_of t l = first_where (is_quickest t l) (fleets_in t)
+quickest_of t l = first_passing (is_quickest t l) (fleets_in t)
 
--- the joined schedule: each leg as its quickest fleet flies it, and all legs by the same aircraft
+-- the joined_flights schedule: each leg as its quickest fleet flies it, and all legs by the same aircraft
 abbrev pub joined_legs : Tables → Flights
-joined_legs t = joined t (quickest_of t)
+joined_legs t = joined_flights t (quickest_of t)
 
 -- how many fleets may fly the leg
 abbrev pub flyers_of : Tables → ℕ → ℕ
@@ -49,11 +49,11 @@ is_uneven t x s = not (arrived_by t x s (last_of t) == departed_by t x s (last_o
 abbrev pub balance_by : Tables → Flights → Bool
 balance_by t x = count_below (is_uneven t x) (stations_in t) == 0
 
--- the tables are of one plain day, each leg has a pair, and the joined schedule balances and leaves no aircraft over
+-- the tables are of one plain day, each leg has a pair, and the joined_flights schedule balances and leaves no aircraft over
 unfoldable pub has_islands : Tables → Bool
 has_islands t = is_plain_day t && (have_pairs t && balance_by t (joined_legs t) && (used_by t (joined_legs t) == aircraft_in t))
 
--- the station is empty at the end of the minute: no aircraft of the joined schedule stands there
+-- the station is empty at the end of the minute: no aircraft of the joined_flights schedule stands there
 unfoldable pub is_idle : Tables → ℕ → ℕ → Bool
 is_idle t s m = has_islands t && (stand_by t (joined_legs t) s m == 0)
 

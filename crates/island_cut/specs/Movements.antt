@@ -3,7 +3,7 @@ use Rattle.std.specs.Prelude.{◌≡◌, ℕ, ◌+◌, ◌-◌, ◌<◌, ◌≤�
 use Rattle.sums.specs.Below.{max_below}
 
 -- a count for each minute of the period, none of more than so many
-pub record AreCounts (period most : ℕ) (counts : List ℕ) : Type 0 where
+pub record AreMinuteCounts (period most : ℕ) (counts : List ℕ) : Type 0 where
   pub each_minute : length counts ≡ period
   pub few : (m : ℕ) → m < period → slice_index counts m ≤ most
 

@@ -10,9 +10,9 @@ unfoldable pub limits_in : Tables → ℕ
 limits_in t = count_below (λ s. is_some (parking_of t s)) (stations_in t)
 
 -- by how many choices all legs may be left out
-unfoldable pub left_out : Tables → ℕ
-left_out t = sum_below (left_out_on t) (legs_in t)
+unfoldable pub choices_left_out : Tables → ℕ
+choices_left_out t = sum_below (left_out_on t) (legs_in t)
 
 -- the period is one day, each leg departs once, no station has a limit, and no leg may be left out
 unfoldable pub is_plain_day : Tables → Bool
-is_plain_day t = (days_in t == 1) && (departures_in t == legs_in t) && (limits_in t == 0) && (left_out t == 0)
+is_plain_day t = (days_in t == 1) && (departures_in t == legs_in t) && (limits_in t == 0) && (choices_left_out t == 0)

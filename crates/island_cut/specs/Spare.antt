@@ -1,4 +1,4 @@
--- The joined schedule: all legs on one fleet, which flies each as fast as any fleet that may; and the aircraft that it
+-- The joined_flights schedule: all legs on one fleet, which flies each as fast as any fleet that may; and the aircraft that it
 -- leaves over.
 use Rattle.std.specs.Prelude.{ℕ, ◌<◌, ◌≤◌, List, length, Option, None, IsSome, MatchOption, ℤ, pos, ◌-ℤ◌, ◌≡◌}
 use Rattle.sums.specs.Below.{sum_below}
@@ -38,16 +38,16 @@ pub record AreQuickest (t : Tables) (fleets : ℕ → ℕ) : Type 0 where
   pub each : (l : ℕ) → l < legs_in t → IsQuickest t l (fleets_in t) (fleets l)
 
 -- each leg flown once, at its own time and as by its fleet, and all by the same aircraft
-abbrev pub joined : Tables → (ℕ → ℕ) → Flights
-joined t fleets = record { count = legs_in t; pair = λ l. own_pair t l (fleets l); weight = λ p. 1 }
+abbrev pub joined_flights : Tables → (ℕ → ℕ) → Flights
+joined_flights t fleets = record { count = legs_in t; pair = λ l. own_pair t l (fleets l); weight = λ p. 1 }
 
 -- the aircraft of all fleets
 abbrev pub aircraft_in : Tables → ℕ
 aircraft_in t = sum_below (λ f. (fleet_of t f).aircraft) (fleets_in t)
 
--- the aircraft that the joined schedule leaves over; below 0 where it lacks some
+-- the aircraft that the joined_flights schedule leaves over; below 0 where it lacks some
 abbrev pub spare_of : Tables → (ℕ → ℕ) → ℤ
-spare_of t fleets = pos (aircraft_in t) -ℤ pos (used_by t (joined t fleets))
+spare_of t fleets = pos (aircraft_in t) -ℤ pos (used_by t (joined_flights t fleets))
 
 -- the aircraft left over, whichever quickest fleets are taken
 pub record IsSpare (t : Tables) (spare : ℤ) : Type 0 where

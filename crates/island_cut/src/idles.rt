@@ -5,7 +5,7 @@ ghost use Rattle.fleet_model.specs.Schedule.{stations_in};
 ghost use Rattle.fleet_model.specs.declared.limits.TheConstants.{MAX_LEGS};
 ghost use Rattle.island_cut.specs.Islands.{has_islands, have_pairs, idle_at, idle_minutes, idles_of};
 ghost use Rattle.island_cut.specs.PlainDay.{is_plain_day};
-ghost use Rattle.island_cut.specs.Spare.{AreFleetsOf, AreQuickest, joined};
+ghost use Rattle.island_cut.specs.Spare.{AreFleetsOf, AreQuickest, joined_flights};
 ghost use Rattle.stand_counts.specs.Flights.{laps_by};
 
 use crate::idle_minutes::Idle;
@@ -64,7 +64,7 @@ fn has_islands(alloc: Global, tables: &Tables, plan: &Assignment) -> Result<bool
 #[tactic(auto, unfolding(stand_counts::specs::Flights::laps_by))]
 fn lapping(tables: &Tables, plan: &Assignment) -> u32
     requires { AreFleetsOf tables.now plan.now }
-    ensures value { result ≡ laps_by tables.now (joined tables.now (choice_at plan.now)) }
+    ensures value { result ≡ laps_by tables.now (joined_flights tables.now (choice_at plan.now)) }
     ensures few { result ≤ 2 * MAX_LEGS }
 {
     let mut sum = 0;

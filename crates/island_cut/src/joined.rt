@@ -3,7 +3,7 @@ ghost use Rattle.std.specs.Prelude.{◌≡◌, ◌+◌, ◌<◌, ◌≤◌, ⊤,
 ghost use Rattle.fleet_model.specs.Counts.{choice_at};
 ghost use Rattle.fleet_model.specs.Schedule.{fleets_in, legs_in};
 ghost use Rattle.island_cut.specs.Islands.{have_pairs};
-ghost use Rattle.island_cut.specs.Spare.{AreFleetsOf, AreQuickest, HavePairs, IsBest, IsQuickest, joined};
+ghost use Rattle.island_cut.specs.Spare.{AreFleetsOf, AreQuickest, HavePairs, IsBest, IsQuickest, joined_flights};
 
 use fleet_model::{Assignment, Pair, Tables};
 use stand_counts::Flights;
@@ -15,7 +15,7 @@ pub(crate) struct Joined<'a> {
 }
 
 impl Flights for Joined<'_> {
-    ghost flights = { λ t it. joined t (choice_at it.plan.now) };
+    ghost flights = { λ t it. joined_flights t (choice_at it.plan.now) };
 
     ghost fit = { λ t it. AreFleetsOf t it.plan.now };
 

@@ -1,7 +1,7 @@
 //! Idle minutes, found in their list.
 ghost use Rattle.std.specs.Prelude.{◌≡◌, ◌≤◌, ℕ, Contains, MatchOption};
 ghost use Rattle.island_cut.specs.Islands.{idle_at};
-ghost use Rattle.island_cut.specs.Lookup.{IdlesRise, IsFirstIdle, IsParting, comes_before};
+ghost use Rattle.island_cut.specs.Lookup.{IdlesRise, IsFirstIdle, IsPartingIdles, idle_before};
 
 use crate::idle_minutes::Idle;
 
@@ -19,14 +19,14 @@ pub fn first_idle(idles: &[Idle], station: u32, from: u16) -> Option<u16>
 // How many entries come before a minute of a station.
 fn parting(idles: &[Idle], station: u32, minute: u16) -> usize
     requires { IdlesRise idles.now }
-    ensures { IsParting idles.now station minute result }
+    ensures { IsPartingIdles idles.now station minute result }
 {
     idles.partition_point(|entry| comes_before(entry, station, minute))
 }
 
 // Whether an entry comes before a minute of a station.
 fn comes_before(entry: &Idle, station: u32, minute: u16) -> bool
-    ensures { result ≡ comes_before entry.now station minute }
+    ensures { result ≡ idle_before entry.now station minute }
 {
     entry.station < station || entry.station == station && entry.minute < minute
 }

@@ -5,8 +5,8 @@ ghost use Rattle.fleet_model.specs.OwnTimes.{own_pair};
 ghost use Rattle.fleet_model.specs.Schedule.{fleets_in, last_of, leg_of, legs_in, period_of};
 ghost use Rattle.fleet_model.specs.Times.{departure, ready_minute};
 ghost use Rattle.fleet_model.specs.declared.limits.TheConstants.{MAX_LEGS};
-ghost use Rattle.island_cut.specs.Movements.{AreCounts, AreRaised, TellEach, greatest_lead, lead};
-ghost use Rattle.island_cut.specs.Spare.{AreFleetsOf, joined};
+ghost use Rattle.island_cut.specs.Movements.{AreMinuteCounts, AreRaised, TellEach, greatest_lead, lead};
+ghost use Rattle.island_cut.specs.Spare.{AreFleetsOf, joined_flights};
 ghost use Rattle.stand_counts.specs.Flights.{arrived_by, departed_by};
 
 use entries::NoMemory;
@@ -21,8 +21,8 @@ pub(crate) fn departures(
     station: u32,
 ) -> Result<Vec<u32>, NoMemory>
     requires { AreFleetsOf tables.now plan.now }
-    ensures counts { IfOk result (λ counts. AreCounts (period_of tables.now) MAX_LEGS counts.items) }
-    ensures value { IfOk result (λ counts. TellEach (period_of tables.now) (departed_by tables.now (joined tables.now (choice_at plan.now)) station) counts.items) }
+    ensures counts { IfOk result (λ counts. AreMinuteCounts (period_of tables.now) MAX_LEGS counts.items) }
+    ensures value { IfOk result (λ counts. TellEach (period_of tables.now) (departed_by tables.now (joined_flights tables.now (choice_at plan.now)) station) counts.items) }
 {
     let mut counts = no_counts(alloc, tables)?;
     for leg in 0..tables.leg_count() {
@@ -40,8 +40,8 @@ pub(crate) fn arrivals(
     station: u32,
 ) -> Result<Vec<u32>, NoMemory>
     requires { AreFleetsOf tables.now plan.now }
-    ensures counts { IfOk result (λ counts. AreCounts (period_of tables.now) MAX_LEGS counts.items) }
-    ensures value { IfOk result (λ counts. TellEach (period_of tables.now) (arrived_by tables.now (joined tables.now (choice_at plan.now)) station) counts.items) }
+    ensures counts { IfOk result (λ counts. AreMinuteCounts (period_of tables.now) MAX_LEGS counts.items) }
+    ensures value { IfOk result (λ counts. TellEach (period_of tables.now) (arrived_by tables.now (joined_flights tables.now (choice_at plan.now)) station) counts.items) }
 {
     let mut counts = no_counts(alloc, tables)?;
     for leg in 0..tables.leg_count() {
@@ -53,7 +53,7 @@ pub(crate) fn arrivals(
 
 // A count of 0 for each minute.
 fn no_counts(alloc: Global, tables: &Tables) -> Result<Vec<u32>, NoMemory>
-    ensures counts { IfOk result (λ counts. AreCounts (period_of tables.now) 0 counts.items) }
+    ensures counts { IfOk result (λ counts. AreMinuteCounts (period_of tables.now) 0 counts.items) }
     ensures none { IfOk result (λ counts. TellEach (period_of tables.now) (λ m. 0) counts.items) }
 {
     Ok(vec![in alloc; 0; tables.period() as usize]?)
@@ -90,10 +90,10 @@ fn there_from(tables: &Tables, leg: u32, fleet: u32, station: u32) -> u16
 
 // Counts one more from a minute on, where there are no more than so many so far.
 fn raise_from(tables: &Tables, counts: &mut Vec<u32>, from: u16, most: u32)
-    requires counts { AreCounts (period_of tables.now) most counts.old.items }
+    requires counts { AreMinuteCounts (period_of tables.now) most counts.old.items }
     requires few { most < MAX_LEGS }
     requires from { from ≤ period_of tables.now }
-    ensures counts { AreCounts (period_of tables.now) (most + 1) counts.new.items }
+    ensures counts { AreMinuteCounts (period_of tables.now) (most + 1) counts.new.items }
     ensures raised { AreRaised (period_of tables.now) from counts.old.items counts.new.items }
 {
     for minute in from..tables.period() {
@@ -104,8 +104,8 @@ fn raise_from(tables: &Tables, counts: &mut Vec<u32>, from: u16, most: u32)
 /// The aircraft that must be at a station at the day start: by how much departures pass arrivals at most.
 #[tactic(auto, unfolding(sums::specs::Below::max_below))]
 pub(crate) fn need(tables: &Tables, departed: &[u32], arrived: &[u32]) -> u32
-    requires departed { AreCounts (period_of tables.now) MAX_LEGS departed.now }
-    requires arrived { AreCounts (period_of tables.now) MAX_LEGS arrived.now }
+    requires departed { AreMinuteCounts (period_of tables.now) MAX_LEGS departed.now }
+    requires arrived { AreMinuteCounts (period_of tables.now) MAX_LEGS arrived.now }
     ensures value { result ≡ greatest_lead (period_of tables.now) departed.now arrived.now }
     ensures few { result ≤ MAX_LEGS }
 {
@@ -129,8 +129,8 @@ fn lead(departed: &[u32], arrived: &[u32], minute: u16) -> u32
 
 /// Whether as many have come by the end of the period as have left.
 pub(crate) fn is_even(tables: &Tables, departed: &[u32], arrived: &[u32]) -> bool
-    requires departed { AreCounts (period_of tables.now) MAX_LEGS departed.now }
-    requires arrived { AreCounts (period_of tables.now) MAX_LEGS arrived.now }
+    requires departed { AreMinuteCounts (period_of tables.now) MAX_LEGS departed.now }
+    requires arrived { AreMinuteCounts (period_of tables.now) MAX_LEGS arrived.now }
     ensures { result ≡ (slice_index arrived.now (last_of tables.now) == slice_index departed.now (last_of tables.now)) }
 {
     let last = tables.period() as usize - 1;

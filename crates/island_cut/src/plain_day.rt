@@ -3,7 +3,7 @@ ghost use Rattle.std.specs.Prelude.{◌≡◌, ◌<◌, ◌≤◌};
 ghost use Rattle.fleet_model.specs.Schedule.{legs_in};
 ghost use Rattle.fleet_model.specs.declared.limits.TheConstants.{MAX_CHOICES};
 ghost use Rattle.fleet_model.specs.LeftOut.{left_out_on};
-ghost use Rattle.island_cut.specs.PlainDay.{is_plain_day, left_out, limits_in};
+ghost use Rattle.island_cut.specs.PlainDay.{choices_left_out, is_plain_day, limits_in};
 
 use fleet_model::{Pair, Tables};
 
@@ -34,9 +34,9 @@ fn limits(tables: &Tables) -> u32
 }
 
 // By how many choices legs may be left out.
-#[tactic(auto, unfolding(crate::specs::PlainDay::left_out))]
+#[tactic(auto, unfolding(crate::specs::PlainDay::choices_left_out))]
 fn left_out(tables: &Tables) -> u32
-    ensures { result ≡ left_out tables.now }
+    ensures { result ≡ choices_left_out tables.now }
 {
     let mut count = 0;
     for leg in 0..tables.leg_count() {

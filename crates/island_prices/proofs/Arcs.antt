@@ -18,15 +18,15 @@ use Rattle.fleet_model.specs.Times.{departure, ready_minute}
 use Rattle.fleet_model.specs.declared.tables.Tables.{Tables}
 use Rattle.fleet_model.proofs.Choices.{of_flown}
 use Rattle.fleet_model.proofs.PeriodMinutes.{some_minutes}
-use Rattle.timeline_net.specs.Events.{departure_event, departures_of, events_below, readies_of, ready_event}
+use Rattle.timeline_net.specs.Events.{departure_event, departure_events, events_below, readies_of, ready_event}
 use Rattle.timeline_net.specs.declared.timeline.Event.{Event}
 use Rattle.node_aggregate.specs.Nodes.{AreNodesAt, MayFollow, MayStart, RiseFromZero, days_at, end_in}
 use Rattle.node_aggregate.proofs.Starts.{end_last, end_next, start_within, starts_rise}
 use Rattle.dual_bound.specs.Prices.{AreWithin, max_price, price_of, rent_of}
 use Rattle.dual_bound.specs.declared.prices.Prices.{Prices}
 use Rattle.island_prices.specs.Arcs.{AreAllNodes, AreArcRises, AreByNodes, AreMoments, ArcMoments, DoStayLow, IsQuiet, NodeStarts, rise_over, shift_over}
-use Rattle.island_prices.specs.Payback.{AreApart, AreCovered, AreQuiet, end_of, ends_at, ends_by}
-use Rattle.island_prices.specs.Rises.{AreRises, IsShift, is_of, rise_in, shift_at, shift_by, shift_of, shifted}
+use Rattle.island_prices.specs.Payback.{AreCovered, AreQuiet, AreRisesApart, ends_by, rise_end, rises_end_at}
+use Rattle.island_prices.specs.Rises.{AreRises, IsRiseShift, is_rise_of, rise_in, rise_shift, rise_shift_by, shift_at, shifted}
 use Rattle.island_prices.specs.declared.rises.Rise.{Rise}
 use Rattle.island_prices.specs.declared.rises.Shift.TheVariants.{Lowered, Raised}
 use Rattle.island_prices.proofs.ArcSteps.{over_end, over_minute}
@@ -43,7 +43,7 @@ module _ (t : Tables) (keeps : Domains) (f s : ℕ) where
   abbrev OfPair : Event → Type 0
   OfPair e = e.ready ≡ false → IsKeptDeparture t keeps f s e
 
-  departs_so : (d : ℕ) → d < departures_in t → All OfPair (departures_of t keeps f s d)
+  departs_so : (d : ℕ) → d < departures_in t → All OfPair (departure_events t keeps f s d)
   departs_so d below = by_kept (keeps (pair_on t d f) && ((leg_of t (leg_at t d)).from == s)) refl
     where
       by_kept : (b : Bool) → (keeps (pair_on t d f) && ((leg_of t (leg_at t d)).from == s)) ≡ b → All OfPair (if b then departure_event t f d ∷ [] else [])
@@ -132,12 +132,12 @@ module _ (t : Tables) (keeps : Domains) (prices : Prices) (starts : NodeStarts) 
           fleet = is.fleet;
           station = is.station;
           moment = in_period;
-          shift = subst (λ x. IsShift (period_of t) x m) (sym is.shift) (elim (shift_is (starts f s) is.place m) [
-            | inl raised ↦ subst (λ x. IsShift (period_of t) x m) (sym raised.1) (
+          shift = subst (λ x. IsRiseShift (period_of t) x m) (sym is.shift) (elim (shift_is (starts f s) is.place m) [
+            | inl raised ↦ subst (λ x. IsRiseShift (period_of t) x m) (sym raised.1) (
               (moments.in_node f s is.place m is.fleet is.station is.within several_nodes is.went raised.0).0,
               omega (arith, end_in_period f s is.place is.fleet is.station is.within),
             )
-            | inr lowered ↦ subst (λ x. IsShift (period_of t) x m) (sym lowered.1) tt
+            | inr lowered ↦ subst (λ x. IsRiseShift (period_of t) x m) (sym lowered.1) tt
           ]);
           amount = record { some = is.some; small = subst (λ z. z ≤ℤ pos (3 * max_price)) (sym is.amount) (small_rise f s is.place is.fleet is.station is.within) };
         };
@@ -221,7 +221,7 @@ module _ (t : Tables) (keeps : Domains) (prices : Prices) (starts : NodeStarts) 
     ]
   ]
 
-  pub are_apart : AreApart rises
+  pub are_apart : AreRisesApart rises
   are_apart = record {
     each = λ i j order below same.
         let before : i < length rises = omega arith in
@@ -234,8 +234,8 @@ module _ (t : Tables) (keeps : Domains) (prices : Prices) (starts : NodeStarts) 
   }
 
   -- ---- prices rise by them alone
-  ends_some : (f s m i : ℕ) → i < length rises → pos 0 ≤ℤ ends_at t rises f s m i
-  ends_some f s m i below = by_case (is_of (rise_in rises i) f s && (end_of t (rise_in rises i).shift == m))
+  ends_some : (f s m i : ℕ) → i < length rises → pos 0 ≤ℤ rises_end_at t rises f s m i
+  ends_some f s m i below = by_case (is_rise_of (rise_in rises i) f s && (rise_end t (rise_in rises i).shift == m))
     where
       by_case : (b : Bool) → pos 0 ≤ℤ cond b (rise_in rises i).amount (pos 0)
       by_case true = omega (arith, ints, (are.each i below).some)
@@ -243,35 +243,35 @@ module _ (t : Tables) (keeps : Domains) (prices : Prices) (starts : NodeStarts) 
 
   ends_at_least_0 : (f s m : ℕ) → pos 0 ≤ℤ ends_by t rises f s m
   unfolding ends_by
-  ends_at_least_0 f s m = at_least_0 (ends_at t rises f s m) (length rises) (ends_some f s m)
+  ends_at_least_0 f s m = at_least_0 (rises_end_at t rises f s m) (length rises) (ends_some f s m)
 
-  end_is : (f s k a : ℕ) → Went f s a k → end_of t (shift_over t (starts f s) k a) ≡ end_in t (starts f s) k
+  end_is : (f s k a : ℕ) → Went f s a k → rise_end t (shift_over t (starts f s) k a) ≡ end_in t (starts f s) k
   end_is f s k a went = elim (shift_is (starts f s) k a) [
-    | inl raised ↦ ap (end_of t) raised.1
+    | inl raised ↦ ap (rise_end t) raised.1
     | inr lowered ↦
         let last = (moments.round f s k a went.known went.within went.below went.several_nodes went.went lowered.0).0 in
-        ap (end_of t) lowered.1 ∙ sym (end_last t (starts f s) k (omega (arith, last)))
+        ap (rise_end t) lowered.1 ∙ sym (end_last t (starts f s) k (omega (arith, last)))
   ]
 
   arc_covered : DoStayLow t prices starts moment → (f s k m : ℕ) → f < fleets_in t → s < stations_in t → k < length (starts f s) → end_in t (starts f s) k ≡ m → rise_over prices (starts f s) f s k ≤ℤ ends_by t rises f s m
   unfolding ends_by
   arc_covered low f s k m known within below ends = by_moment (moment f s k) refl
     where
-      by_moment : (o : Option ℕ) → moment f s k ≡ o → rise_over prices (starts f s) f s k ≤ℤ sum_below_ℤ (ends_at t rises f s m) (length rises)
-      by_moment None stays = omega (arith, ints, low.each f s k known within below stays, at_least_0 (ends_at t rises f s m) (length rises) (ends_some f s m))
+      by_moment : (o : Option ℕ) → moment f s k ≡ o → rise_over prices (starts f s) f s k ≤ℤ sum_below_ℤ (rises_end_at t rises f s m) (length rises)
+      by_moment None stays = omega (arith, ints, low.each f s k known within below stays, at_least_0 (rises_end_at t rises f s m) (length rises) (ends_some f s m))
       by_moment (Some a) went = by_test (int_lt (pos 0) (rise_over prices (starts f s) f s k))
           (λ e.
           let rises_there = above_tested (rise_over prices (starts f s) f s k) e in
           let has = are.all f s k a known within below went rises_there in
           let at : Went f s a k = record { known = known; within = within; below = below; several_nodes = several f s k known within below rises_there; went = went } in
-          let ends_there : end_of t (rise_in rises has.at).shift ≡ m = ap (end_of t) has.shift ∙ end_is f s k a at ∙ ends in
-          let passes : (is_of (rise_in rises has.at) f s && (end_of t (rise_in rises has.at).shift == m)) ≡ true =
-          both_true (is_of (rise_in rises has.at) f s) (end_of t (rise_in rises has.at).shift == m)
+          let ends_there : rise_end t (rise_in rises has.at).shift ≡ m = ap (rise_end t) has.shift ∙ end_is f s k a at ∙ ends in
+          let passes : (is_rise_of (rise_in rises has.at) f s && (rise_end t (rise_in rises has.at).shift == m)) ≡ true =
+          both_true (is_rise_of (rise_in rises has.at) f s) (rise_end t (rise_in rises has.at).shift == m)
           (both_true ((rise_in rises has.at).fleet == f) ((rise_in rises has.at).station == s) (equal_number (rise_in rises has.at).fleet f has.fleet) (equal_number (rise_in rises has.at).station s has.station))
-          (equal_number (end_of t (rise_in rises has.at).shift) m ends_there) in
-          let term : ends_at t rises f s m has.at ≡ rise_over prices (starts f s) f s k = ap (λ b. cond b (rise_in rises has.at).amount (pos 0)) passes ∙ has.amount in
-          omega (arith, ints, term, term_within (ends_at t rises f s m) (length rises) has.at has.within (ends_some f s m)))
-          (λ e. omega (arith, ints, not_above_tested (rise_over prices (starts f s) f s k) e, at_least_0 (ends_at t rises f s m) (length rises) (ends_some f s m)))
+          (equal_number (rise_end t (rise_in rises has.at).shift) m ends_there) in
+          let term : rises_end_at t rises f s m has.at ≡ rise_over prices (starts f s) f s k = ap (λ b. cond b (rise_in rises has.at).amount (pos 0)) passes ∙ has.amount in
+          omega (arith, ints, term, term_within (rises_end_at t rises f s m) (length rises) has.at has.within (ends_some f s m)))
+          (λ e. omega (arith, ints, not_above_tested (rise_over prices (starts f s) f s k) e, at_least_0 (rises_end_at t rises f s m) (length rises) (ends_some f s m)))
 
   pub are_covered : AreByNodes t prices starts → DoStayLow t prices starts moment → AreCovered t prices rises
   are_covered by_nodes low =
@@ -309,7 +309,7 @@ module _ (t : Tables) (keeps : Domains) (prices : Prices) (starts : NodeStarts) 
     ]
 
     none_shifts : (i : ℕ) → i < length rises → shift_at rises f s m i ≡ pos 0
-    none_shifts i below = by_test (is_of (rise_in rises i) f s)
+    none_shifts i below = by_test (is_rise_of (rise_in rises i) f s)
         (λ e.
         let own = parts_true ((rise_in rises i).fleet == f) ((rise_in rises i).station == s) e in
         let fleet : (rise_in rises i).fleet ≡ f = eqb-true (rise_in rises i).fleet f own.0 in
@@ -318,13 +318,13 @@ module _ (t : Tables) (keeps : Domains) (prices : Prices) (starts : NodeStarts) 
         let here = subst (λ r. Went f r (rise_in rises i).moment k) station (subst (λ g. Went g (rise_in rises i).station (rise_in rises i).moment k) fleet (went_so i below)) in
         let shift : (rise_in rises i).shift ≡ shift_over t (starts f s) k (rise_in rises i).moment =
         (are.each i below).shift ∙ ap₂ (λ g r. shift_over t (starts g r) k (rise_in rises i).moment) fleet station in
-        ap (λ b. cond b (shift_of (rise_in rises i) m) (pos 0)) e
+        ap (λ b. cond b (rise_shift (rise_in rises i) m) (pos 0)) e
         ∙ ap (λ x. shifted x (rise_in rises i).moment (rise_in rises i).amount m) shift
         ∙ not_shifted k (rise_in rises i).moment (rise_in rises i).amount here)
-        (λ e. ap (λ b. cond b (shift_of (rise_in rises i) m) (pos 0)) e)
+        (λ e. ap (λ b. cond b (rise_shift (rise_in rises i) m) (pos 0)) e)
 
-    stays_there : shift_by rises f s m ≡ pos 0
-    unfolding shift_by
+    stays_there : rise_shift_by rises f s m ≡ pos 0
+    unfolding rise_shift_by
     stays_there = sum_below_ℤ-same (shift_at rises f s m) (λ i. pos 0) (length rises) none_shifts ∙ sum_below_ℤ-zero (length rises)
 
   pub are_quiet : AreQuiet t keeps rises

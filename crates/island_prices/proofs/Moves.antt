@@ -15,8 +15,8 @@ use Rattle.fleet_model.specs.Schedule.{fleets_in, last_of, period_of, stations_i
 use Rattle.fleet_model.specs.declared.tables.Tables.{Tables}
 use Rattle.dual_bound.specs.Prices.{rent_of}
 use Rattle.dual_bound.specs.declared.prices.Prices.{Prices}
-use Rattle.island_prices.specs.Payback.{AreApart, AreCovered, end_of, ends_at, ends_by}
-use Rattle.island_prices.specs.Rises.{AreRises, IsShift, is_of, moved_price, rise_in, shift_at, shift_by, shift_of, shifted}
+use Rattle.island_prices.specs.Payback.{AreCovered, AreRisesApart, ends_by, rise_end, rises_end_at}
+use Rattle.island_prices.specs.Rises.{AreRises, IsRiseShift, is_rise_of, moved_price, rise_in, rise_shift, rise_shift_by, shift_at, shifted}
 use Rattle.island_prices.specs.Rounds.{greatest_below, greatest_rise, rise_where}
 use Rattle.island_prices.specs.declared.rises.Rise.{Rise}
 use Rattle.island_prices.specs.declared.rises.Shift.{Shift}
@@ -68,8 +68,8 @@ next_period t = record {
   lowered = λ a in_period. lowered_over a (last_of t) in_period;
 }
 
-one_shift : (t : Tables) (m n : ℕ) → IsNext t m n → (shift : Shift) (moment : ℕ) (amount : ℤ) → IsShift (period_of t) shift moment → moment ≤ last_of t
-    → shifted shift moment amount n +ℤ cond (end_of t shift == m) amount (pos 0) ≡ shifted shift moment amount m +ℤ cond (moment == m) amount (pos 0)
+one_shift : (t : Tables) (m n : ℕ) → IsNext t m n → (shift : Shift) (moment : ℕ) (amount : ℤ) → IsRiseShift (period_of t) shift moment → moment ≤ last_of t
+    → shifted shift moment amount n +ℤ cond (rise_end t shift == m) amount (pos 0) ≡ shifted shift moment amount m +ℤ cond (moment == m) amount (pos 0)
 one_shift t m n next (Raised last) moment amount is within =
     as_often (nat_lt moment n && nat_le n last) (last == m) (nat_lt moment m && nat_le m last) (moment == m) amount (next.raised moment last is.0 (omega (arith, is.1)))
 one_shift t m n next Lowered moment amount is within =
@@ -79,26 +79,26 @@ one_shift t m n next Lowered moment amount is within =
 -- ---- over all rises
 -- the rises of a fleet at a station that went to a moment
 abbrev pub went_at : List Rise → ℕ → ℕ → ℕ → ℕ → ℤ
-went_at rises f s m i = if is_of (rise_in rises i) f s && ((rise_in rises i).moment == m) then (rise_in rises i).amount else pos 0
+went_at rises f s m i = if is_rise_of (rise_in rises i) f s && ((rise_in rises i).moment == m) then (rise_in rises i).amount else pos 0
 
 abbrev pub went_by : List Rise → ℕ → ℕ → ℕ → ℤ
 went_by rises f s m = sum_below_ℤ (went_at rises f s m) (length rises)
 
 module _ (t : Tables) (rises : List Rise) (are : AreRises t rises) (f s : ℕ) where
-  one_rise : (m n : ℕ) → IsNext t m n → (i : ℕ) → i < length rises → shift_at rises f s n i +ℤ ends_at t rises f s m i ≡ shift_at rises f s m i +ℤ went_at rises f s m i
-  one_rise m n next i below = by_own (is_of (rise_in rises i) f s)
+  one_rise : (m n : ℕ) → IsNext t m n → (i : ℕ) → i < length rises → shift_at rises f s n i +ℤ rises_end_at t rises f s m i ≡ shift_at rises f s m i +ℤ went_at rises f s m i
+  one_rise m n next i below = by_own (is_rise_of (rise_in rises i) f s)
     where
       by_own : (b : Bool)
-          → cond b (shift_of (rise_in rises i) n) (pos 0) +ℤ cond (b && (end_of t (rise_in rises i).shift == m)) (rise_in rises i).amount (pos 0)
-          ≡ cond b (shift_of (rise_in rises i) m) (pos 0) +ℤ cond (b && ((rise_in rises i).moment == m)) (rise_in rises i).amount (pos 0)
+          → cond b (rise_shift (rise_in rises i) n) (pos 0) +ℤ cond (b && (rise_end t (rise_in rises i).shift == m)) (rise_in rises i).amount (pos 0)
+          ≡ cond b (rise_shift (rise_in rises i) m) (pos 0) +ℤ cond (b && ((rise_in rises i).moment == m)) (rise_in rises i).amount (pos 0)
       by_own true = one_shift t m n next (rise_in rises i).shift (rise_in rises i).moment (rise_in rises i).amount (are.each i below).shift (omega (arith, (are.each i below).moment))
       by_own false = refl
 
-  all_rises : (m n : ℕ) → IsNext t m n → shift_by rises f s n +ℤ ends_by t rises f s m ≡ shift_by rises f s m +ℤ went_by rises f s m
-  unfolding shift_by ends_by
+  all_rises : (m n : ℕ) → IsNext t m n → rise_shift_by rises f s n +ℤ ends_by t rises f s m ≡ rise_shift_by rises f s m +ℤ went_by rises f s m
+  unfolding rise_shift_by ends_by
   all_rises m n next =
-      sym (sum_below_ℤ-+ℤ (shift_at rises f s n) (ends_at t rises f s m) (length rises))
-      ∙ sum_below_ℤ-same (λ i. shift_at rises f s n i +ℤ ends_at t rises f s m i) (λ i. shift_at rises f s m i +ℤ went_at rises f s m i) (length rises) (one_rise m n next)
+      sym (sum_below_ℤ-+ℤ (shift_at rises f s n) (rises_end_at t rises f s m) (length rises))
+      ∙ sum_below_ℤ-same (λ i. shift_at rises f s n i +ℤ rises_end_at t rises f s m i) (λ i. shift_at rises f s m i +ℤ went_at rises f s m i) (length rises) (one_rise m n next)
       ∙ sum_below_ℤ-+ℤ (shift_at rises f s m) (went_at rises f s m) (length rises)
 
 -- ---- one rise of a fleet at a station goes to a moment at most
@@ -138,11 +138,11 @@ sum_of_one b z g (suc n) apart within = by_test (b n)
       ap (λ c. cond c (z n) (pos 0)) e,
     ))
 
-module _ (rises : List Rise) (apart : AreApart rises) (f s m : ℕ) where
+module _ (rises : List Rise) (apart : AreRisesApart rises) (f s m : ℕ) where
   pub went_once : went_by rises f s m ≤ℤ greatest_rise rises s m
   unfolding greatest_rise
   went_once =
-      sum_of_one (λ i. is_of (rise_in rises i) f s && ((rise_in rises i).moment == m)) (λ i. (rise_in rises i).amount) (rise_where rises s m) (length rises)
+      sum_of_one (λ i. is_rise_of (rise_in rises i) f s && ((rise_in rises i).moment == m)) (λ i. (rise_in rises i).amount) (rise_where rises s m) (length rises)
       (λ i j order below one other.
       let first = parts i one in
       let second = parts j other in
@@ -152,9 +152,9 @@ module _ (rises : List Rise) (apart : AreApart rises) (f s m : ℕ) where
       let same : rise_where rises s m i ≡ (rise_in rises i).amount = ap₂ (λ b c. cond (b && c) (rise_in rises i).amount (pos 0)) (equal_number (rise_in rises i).station s own.1) (equal_number (rise_in rises i).moment m own.2) in
       omega (arith, ints, same))
     where
-      parts : (i : ℕ) → (is_of (rise_in rises i) f s && ((rise_in rises i).moment == m)) ≡ true → ((rise_in rises i).fleet ≡ f) × ((rise_in rises i).station ≡ s) × ((rise_in rises i).moment ≡ m)
+      parts : (i : ℕ) → (is_rise_of (rise_in rises i) f s && ((rise_in rises i).moment == m)) ≡ true → ((rise_in rises i).fleet ≡ f) × ((rise_in rises i).station ≡ s) × ((rise_in rises i).moment ≡ m)
       parts i e =
-          let both = parts_true (is_of (rise_in rises i) f s) ((rise_in rises i).moment == m) e in
+          let both = parts_true (is_rise_of (rise_in rises i) f s) ((rise_in rises i).moment == m) e in
           let place = parts_true ((rise_in rises i).fleet == f) ((rise_in rises i).station == s) both.0 in (
             eqb-true (rise_in rises i).fleet f place.0,
             eqb-true (rise_in rises i).station s place.1,
@@ -162,7 +162,7 @@ module _ (rises : List Rise) (apart : AreApart rises) (f s m : ℕ) where
           )
 
 -- ---- moved prices
-module _ (t : Tables) (prices : Prices) (rises : List Rise) (are : AreRises t rises) (apart : AreApart rises) (covered : AreCovered t prices rises) (f s : ℕ) (known : f < fleets_in t) (within : s < stations_in t) where
+module _ (t : Tables) (prices : Prices) (rises : List Rise) (are : AreRises t rises) (apart : AreRisesApart rises) (covered : AreCovered t prices rises) (f s : ℕ) (known : f < fleets_in t) (within : s < stations_in t) where
   pub rises_at_moment : (m : ℕ) → m + 1 < period_of t → moved_price prices rises f s (m + 1) ≤ℤ (moved_price prices rises f s m +ℤ greatest_rise rises s m)
   rises_at_moment m in_period = omega (arith, ints, covered.within_period f s m known within in_period, all_rises t rises are f s m (m + 1) (next_minute t m in_period), went_once rises apart f s m)
 

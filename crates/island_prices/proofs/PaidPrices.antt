@@ -21,9 +21,9 @@ use Rattle.dual_bound.specs.declared.prices.Prices.{Prices}
 use Rattle.dual_bound.proofs.Charges.{flown_worth, no_rise}
 use Rattle.dual_bound.proofs.NoCharges.{none_in_order, none_proper}
 use Rattle.island_prices.specs.Paid.{any_below, beyond_at, beyond_of, first_beyond, fleet_if, has_beyond, is_beyond, paid_price, paid_prices, paid_rent}
-use Rattle.island_prices.specs.Payback.{AreApart, AreCovered, AreQuiet, PaysBack}
+use Rattle.island_prices.specs.Payback.{AreCovered, AreQuiet, AreRisesApart, PaysBack}
 use Rattle.island_prices.specs.Rises.{AreRises, moved_price}
-use Rattle.island_prices.specs.Rounds.{minute_in, number_in, price_grown, rent_grown, rounds_of}
+use Rattle.island_prices.specs.Rounds.{price_grown, rent_grown, round_minute, round_number, rounds_of}
 use Rattle.island_prices.specs.Steps.{steps_of}
 use Rattle.island_prices.specs.declared.rises.Rise.{Rise}
 use Rattle.island_prices.specs.declared.rounds.Rounds.{Rounds}
@@ -123,9 +123,9 @@ module _ (t : Tables) (prices : Prices) (rises : List Rise) (least : List ℕ) (
   -- ---- proper
   rents_grow : pos 0 ≤ℤ rent_grown rounds count
   unfolding rent_grown
-  rents_grow = at_least_0 (number_in rounds) count (number_at_least_0 t rises are least)
+  rents_grow = at_least_0 (round_number rounds) count (number_at_least_0 t rises are least)
 
-  module _ (apart : AreApart rises) (covered : AreCovered t prices rises) (scale : IsScale prices.scale) (rents : (f : ℕ) → f < fleets_in t → pos 0 ≤ℤ rent_of prices f)
+  module _ (apart : AreRisesApart rises) (covered : AreCovered t prices rises) (scale : IsScale prices.scale) (rents : (f : ℕ) → f < fleets_in t → pos 0 ≤ℤ rent_of prices f)
       (fits : first_beyond t (paid_rent prices rounds) (paid_price prices rises rounds) (fleets_in t) ≡ None) where
     falls : (f s m : ℕ) → f < fleets_in t → s < stations_in t → m + 1 < period_of t → paid_price prices rises rounds f s (m + 1) ≤ℤ paid_price prices rises rounds f s m
     falls f s m known within period = omega (
@@ -191,7 +191,7 @@ module _ (t : Tables) (prices : Prices) (rises : List Rise) (least : List ℕ) (
   -- ---- worth no less
   module _ (charged : AreCharges t prices) (keeps : Domains) (k : ℕ) (some_pair : (l : ℕ) → ¬ (IsBare t keeps l)) (allowed : (p : Pair) → IsPair t p → keeps p ≡ true → IsSome (cost_of t p))
       (flies : (p : Pair) → IsPair t p → keeps p ≡ true → fleet_by t p < fleets_in t) (quiet : AreQuiet t keeps rises)
-      (pays : (j : ℕ) → j < count → PaysBack t (λ s. minute_in rounds s j)) where
+      (pays : (j : ℕ) → j < count → PaysBack t (λ s. round_minute rounds s j)) where
     not_grown : (s m : ℕ) → price_grown rounds s m 0 ≡ pos 0
     unfolding price_grown
     not_grown s m = refl
@@ -224,14 +224,14 @@ module _ (t : Tables) (prices : Prices) (rises : List Rise) (least : List ℕ) (
 
     one_round : (n : ℕ) → n < count → worth_of t keeps (prices_after n) k ≤ℤ worth_of t keeps (prices_after (suc n)) k
     unfolding price_grown rent_grown
-    one_round n below = no_less t keeps k some_pair allowed flies (prices_after n) (prices_after (suc n)) (none_proper t (prices_after n) refl) refl (number_in rounds n) (number_at_least_0 t rises are least n below) (λ s. minute_in rounds s n) (pays n below) refl
+    one_round n below = no_less t keeps k some_pair allowed flies (prices_after n) (prices_after (suc n)) (none_proper t (prices_after n) refl) refl (round_number rounds n) (number_at_least_0 t rises are least n below) (λ s. round_minute rounds s n) (pays n below) refl
         (λ f s m known within period. omega (arith, ints, told_price n f s m known within period, told_price (suc n) f s m known within period, price_more s m n))
         (λ f known. omega (arith, ints, told_rent n f known, told_rent (suc n) f known, rent_more n))
       where
-        price_more : (s m n : ℕ) → price_grown rounds s m (suc n) ≡ price_grown rounds s m n +ℤ cond (nat_le m (minute_in rounds s n)) (number_in rounds n) (pos 0)
+        price_more : (s m n : ℕ) → price_grown rounds s m (suc n) ≡ price_grown rounds s m n +ℤ cond (nat_le m (round_minute rounds s n)) (round_number rounds n) (pos 0)
         price_more s m n = refl
 
-        rent_more : (n : ℕ) → rent_grown rounds (suc n) ≡ rent_grown rounds n +ℤ number_in rounds n
+        rent_more : (n : ℕ) → rent_grown rounds (suc n) ≡ rent_grown rounds n +ℤ round_number rounds n
         rent_more n = refl
 
     rounds_pay : (n : ℕ) → n ≤ count → worth_of t keeps (prices_after 0) k ≤ℤ worth_of t keeps (prices_after n) k

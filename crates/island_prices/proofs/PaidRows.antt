@@ -10,8 +10,8 @@ use Rattle.fleet_model.specs.declared.tables.Tables.{Tables}
 use Rattle.dual_bound.specs.declared.prices.Prices.{Prices}
 use Rattle.dual_bound.specs.declared.prices.PriceStep.{PriceStep}
 use Rattle.island_prices.specs.Rounds.{rounds_of}
-use Rattle.island_prices.specs.Paid.{HasBeyond, IsPaybackError, IsWantedBehind, any_below, beyond_at, beyond_of, first_beyond, fleet_if, has_beyond, is_beyond, paid_price, paid_prices, paid_rent}
-use Rattle.island_prices.specs.Steps.{all_zero, fleet_steps, is_step, station_steps, step_where, steps_below, steps_of}
+use Rattle.island_prices.specs.Paid.{HasBeyond, IsPaybackError, IsWantedBehindLimit, any_below, beyond_at, beyond_of, first_beyond, fleet_if, has_beyond, is_beyond, paid_price, paid_prices, paid_rent}
+use Rattle.island_prices.specs.Steps.{all_zero, fleet_steps, is_minute_step, minute_step_where, station_steps, steps_below, steps_of}
 use Rattle.island_prices.specs.declared.paying.PaybackError.{PaybackError}
 use Rattle.island_prices.specs.declared.rises.Rise.{Rise}
 use Rattle.island_prices.specs.declared.rounds.Rounds.{Rounds}
@@ -46,10 +46,10 @@ pub nothing_pushed : (minutes : ℕ) (price : ℕ → ℤ) (f s : ℕ) (old : Li
 unfolding steps_below
 nothing_pushed minutes price f s old = sym (append-nil old)
 
-pub minute_pushed : (minutes : ℕ) (price : ℕ → ℤ) (f s m : ℕ) (old steps new : List PriceStep) → steps ≡ old ++ steps_below minutes price f s m → new ≡ steps ++ step_where minutes price f s m → new ≡ old ++ steps_below minutes price f s (m + 1)
+pub minute_pushed : (minutes : ℕ) (price : ℕ → ℤ) (f s m : ℕ) (old steps new : List PriceStep) → steps ≡ old ++ steps_below minutes price f s m → new ≡ steps ++ minute_step_where minutes price f s m → new ≡ old ++ steps_below minutes price f s (m + 1)
 unfolding steps_below
 minute_pushed minutes price f s m old steps new so_far grown =
-    grown ∙ ap (λ xs. xs ++ step_where minutes price f s m) so_far ∙ append_assoc old (steps_below minutes price f s m) (step_where minutes price f s m)
+    grown ∙ ap (λ xs. xs ++ minute_step_where minutes price f s m) so_far ∙ append_assoc old (steps_below minutes price f s m) (minute_step_where minutes price f s m)
     ∙ ap (λ k. old ++ steps_below minutes price f s k) (sym (add-one m))
 
 -- ---- a row has the prices of its minutes
@@ -68,8 +68,8 @@ module _ (minutes : ℕ) (price : ℕ → ℤ) (row : List ℤ) (is : row ≡ li
   zero_same zero within = refl
   zero_same (suc n) within = ap₂ (λ a z. a && int_eq z (pos 0)) (zero_same n (omega arith)) (row_there n (omega arith))
 
-  step_same : (m : ℕ) → m < minutes → is_step minutes by_row m ≡ is_step minutes price m
-  unfolding is_step
+  step_same : (m : ℕ) → m < minutes → is_minute_step minutes by_row m ≡ is_minute_step minutes price m
+  unfolding is_minute_step
   step_same zero below = ap not (zero_same minutes (omega arith))
   step_same (suc m) below = ap₂ (λ x y. not (int_eq x y)) (row_there (suc m) below) (row_there m (omega arith))
 
@@ -125,7 +125,7 @@ row_fails t rent price f n row (Beyond fleet) is below fails = (beyond_there t r
 row_fails t rent price f n row NoMemory is below fails = tt
 
 -- memory is wanting only behind the rent
-pub behind_rent : (beyond : Bool) (e : PaybackError) → beyond ≡ false → IsWantedBehind beyond e
+pub behind_rent : (beyond : Bool) (e : PaybackError) → beyond ≡ false → IsWantedBehindLimit beyond e
 behind_rent beyond (Beyond fleet) fine = tt
 behind_rent beyond NoMemory fine = fine
 
@@ -181,7 +181,7 @@ fleet_fails t rent price steps n (Beyond fleet) so_far below fails =
 fleet_fails t rent price steps n NoMemory so_far below fails = tt
 
 -- memory is wanting only behind the first fleet's rent
-pub behind_first : (t : Tables) (rent : ℕ → ℤ) (price : ℕ → ℕ → ℕ → ℤ) (steps : List PriceStep) (n : ℕ) (e : PaybackError) → AreFleetsSoFar t rent price steps n → IsWantedBehind (is_beyond (rent n)) e → IsWantedBehind (is_beyond (rent 0)) e
+pub behind_first : (t : Tables) (rent : ℕ → ℤ) (price : ℕ → ℕ → ℕ → ℤ) (steps : List PriceStep) (n : ℕ) (e : PaybackError) → AreFleetsSoFar t rent price steps n → IsWantedBehindLimit (is_beyond (rent n)) e → IsWantedBehindLimit (is_beyond (rent 0)) e
 unfolding first_beyond
 behind_first t rent price steps zero e so_far is = is
 behind_first t rent price steps (suc n) e so_far is = behind_rent (is_beyond (rent 0)) e (rent_fine t rent price 0 (nothing_at (λ f. fleet_if (has_beyond t rent price f) f) (suc n) 0 so_far.none (omega arith)))

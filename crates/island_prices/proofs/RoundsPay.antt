@@ -16,7 +16,7 @@ use Rattle.island_cut.proofs.IslandProofs.{payback_law}
 use Rattle.island_prices.specs.Least.{least_idle}
 use Rattle.island_prices.specs.Payback.{PaysBack}
 use Rattle.island_prices.specs.Rises.{rise_in}
-use Rattle.island_prices.specs.Rounds.{greatest_below, greatest_rise, has_rise, minute_in, moments_below, moments_of, rise_where, rounds_by, rounds_of}
+use Rattle.island_prices.specs.Rounds.{greatest_below, greatest_rise, has_rise, moments_below, rise_moments, rise_where, round_minute, rounds_by, rounds_of}
 use Rattle.island_prices.specs.declared.rises.Rise.{Rise}
 use Rattle.island_prices.proofs.LeastMinutes.{least_is_idle}
 
@@ -44,7 +44,7 @@ one_above g (suc n) e = by_test (int_lt (pos 0) (g n))
     rest : (a b : ℤ) → int_lt (pos 0) (int_max a b) ≡ true → int_lt (pos 0) b ≡ false → int_lt (pos 0) a ≡ true
     rest a b e other = grind (arith, ints, clamps)
 
-passing : (t : Tables) (rises : List Rise) (s j d : ℕ) → j < length (moments_of t rises s) → has_rise rises s (get_or (moments_of t rises s) j d) ≡ true
+passing : (t : Tables) (rises : List Rise) (s j d : ℕ) → j < length (rise_moments t rises s) → has_rise rises s (get_or (rise_moments t rises s) j d) ≡ true
 unfolding moments_below
 passing t rises s j d below = filter_passes (has_rise rises s) (list_below (λ m. m) (period_of t)) j d below
 
@@ -67,21 +67,21 @@ module _ (t : Tables) (rises : List Rise) (at_idles : AreAtIdles t rises) where
           clash e = grind (arith, ints)
 
   module _ (islands : has_islands t ≡ true) where
-    idle_taken : (s j : ℕ) → s < stations_in t → IsIdle t s (minute_in (rounds_of t rises (least_idle t)) s j)
+    idle_taken : (s j : ℕ) → s < stations_in t → IsIdle t s (round_minute (rounds_of t rises (least_idle t)) s j)
     unfolding rounds_by
     idle_taken s j within =
-        let own = get_or-list_below (moments_of t rises) (stations_in t) s [] within in
+        let own = get_or-list_below (rise_moments t rises) (stations_in t) s [] within in
         let taken = ap (λ xs. get_or xs j (get_or (least_idle t) s 0)) own in
-        subst (λ m. IsIdle t s m) (sym taken) (elim (cases_lt j (length (moments_of t rises s))) [
-          | inl below ↦ idle_where s (get_or (moments_of t rises s) j (get_or (least_idle t) s 0)) (of_list s j (get_or (least_idle t) s 0) below)
-          | inr past ↦ subst (λ m. IsIdle t s m) (sym (get_or_past (moments_of t rises s) j (get_or (least_idle t) s 0) past)) (least_is_idle t islands s within)
+        subst (λ m. IsIdle t s m) (sym taken) (elim (cases_lt j (length (rise_moments t rises s))) [
+          | inl below ↦ idle_where s (get_or (rise_moments t rises s) j (get_or (least_idle t) s 0)) (of_list s j (get_or (least_idle t) s 0) below)
+          | inr past ↦ subst (λ m. IsIdle t s m) (sym (get_or_past (rise_moments t rises s) j (get_or (least_idle t) s 0) past)) (least_is_idle t islands s within)
         ])
       where
-        of_list : (s j d : ℕ) → j < length (moments_of t rises s) → has_rise rises s (get_or (moments_of t rises s) j d) ≡ true
+        of_list : (s j d : ℕ) → j < length (rise_moments t rises s) → has_rise rises s (get_or (rise_moments t rises s) j d) ≡ true
         of_list s j d below = passing t rises s j d below
 
     -- so each round is paid back
-    pub rounds_pay : (j : ℕ) → PaysBack t (λ s. minute_in (rounds_of t rises (least_idle t)) s j)
+    pub rounds_pay : (j : ℕ) → PaysBack t (λ s. round_minute (rounds_of t rises (least_idle t)) s j)
     rounds_pay j = record {
-      each = λ choices are. payback_law t (λ s. minute_in (rounds_of t rises (least_idle t)) s j) choices (record { islands = islands; each = λ s within. idle_taken s j within }) are;
+      each = λ choices are. payback_law t (λ s. round_minute (rounds_of t rises (least_idle t)) s j) choices (record { islands = islands; each = λ s within. idle_taken s j within }) are;
     }

@@ -12,7 +12,7 @@ use Rattle.dual_bound.specs.Order.{same_place}
 use Rattle.dual_bound.specs.WrittenOrder.{AreStepsInOrder, IsFigure, IsStepInOrder, NoLoneZero, StepsFollow, goes_on, is_lone_zero}
 use Rattle.dual_bound.specs.declared.prices.PriceStep.{PriceStep}
 use Rattle.dual_bound.proofs.StepOrder.{PlaceBefore, follows_other, follows_same}
-use Rattle.island_prices.specs.Steps.{all_zero, fleet_steps, is_step, station_steps, step_where, steps_below, steps_of}
+use Rattle.island_prices.specs.Steps.{all_zero, fleet_steps, is_minute_step, minute_step_where, station_steps, steps_below, steps_of}
 use Rattle.island_prices.proofs.StepPrices.{no_first, no_later, step_at, zero_before}
 
 -- ---- tests
@@ -24,12 +24,12 @@ some_other price (suc n) none = by_test (all_zero price n)
     (λ e. (n, omega arith, λ zero. no_both none (both_true (all_zero price n) (int_eq (price n) (pos 0)) e ((Decides-int_eq (price n) (pos 0)).1 zero))))
     (λ e. let at = some_other price n e in (at.0, omega (arith, at.1), at.2))
 
-some_step : (minutes : ℕ) (price : ℕ → ℤ) → is_step minutes price 0 ≡ true → all_zero price minutes ≡ false
-unfolding is_step
+some_step : (minutes : ℕ) (price : ℕ → ℤ) → is_minute_step minutes price 0 ≡ true → all_zero price minutes ≡ false
+unfolding is_minute_step
 some_step minutes price e = not_true (all_zero price minutes) e
 
-other_value : (minutes : ℕ) (price : ℕ → ℤ) (m : ℕ) → is_step minutes price (suc m) ≡ true → price (suc m) ≢ price m
-unfolding is_step
+other_value : (minutes : ℕ) (price : ℕ → ℤ) (m : ℕ) → is_minute_step minutes price (suc m) ≡ true → price (suc m) ≢ price m
+unfolding is_minute_step
 other_value minutes price m e same = no_both (not_true (int_eq (price (suc m)) (price m)) e) ((Decides-int_eq (price (suc m)) (price m)).1 same)
 
 -- ---- what may stand behind
@@ -74,8 +74,8 @@ module _ (minutes : ℕ) (price : ℕ → ℤ) (f s : ℕ) where
   next_last : (m : ℕ) → suc m < minutes → IsLastBy (suc m) (step_at price f s (suc m))
   next_last m within = record { fleet = refl; station = refl; minute = omega arith; value = refl; other = λ e zero. absurd (omega (arith, e)) }
 
-  goes_minute : (m : ℕ) (rest : List PriceStep) → suc m < minutes → ((b : PriceStep) → IsLastBy (suc m) b → MayCome b rest) → (b : PriceStep) → IsLastBy m b → MayCome b (step_where minutes price f s (suc m) ++ rest)
-  goes_minute m rest within next b last = by_test (is_step minutes price (suc m))
+  goes_minute : (m : ℕ) (rest : List PriceStep) → suc m < minutes → ((b : PriceStep) → IsLastBy (suc m) b → MayCome b rest) → (b : PriceStep) → IsLastBy m b → MayCome b (minute_step_where minutes price f s (suc m) ++ rest)
+  goes_minute m rest within next b last = by_test (is_minute_step minutes price (suc m))
       (λ e.
       let step = step_at price f s (suc m) in
       let may = next step (next_last m within) in
@@ -95,7 +95,7 @@ module _ (minutes : ℕ) (price : ℕ → ℤ) (f s : ℕ) where
             (at.0, omega (arith, at.1, differ), at.2, at.3);
       })))
 
-  module _ (some : is_step minutes price 0 ≡ true) where
+  module _ (some : is_minute_step minutes price 0 ≡ true) where
     first_last : IsLastBy 0 (step_at price f s 0)
     first_last = record {
       fleet = refl;
@@ -119,8 +119,8 @@ module _ (minutes : ℕ) (price : ℕ → ℤ) (f s : ℕ) where
     unfolding steps_below
     goes_row zero rest within may = subst (λ c. IsAhead f s ((if c then step_at price f s 0 ∷ [] else []) ++ rest)) (sym some) (goes_first rest (may (step_at price f s 0) first_last))
     goes_row (suc m) rest within may =
-        subst (IsAhead f s) (sym (append_assoc (steps_below minutes price f s (suc m)) (step_where minutes price f s (suc m)) rest))
-        (goes_row m (step_where minutes price f s (suc m) ++ rest) (omega arith) (goes_minute m rest within may))
+        subst (IsAhead f s) (sym (append_assoc (steps_below minutes price f s (suc m)) (minute_step_where minutes price f s (suc m)) rest))
+        (goes_row m (minute_step_where minutes price f s (suc m) ++ rest) (omega arith) (goes_minute m rest within may))
 
   -- behind the row
   row_ends : (rest : List PriceStep) → IsAhead f (suc s) rest → (b : PriceStep) → IsLastBy (minutes - 1) b → MayCome b rest
@@ -146,20 +146,20 @@ module _ (minutes : ℕ) (price : ℕ → ℤ) (f s : ℕ) where
       second_false true true c e = cc
       second_false false b c e = refl
 
-  no_steps : (n : ℕ) → n ≤ minutes → is_step minutes price 0 ≡ false → steps_below minutes price f s n ≡ []
+  no_steps : (n : ℕ) → n ≤ minutes → is_minute_step minutes price 0 ≡ false → steps_below minutes price f s n ≡ []
   unfolding steps_below
   no_steps zero within none = refl
-  no_steps (suc n) within none = ap (λ xs. xs ++ step_where minutes price f s n) (no_steps n (omega arith) none) ∙ ap (λ c. if c then step_at price f s n ∷ [] else []) (not_here n within)
+  no_steps (suc n) within none = ap (λ xs. xs ++ minute_step_where minutes price f s n) (no_steps n (omega arith) none) ∙ ap (λ c. if c then step_at price f s n ∷ [] else []) (not_here n within)
     where
       same_zero : (m : ℕ) → suc m < minutes → price (suc m) ≡ price m
       same_zero m below = zero_before price minutes (suc m) (no_first minutes price none) below ∙ sym (zero_before price minutes m (no_first minutes price none) (omega arith))
 
-      not_here : (m : ℕ) → suc m ≤ minutes → is_step minutes price m ≡ false
+      not_here : (m : ℕ) → suc m ≤ minutes → is_minute_step minutes price m ≡ false
       not_here zero below = none
-      not_here (suc m) below = by_test (is_step minutes price (suc m)) (λ e. absurd (other_value minutes price m e (same_zero m (omega arith)))) (λ e. e)
+      not_here (suc m) below = by_test (is_minute_step minutes price (suc m)) (λ e. absurd (other_value minutes price m e (same_zero m (omega arith)))) (λ e. e)
 
   pub row_ahead : 0 < minutes → (rest : List PriceStep) → IsAhead f (suc s) rest → IsAhead f s (steps_below minutes price f s minutes ++ rest)
-  row_ahead some rest ahead = by_test (is_step minutes price 0)
+  row_ahead some rest ahead = by_test (is_minute_step minutes price 0)
       (λ e. subst (λ n. IsAhead f s (steps_below minutes price f s n ++ rest)) whole (goes_row e (minutes - 1) rest (omega (arith, some)) (row_ends rest ahead)))
       (λ e. subst (λ xs. IsAhead f s (xs ++ rest)) (sym (no_steps minutes (omega arith) e)) (weaker f s f (suc s) rest one_more ahead))
     where
@@ -195,7 +195,7 @@ row_each : (t : Tables) (price : ℕ → ℤ) (f s n : ℕ) → f < fleets_in t 
 unfolding steps_below
 row_each t price f s zero known within period figures = All-nil (IsStepInOrder t)
 row_each t price f s (suc n) known within period figures =
-    All-append (IsStepInOrder t) (steps_below (period_of t) price f s n) (step_where (period_of t) price f s n) (row_each t price f s n known within (omega arith) figures) (one (is_step (period_of t) price n))
+    All-append (IsStepInOrder t) (steps_below (period_of t) price f s n) (minute_step_where (period_of t) price f s n) (row_each t price f s n known within (omega arith) figures) (one (is_minute_step (period_of t) price n))
   where
     one : (c : Bool) → All (IsStepInOrder t) (if c then step_at price f s n ∷ [] else [])
     one true = All-cons (IsStepInOrder t) (step_at price f s n) [] (record { fleet = known; station = within; minute = omega arith; value = figures n (omega arith) }) (All-nil (IsStepInOrder t))

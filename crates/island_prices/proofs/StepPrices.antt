@@ -10,7 +10,7 @@ use Rattle.dual_bound.specs.Prices.{price_after}
 use Rattle.dual_bound.specs.declared.prices.PriceStep.{PriceStep}
 use Rattle.dual_bound.proofs.PriceLists.{price_after-append}
 use Rattle.dual_bound.proofs.StepOrder.{has_come, has_not_come}
-use Rattle.island_prices.specs.Steps.{all_zero, fleet_steps, is_step, station_steps, step_where, steps_below, steps_of}
+use Rattle.island_prices.specs.Steps.{all_zero, fleet_steps, is_minute_step, minute_step_where, station_steps, steps_below, steps_of}
 
 -- ---- tests of steps
 
@@ -24,12 +24,12 @@ zero_before price (suc n) k all below = elim (cases_lt k n) [
       subst (λ j. price j ≡ pos 0) same ((Decides-int_eq (price n) (pos 0)).0 (second_true (all_zero price n) (int_eq (price n) (pos 0)) all))
 ]
 
-pub no_first : (minutes : ℕ) (price : ℕ → ℤ) → is_step minutes price 0 ≡ false → all_zero price minutes ≡ true
-unfolding is_step
+pub no_first : (minutes : ℕ) (price : ℕ → ℤ) → is_minute_step minutes price 0 ≡ false → all_zero price minutes ≡ true
+unfolding is_minute_step
 no_first minutes price e = not_false (all_zero price minutes) e
 
-pub no_later : (minutes : ℕ) (price : ℕ → ℤ) (m : ℕ) → is_step minutes price (suc m) ≡ false → price (suc m) ≡ price m
-unfolding is_step
+pub no_later : (minutes : ℕ) (price : ℕ → ℤ) (m : ℕ) → is_minute_step minutes price (suc m) ≡ false → price (suc m) ≡ price m
+unfolding is_minute_step
 no_later minutes price m e = (Decides-int_eq (price (suc m)) (price m)).0 (not_false (int_eq (price (suc m)) (price m)) e)
 
 -- ---- the price after steps
@@ -37,26 +37,26 @@ abbrev pub step_at : (ℕ → ℤ) → ℕ → ℕ → ℕ → PriceStep
 step_at price f s m = record { fleet = f; station = s; minute = m; value = price m }
 
 -- a step that has come gives its value, and one that has not stays aside
-stepped : (minutes : ℕ) (price : ℕ → ℤ) (f s a m : ℕ) (v : ℤ) → a ≤ m → is_step minutes price a ≡ true → price_after v (step_where minutes price f s a) f s m ≡ price a
+stepped : (minutes : ℕ) (price : ℕ → ℤ) (f s a m : ℕ) (v : ℤ) → a ≤ m → is_minute_step minutes price a ≡ true → price_after v (minute_step_where minutes price f s a) f s m ≡ price a
 unfolding price_after
 stepped minutes price f s a m v order step =
     ap (λ b. price_after v (if b then step_at price f s a ∷ [] else []) f s m) step ∙ ap (λ b. cond b (price a) v) (has_come f s a m order)
 
-aside : (minutes : ℕ) (price : ℕ → ℤ) (f s a m : ℕ) (v : ℤ) → m < a → price_after v (step_where minutes price f s a) f s m ≡ v
+aside : (minutes : ℕ) (price : ℕ → ℤ) (f s a m : ℕ) (v : ℤ) → m < a → price_after v (minute_step_where minutes price f s a) f s m ≡ v
 unfolding price_after
-aside minutes price f s a m v order = by_step (is_step minutes price a)
+aside minutes price f s a m v order = by_step (is_minute_step minutes price a)
   where
     by_step : (b : Bool) → price_after v (if b then step_at price f s a ∷ [] else []) f s m ≡ v
     by_step true = ap (λ b. cond b (price a) v) (has_not_come f s a m order)
     by_step false = refl
 
-no_step : (minutes : ℕ) (price : ℕ → ℤ) (f s a m : ℕ) (v : ℤ) → is_step minutes price a ≡ false → price_after v (step_where minutes price f s a) f s m ≡ v
+no_step : (minutes : ℕ) (price : ℕ → ℤ) (f s a m : ℕ) (v : ℤ) → is_minute_step minutes price a ≡ false → price_after v (minute_step_where minutes price f s a) f s m ≡ v
 unfolding price_after
 no_step minutes price f s a m v none = ap (λ b. price_after v (if b then step_at price f s a ∷ [] else []) f s m) none
 
-after : (minutes : ℕ) (price : ℕ → ℤ) (f s m n : ℕ) (v : ℤ) → price_after v (steps_below minutes price f s (suc n)) f s m ≡ price_after (price_after v (steps_below minutes price f s n) f s m) (step_where minutes price f s n) f s m
+after : (minutes : ℕ) (price : ℕ → ℤ) (f s m n : ℕ) (v : ℤ) → price_after v (steps_below minutes price f s (suc n)) f s m ≡ price_after (price_after v (steps_below minutes price f s n) f s m) (minute_step_where minutes price f s n) f s m
 unfolding steps_below
-after minutes price f s m n v = price_after-append v (steps_below minutes price f s n) (step_where minutes price f s n) f s m
+after minutes price f s m n v = price_after-append v (steps_below minutes price f s n) (minute_step_where minutes price f s n) f s m
 
 nothing_yet : (minutes : ℕ) (price : ℕ → ℤ) (f s m : ℕ) (v : ℤ) → price_after v (steps_below minutes price f s 0) f s m ≡ v
 unfolding steps_below price_after
@@ -67,14 +67,14 @@ module _ (minutes : ℕ) (price : ℕ → ℤ) (f s m : ℕ) (period : m < minut
   told n = price_after (pos 0) (steps_below minutes price f s n) f s m
 
   first_told : told 1 ≡ price 0
-  first_told = after minutes price f s m 0 (pos 0) ∙ ap (λ v. price_after v (step_where minutes price f s 0) f s m) (nothing_yet minutes price f s m (pos 0)) ∙ by_test (is_step minutes price 0)
+  first_told = after minutes price f s m 0 (pos 0) ∙ ap (λ v. price_after v (minute_step_where minutes price f s 0) f s m) (nothing_yet minutes price f s m (pos 0)) ∙ by_test (is_minute_step minutes price 0)
       (λ e. stepped minutes price f s 0 m (pos 0) (omega arith) e)
       (λ e. no_step minutes price f s 0 m (pos 0) e ∙ sym (zero_before price minutes 0 (no_first minutes price e) (omega arith)))
 
   -- up to the minute each price is told
   told_by : (n : ℕ) → n ≤ m → told (suc n) ≡ price n
   told_by zero within = first_told
-  told_by (suc n) within = after minutes price f s m (suc n) (pos 0) ∙ by_test (is_step minutes price (suc n))
+  told_by (suc n) within = after minutes price f s m (suc n) (pos 0) ∙ by_test (is_minute_step minutes price (suc n))
       (λ e. stepped minutes price f s (suc n) m (told (suc n)) within e)
       (λ e. no_step minutes price f s (suc n) m (told (suc n)) e ∙ told_by n (omega arith) ∙ sym (no_later minutes price n e))
 
@@ -91,9 +91,9 @@ module _ (minutes : ℕ) (price : ℕ → ℤ) (f s m : ℕ) (period : m < minut
       whole n m below = omega arith
 
 -- ---- steps of other places say nothing
-elsewhere : (minutes : ℕ) (price : ℕ → ℤ) (f s g r a m : ℕ) (v : ℤ) → ((f == g) && (s == r)) ≡ false → price_after v (step_where minutes price f s a) g r m ≡ v
+elsewhere : (minutes : ℕ) (price : ℕ → ℤ) (f s g r a m : ℕ) (v : ℤ) → ((f == g) && (s == r)) ≡ false → price_after v (minute_step_where minutes price f s a) g r m ≡ v
 unfolding price_after
-elsewhere minutes price f s g r a m v other = by_step (is_step minutes price a)
+elsewhere minutes price f s g r a m v other = by_step (is_minute_step minutes price a)
   where
     by_step : (b : Bool) → price_after v (if b then step_at price f s a ∷ [] else []) g r m ≡ v
     by_step true = first_fails ((f == g) && (s == r)) (nat_le a m) (price a) v other
@@ -103,7 +103,7 @@ all_elsewhere : (minutes : ℕ) (price : ℕ → ℤ) (f s g r m n : ℕ) (v : �
 unfolding steps_below price_after
 all_elsewhere minutes price f s g r m zero v other = refl
 all_elsewhere minutes price f s g r m (suc n) v other =
-    price_after-append v (steps_below minutes price f s n) (step_where minutes price f s n) g r m
+    price_after-append v (steps_below minutes price f s n) (minute_step_where minutes price f s n) g r m
     ∙ elsewhere minutes price f s g r n m (price_after v (steps_below minutes price f s n) g r m) other ∙ all_elsewhere minutes price f s g r m n v other
 
 -- ---- of a fleet at all stations

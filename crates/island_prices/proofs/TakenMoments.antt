@@ -22,7 +22,7 @@ use Rattle.fleet_model.specs.declared.tables.Tables.{Tables}
 use Rattle.fleet_model.proofs.PeriodMinutes.{at_most_week}
 use Rattle.dual_bound.specs.Prices.{max_price}
 use Rattle.island_prices.specs.Rises.{AreRises, rise_in}
-use Rattle.island_prices.specs.Rounds.{AreSmall, greatest_below, greatest_rise, grown_in, has_rise, minute_in, moments_at, moments_below, moments_of, number_in, number_of_round, price_grown, rent_grown, rise_taken, rise_where, round_count, rounds_by, rounds_of}
+use Rattle.island_prices.specs.Rounds.{AreSmall, greatest_below, greatest_rise, grown_in, has_rise, moments_at, moments_below, number_of_round, price_grown, rent_grown, rise_moments, rise_taken, rise_where, round_count, round_minute, round_number, rounds_by, rounds_of}
 use Rattle.island_prices.specs.declared.rises.Rise.{Rise}
 use Rattle.island_prices.specs.declared.rounds.Rounds.{Rounds}
 use Rattle.island_prices.proofs.Moves.{as_often, greatest_some, greatest_upper, once}
@@ -117,7 +117,7 @@ module _ (t : Tables) (rises : List Rise) (are : AreRises t rises) where
   number_some moments stations j = greatest_some (rise_taken rises moments j) stations
 
 -- ---- the rounds of rises
-pub rounds_from : (t : Tables) (rises : List Rise) (least : List ℕ) (moments seen : List (List ℕ)) (numbers : List ℤ) → moments ≡ list_below (moments_of t rises) (stations_in t) → seen ≡ moments
+pub rounds_from : (t : Tables) (rises : List Rise) (least : List ℕ) (moments seen : List (List ℕ)) (numbers : List ℤ) → moments ≡ list_below (rise_moments t rises) (stations_in t) → seen ≡ moments
     → numbers ≡ list_below (number_of_round rises seen (stations_in t)) (round_count seen (stations_in t))
     → ◌≡◌ {A = Rounds} (record { numbers = numbers; moments = moments; least = least }) (rounds_of t rises least)
 unfolding rounds_by
@@ -128,7 +128,7 @@ rounds_from t rises least moments seen numbers is same are =
 
 module _ (t : Tables) (rises : List Rise) (are : AreRises t rises) (least : List ℕ) where
   abbrev pub all_moments : List (List ℕ)
-  all_moments = list_below (moments_of t rises) (stations_in t)
+  all_moments = list_below (rise_moments t rises) (stations_in t)
 
   abbrev pub all_rounds : Rounds
   all_rounds = rounds_of t rises least
@@ -144,14 +144,14 @@ module _ (t : Tables) (rises : List Rise) (are : AreRises t rises) (least : List
   unfolding rounds_by
   count_is = length-list_below (number_of_round rises all_moments (stations_in t)) (round_count all_moments (stations_in t))
 
-  own_moments : (s : ℕ) → s < stations_in t → moments_at all_moments s ≡ moments_of t rises s
-  own_moments s within = get_or-list_below (moments_of t rises) (stations_in t) s [] within
+  own_moments : (s : ℕ) → s < stations_in t → moments_at all_moments s ≡ rise_moments t rises s
+  own_moments s within = get_or-list_below (rise_moments t rises) (stations_in t) s [] within
 
-  pub number_is : (j : ℕ) → j < count → number_in all_rounds j ≡ number_of_round rises all_moments (stations_in t) j
+  pub number_is : (j : ℕ) → j < count → round_number all_rounds j ≡ number_of_round rises all_moments (stations_in t) j
   unfolding rounds_by
   number_is j below = get_or-list_below (number_of_round rises all_moments (stations_in t)) (round_count all_moments (stations_in t)) j (pos 0) (omega (arith, below, count_is))
 
-  pub number_at_least_0 : (j : ℕ) → j < count → pos 0 ≤ℤ number_in all_rounds j
+  pub number_at_least_0 : (j : ℕ) → j < count → pos 0 ≤ℤ round_number all_rounds j
   number_at_least_0 j below = omega (arith, ints, number_is j below, number_some t rises are all_moments (stations_in t) j)
 
   few : round_count all_moments (stations_in t) ≤ period_of t
@@ -166,15 +166,15 @@ module _ (t : Tables) (rises : List Rise) (are : AreRises t rises) (least : List
       no_less = omega (arith, ints, number_at_least_0 j below);
       no_more = omega (arith, ints, number_is j below, number_small t rises are all_moments (stations_in t) j);
     };
-    stations = all ∙ sym (length-list_below (moments_of t rises) (stations_in t));
+    stations = all ∙ sym (length-list_below (rise_moments t rises) (stations_in t));
   }
 
   pub moments_long : length all_rounds.moments ≡ stations_in t
-  moments_long = ap length moments_are ∙ length-list_below (moments_of t rises) (stations_in t)
+  moments_long = ap length moments_are ∙ length-list_below (rise_moments t rises) (stations_in t)
 
   -- ---- what a price loses at the end of a minute
   abbrev pub lost_in : ℕ → ℕ → ℕ → ℤ
-  lost_in s m j = if minute_in all_rounds s j == m then number_in all_rounds j else pos 0
+  lost_in s m j = if round_minute all_rounds s j == m then round_number all_rounds j else pos 0
 
   abbrev pub lost_at : ℕ → ℕ → ℤ
   lost_at s m = sum_below_ℤ (lost_in s m) count
@@ -187,19 +187,19 @@ module _ (t : Tables) (rises : List Rise) (are : AreRises t rises) (least : List
   lost_next s m =
       sym (sum_below_ℤ-+ℤ (grown_in all_rounds s (m + 1)) (lost_in s m) count)
       ∙ sum_below_ℤ-same (λ j. grown_in all_rounds s (m + 1) j +ℤ lost_in s m j) (grown_in all_rounds s m) count (λ j below.
-      let a = minute_in all_rounds s j in
-      omega (arith, ints, as_often (nat_le (m + 1) a) (a == m) (nat_le m a) false (number_in all_rounds j) (on_the_way a m)))
+      let a = round_minute all_rounds s j in
+      omega (arith, ints, as_often (nat_le (m + 1) a) (a == m) (nat_le m a) false (round_number all_rounds j) (on_the_way a m)))
 
   from_start : (a : ℕ) → nat_le 0 a ≡ true
   from_start a = grind (arith, nat_tests)
 
   pub grown_at_start : (s : ℕ) → price_grown all_rounds s 0 count ≡ rent_grown all_rounds count
   unfolding price_grown rent_grown
-  grown_at_start s = sum_below_ℤ-same (grown_in all_rounds s 0) (number_in all_rounds) count (λ j below. ap (λ b. cond b (number_in all_rounds j) (pos 0)) (from_start (minute_in all_rounds s j)))
+  grown_at_start s = sum_below_ℤ-same (grown_in all_rounds s 0) (round_number all_rounds) count (λ j below. ap (λ b. cond b (round_number all_rounds j) (pos 0)) (from_start (round_minute all_rounds s j)))
 
   pub lost_at_end : (s m : ℕ) → lost_at s m ≤ℤ price_grown all_rounds s m count
   unfolding price_grown
-  lost_at_end s m = sum_below_ℤ-le (lost_in s m) (grown_in all_rounds s m) count (λ j below. by_order (minute_in all_rounds s j) m (number_in all_rounds j) (number_at_least_0 j below))
+  lost_at_end s m = sum_below_ℤ-le (lost_in s m) (grown_in all_rounds s m) count (λ j below. by_order (round_minute all_rounds s j) m (round_number all_rounds j) (number_at_least_0 j below))
     where
       then_by : (a m : ℕ) → (a == m) ≡ true → nat_le m a ≡ true
       then_by a m e = grind (arith, nat_tests)
@@ -216,13 +216,13 @@ module _ (t : Tables) (rises : List Rise) (are : AreRises t rises) (least : List
   -- ---- a rise at a moment is no more than what is lost there
 
   lost_some : (s m j : ℕ) → j < count → pos 0 ≤ℤ lost_in s m j
-  lost_some s m j below = by_case (minute_in all_rounds s j == m)
+  lost_some s m j below = by_case (round_minute all_rounds s j == m)
     where
-      by_case : (b : Bool) → pos 0 ≤ℤ cond b (number_in all_rounds j) (pos 0)
+      by_case : (b : Bool) → pos 0 ≤ℤ cond b (round_number all_rounds j) (pos 0)
       by_case true = number_at_least_0 j below
       by_case false = omega (arith, ints)
 
-  module _ (s m : ℕ) (within : s < stations_in t) (p : HasPlace (moments_of t rises s) m) where
+  module _ (s m : ℕ) (within : s < stations_in t) (p : HasPlace (rise_moments t rises s) m) where
     place_there : HasPlace (moments_at all_moments s) m
     place_there = subst (λ xs. HasPlace xs m) (sym (own_moments s within)) p
 
@@ -233,7 +233,7 @@ module _ (t : Tables) (rises : List Rise) (are : AreRises t rises) (least : List
         upper : length (moments_at all_moments s) ≤ round_count all_moments (stations_in t)
         upper = max_below-upper (λ r. length (moments_at all_moments r)) (stations_in t) s within
 
-    takes_it : minute_in all_rounds s place_there.place ≡ m
+    takes_it : round_minute all_rounds s place_there.place ≡ m
     unfolding rounds_by
     takes_it = place_there.there (get_or least s 0)
 
@@ -242,15 +242,15 @@ module _ (t : Tables) (rises : List Rise) (are : AreRises t rises) (least : List
         ap (λ b. cond b (greatest_rise rises s (get_or (moments_at all_moments s) place_there.place 0)) (pos 0)) (lt-ltb place_there.place (length (moments_at all_moments s)) place_there.within)
         ∙ ap (greatest_rise rises s) (place_there.there 0)
 
-    number_reaches : greatest_rise rises s m ≤ℤ number_in all_rounds place_there.place
+    number_reaches : greatest_rise rises s m ≤ℤ round_number all_rounds place_there.place
     unfolding number_of_round
     number_reaches = omega (arith, ints, rise_is, upper, number_is place_there.place in_count)
       where
         upper : rise_taken rises all_moments place_there.place s ≤ℤ number_of_round rises all_moments (stations_in t) place_there.place
         upper = greatest_upper (rise_taken rises all_moments place_there.place) (stations_in t) s within
 
-    lost_there : lost_in s m place_there.place ≡ number_in all_rounds place_there.place
-    lost_there = ap (λ b. cond b (number_in all_rounds place_there.place) (pos 0)) (equal_number (minute_in all_rounds s place_there.place) m takes_it)
+    lost_there : lost_in s m place_there.place ≡ round_number all_rounds place_there.place
+    lost_there = ap (λ b. cond b (round_number all_rounds place_there.place) (pos 0)) (equal_number (round_minute all_rounds s place_there.place) m takes_it)
 
     at_its_place : greatest_rise rises s m ≤ℤ lost_at s m
     at_its_place = omega (arith, ints, number_reaches, lost_there, term_within (lost_in s m) count place_there.place in_count (lost_some s m))

@@ -65,6 +65,6 @@ HasBeyond has f (Beyond fleet) = (has ≡ true) × (fleet ≡ f)
 HasBeyond has f NoMemory = Unit {0}
 
 -- memory is wanting only where what is looked at before isn't beyond the limit
-abbrev pub IsWantedBehind : Bool → PaybackError → Type 0
-IsWantedBehind beyond (Beyond fleet) = Unit {0}
-IsWantedBehind beyond NoMemory = beyond ≡ false
+abbrev pub IsWantedBehindLimit : Bool → PaybackError → Type 0
+IsWantedBehindLimit beyond (Beyond fleet) = Unit {0}
+IsWantedBehindLimit beyond NoMemory = beyond ≡ false

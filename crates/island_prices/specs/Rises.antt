@@ -18,8 +18,8 @@ abbrev pub rise_in : List Rise → ℕ → Rise
 rise_in rises i = slice_index_or rises i no_rise
 
 -- the rise is one of the fleet at the station
-abbrev pub is_of : Rise → ℕ → ℕ → Bool
-is_of rise f s = (rise.fleet == f) && (rise.station == s)
+abbrev pub is_rise_of : Rise → ℕ → ℕ → Bool
+is_rise_of rise f s = (rise.fleet == f) && (rise.station == s)
 
 -- by how much a price changes where a rise goes to its moment: the minutes after the moment take the price that comes,
 -- or those up to it keep the price that was
@@ -27,19 +27,19 @@ abbrev pub shifted : Shift → ℕ → ℤ → ℕ → ℤ
 shifted (Raised last) moment amount m = if nat_lt moment m && nat_le m last then amount else pos 0
 shifted Lowered moment amount m = if nat_le m moment then neg_ℤ amount else pos 0
 
-abbrev pub shift_of : Rise → ℕ → ℤ
-shift_of rise m = shifted rise.shift rise.moment rise.amount m
+abbrev pub rise_shift : Rise → ℕ → ℤ
+rise_shift rise m = shifted rise.shift rise.moment rise.amount m
 
 -- what one of the rises does to the price of a fleet at a station at a minute, and what all do
 abbrev pub shift_at : List Rise → ℕ → ℕ → ℕ → ℕ → ℤ
-shift_at rises f s m i = if is_of (rise_in rises i) f s then shift_of (rise_in rises i) m else pos 0
+shift_at rises f s m i = if is_rise_of (rise_in rises i) f s then rise_shift (rise_in rises i) m else pos 0
 
-unfoldable pub shift_by : List Rise → ℕ → ℕ → ℕ → ℤ
-shift_by rises f s m = sum_below_ℤ (shift_at rises f s m) (length rises)
+unfoldable pub rise_shift_by : List Rise → ℕ → ℕ → ℕ → ℤ
+rise_shift_by rises f s m = sum_below_ℤ (shift_at rises f s m) (length rises)
 
 -- the price of a minute after the rises went to their moments
 abbrev pub moved_price : Prices → List Rise → ℕ → ℕ → ℕ → ℤ
-moved_price prices rises f s m = price_of prices f s m +ℤ shift_by rises f s m
+moved_price prices rises f s m = price_of prices f s m +ℤ rise_shift_by rises f s m
 
 -- the amount of a rise: above 0, and no more than two prices and a rent come to
 pub record IsAmount (amount : ℤ) : Type 0 where
@@ -47,16 +47,16 @@ pub record IsAmount (amount : ℤ) : Type 0 where
   pub small : amount ≤ℤ pos (3 * max_price)
 
 -- the minutes of a rise: its moment, and behind it the last one that is raised
-abbrev pub IsShift : ℕ → Shift → ℕ → Type 0
-IsShift minutes (Raised last) moment = (moment ≤ last) × (last < minutes)
-IsShift minutes Lowered moment = ⊤
+abbrev pub IsRiseShift : ℕ → Shift → ℕ → Type 0
+IsRiseShift minutes (Raised last) moment = (moment ≤ last) × (last < minutes)
+IsRiseShift minutes Lowered moment = ⊤
 
 -- a rise of a fleet at a station of the tables
 pub record IsRise (t : Tables) (rise : Rise) : Type 0 where
   pub fleet : rise.fleet < fleets_in t
   pub station : rise.station < stations_in t
   pub moment : rise.moment < period_of t
-  pub shift : IsShift (period_of t) rise.shift rise.moment
+  pub shift : IsRiseShift (period_of t) rise.shift rise.moment
   pub amount : IsAmount rise.amount
 
 -- .. and all are

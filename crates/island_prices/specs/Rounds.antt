@@ -31,8 +31,8 @@ has_rise rises s m = int_lt (pos 0) (greatest_rise rises s m)
 unfoldable pub moments_below : List Rise → ℕ → ℕ → List ℕ
 moments_below rises s n = filter (has_rise rises s) (list_below (λ m. m) n)
 
-abbrev pub moments_of : Tables → List Rise → ℕ → List ℕ
-moments_of t rises s = moments_below rises s (period_of t)
+abbrev pub rise_moments : Tables → List Rise → ℕ → List ℕ
+rise_moments t rises s = moments_below rises s (period_of t)
 
 -- the moments of a station in rounds, and the minute that a round takes of it: its moment of that number, or where there
 -- are no more the station's least idle minute
@@ -63,21 +63,21 @@ rounds_by rises moments least stations = record {
 }
 
 abbrev pub rounds_of : Tables → List Rise → List ℕ → Rounds
-rounds_of t rises least = rounds_by rises (list_below (moments_of t rises) (stations_in t)) least (stations_in t)
+rounds_of t rises least = rounds_by rises (list_below (rise_moments t rises) (stations_in t)) least (stations_in t)
 
 -- what rents have grown by after some rounds
-abbrev pub number_in : Rounds → ℕ → ℤ
-number_in rounds j = slice_index_or rounds.numbers j (pos 0)
+abbrev pub round_number : Rounds → ℕ → ℤ
+round_number rounds j = slice_index_or rounds.numbers j (pos 0)
 
-abbrev pub minute_in : Rounds → ℕ → ℕ → ℕ
-minute_in rounds s j = minute_taken rounds.moments rounds.least s j
+abbrev pub round_minute : Rounds → ℕ → ℕ → ℕ
+round_minute rounds s j = minute_taken rounds.moments rounds.least s j
 
 unfoldable pub rent_grown : Rounds → ℕ → ℤ
-rent_grown rounds n = sum_below_ℤ (number_in rounds) n
+rent_grown rounds n = sum_below_ℤ (round_number rounds) n
 
 -- .. and prices of a station at a minute: in each round up to and with the minute that it takes of the station
 abbrev pub grown_in : Rounds → ℕ → ℕ → ℕ → ℤ
-grown_in rounds s m j = if nat_le m (minute_in rounds s j) then number_in rounds j else pos 0
+grown_in rounds s m j = if nat_le m (round_minute rounds s j) then round_number rounds j else pos 0
 
 unfoldable pub price_grown : Rounds → ℕ → ℕ → ℕ → ℤ
 price_grown rounds s m n = sum_below_ℤ (grown_in rounds s m) n
@@ -85,5 +85,5 @@ price_grown rounds s m n = sum_below_ℤ (grown_in rounds s m) n
 -- no more rounds than a week has minutes, none with a greater number than a rise, and a least idle minute of each station
 pub record AreSmall (rounds : Rounds) : Type 0 where
   pub few : length rounds.numbers ≤ minutes_of 7
-  pub each : (j : ℕ) → j < length rounds.numbers → IsUpTo 3 (number_in rounds j)
+  pub each : (j : ℕ) → j < length rounds.numbers → IsUpTo 3 (round_number rounds j)
   pub stations : length rounds.least ≡ length rounds.moments

@@ -12,17 +12,17 @@ all_zero price (suc n) = all_zero price n && int_eq (price n) (pos 0)
 
 -- there is a step at one of so many minutes: at the first one where any price is other than 0, at a later one where the
 -- price is another than a minute before
-unfoldable pub is_step : ℕ → (ℕ → ℤ) → ℕ → Bool
-is_step minutes price zero = not (all_zero price minutes)
-is_step minutes price (suc m) = not (int_eq (price (suc m)) (price m))
+unfoldable pub is_minute_step : ℕ → (ℕ → ℤ) → ℕ → Bool
+is_minute_step minutes price zero = not (all_zero price minutes)
+is_minute_step minutes price (suc m) = not (int_eq (price (suc m)) (price m))
 
-abbrev pub step_where : ℕ → (ℕ → ℤ) → ℕ → ℕ → ℕ → List PriceStep
-step_where minutes price f s m = if is_step minutes price m then record { fleet = f; station = s; minute = m; value = price m } ∷ [] else []
+abbrev pub minute_step_where : ℕ → (ℕ → ℤ) → ℕ → ℕ → ℕ → List PriceStep
+minute_step_where minutes price f s m = if is_minute_step minutes price m then record { fleet = f; station = s; minute = m; value = price m } ∷ [] else []
 
 -- the steps of a fleet at a station at the first minutes, of a fleet at the first stations, and of the first fleets
 unfoldable pub steps_below : ℕ → (ℕ → ℤ) → ℕ → ℕ → ℕ → List PriceStep
 steps_below minutes price f s zero = []
-steps_below minutes price f s (suc m) = steps_below minutes price f s m ++ step_where minutes price f s m
+steps_below minutes price f s (suc m) = steps_below minutes price f s m ++ minute_step_where minutes price f s m
 
 unfoldable pub station_steps : ℕ → (ℕ → ℕ → ℤ) → ℕ → ℕ → List PriceStep
 station_steps minutes price f zero = []

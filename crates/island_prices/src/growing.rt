@@ -1,7 +1,7 @@
 //! What rents and prices have grown by when all rounds are over.
 ghost use Rattle.std.specs.Prelude.{◌≡◌, ◌<◌, ◌≤◌, ◌*◌, length, pos, ◌≤ℤ◌};
 ghost use Rattle.dual_bound.specs.Sizes.{IsUpTo};
-ghost use Rattle.island_prices.specs.Rounds.{AreSmall, grown_in, minute_in, number_in, price_grown, rent_grown};
+ghost use Rattle.island_prices.specs.Rounds.{AreSmall, grown_in, price_grown, rent_grown, round_minute, round_number};
 
 use crate::rounds::Rounds;
 
@@ -52,7 +52,7 @@ fn grown_in(rounds: &Rounds, station: u32, minute: u16, round: usize) -> i128
 fn number(rounds: &Rounds, round: usize) -> i128
     requires rounds { AreSmall rounds.now }
     requires round { round < length rounds.now.numbers }
-    ensures value { result ≡ number_in rounds.now round }
+    ensures value { result ≡ round_number rounds.now round }
     ensures size { IsUpTo 3 result }
 {
     rounds.numbers.as_slice()[round]
@@ -62,7 +62,7 @@ fn number(rounds: &Rounds, round: usize) -> i128
 fn minute_in(rounds: &Rounds, station: u32, round: usize) -> u16
     requires rounds { AreSmall rounds.now }
     requires station { station < length rounds.now.moments }
-    ensures { result ≡ minute_in rounds.now station round }
+    ensures { result ≡ round_minute rounds.now station round }
 {
     match rounds.moments.as_slice()[station as usize]
         .as_slice()

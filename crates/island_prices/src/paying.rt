@@ -3,7 +3,7 @@ ghost use Rattle.std.specs.Prelude.{◌≡◌, ◌<◌, ◌≤◌, ◌*◌, ◌+
 ghost use Rattle.sums.specs.Places.{list_below};
 ghost use Rattle.fleet_model.specs.Schedule.{fleets_in, period_of, stations_in};
 ghost use Rattle.dual_bound.specs.Prices.{AreWithin};
-ghost use Rattle.island_prices.specs.Paid.{HasBeyond, IsPaybackError, IsWantedBehind, beyond_at, first_beyond, has_beyond, is_beyond, paid_price, paid_prices, paid_rent};
+ghost use Rattle.island_prices.specs.Paid.{HasBeyond, IsPaybackError, IsWantedBehindLimit, beyond_at, first_beyond, has_beyond, is_beyond, paid_price, paid_prices, paid_rent};
 ghost use Rattle.island_prices.specs.Rises.{AreRises};
 ghost use Rattle.island_prices.specs.Rounds.{AreSmall, rounds_of};
 ghost use Rattle.island_prices.specs.Steps.{station_steps, steps_below, steps_of};
@@ -108,7 +108,7 @@ fn steps(alloc: Global, tables: &Tables, paid: &Paid<'_>) -> Result<Vec<PriceSte
         (λ steps. (first_beyond tables.now (paid_rent paid.now.before paid.now.rounds.now) (paid_price paid.now.before paid.now.rises.now paid.now.rounds.now) (fleets_in tables.now) ≡ None)
         × (steps.items ≡ steps_of tables.now (paid_price paid.now.before paid.now.rises.now paid.now.rounds.now)))
         (IsPaybackError (first_beyond tables.now (paid_rent paid.now.before paid.now.rounds.now) (paid_price paid.now.before paid.now.rises.now paid.now.rounds.now) (fleets_in tables.now))) }
-    ensures memory { IfErr result (IsWantedBehind (is_beyond (paid_rent paid.now.before paid.now.rounds.now 0))) }
+    ensures memory { IfErr result (IsWantedBehindLimit (is_beyond (paid_rent paid.now.before paid.now.rounds.now 0))) }
 {
     let mut steps = Vec::new(alloc);
     for fleet in 0..tables.fleet_count() {
@@ -137,7 +137,7 @@ fn push_fleet(
         (λ _. (has_beyond tables.now (paid_rent paid.now.before paid.now.rounds.now) (paid_price paid.now.before paid.now.rises.now paid.now.rounds.now) fleet ≡ false)
         × (steps.new.items ≡ steps.old.items ++ station_steps (period_of tables.now) (paid_price paid.now.before paid.now.rises.now paid.now.rounds.now fleet) fleet (stations_in tables.now)))
         (HasBeyond (has_beyond tables.now (paid_rent paid.now.before paid.now.rounds.now) (paid_price paid.now.before paid.now.rises.now paid.now.rounds.now) fleet) fleet) }
-    ensures memory { IfErr result (IsWantedBehind (is_beyond (paid_rent paid.now.before paid.now.rounds.now fleet))) }
+    ensures memory { IfErr result (IsWantedBehindLimit (is_beyond (paid_rent paid.now.before paid.now.rounds.now fleet))) }
 {
     if is_beyond(&paid_rent(tables, paid, fleet)) {
         return Err(PaybackError::Beyond { fleet });
@@ -164,7 +164,7 @@ fn push_row(
         (λ _. (beyond_at (λ m. slice_index_or row.now m (pos 0)) (length row.now) ≡ false)
         × (steps.new.items ≡ steps.old.items ++ steps_below (length row.now) (λ m. slice_index_or row.now m (pos 0)) fleet station (length row.now)))
         (HasBeyond (beyond_at (λ m. slice_index_or row.now m (pos 0)) (length row.now)) fleet) }
-    ensures memory { IfErr result (IsWantedBehind (beyond_at (λ m. slice_index_or row.now m (pos 0)) (length row.now))) }
+    ensures memory { IfErr result (IsWantedBehindLimit (beyond_at (λ m. slice_index_or row.now m (pos 0)) (length row.now))) }
 {
     if has_beyond(row) {
         Err(PaybackError::Beyond { fleet })

@@ -2,7 +2,7 @@
 ghost use Rattle.std.specs.Prelude.{◌≡◌, ◌<◌, ◌*◌, length, ℕ, pos, ◌≤ℤ◌};
 ghost use Rattle.std.specs.Int.{int_max};
 ghost use Rattle.dual_bound.specs.Sizes.{IsUpTo};
-ghost use Rattle.island_prices.specs.Rises.{AreRises, IsAmount, IsRise, is_of, rise_in, shift_at, shift_by, shift_of};
+ghost use Rattle.island_prices.specs.Rises.{AreRises, IsAmount, IsRise, is_rise_of, rise_in, rise_shift, rise_shift_by, shift_at};
 ghost use Rattle.island_prices.specs.Rounds.{greatest_rise, rise_where};
 
 use fleet_model::Tables;
@@ -36,7 +36,7 @@ pub struct Rise {
 }
 
 /// By how much rises change the price of a fleet at a station at a minute where they go to their moments.
-#[tactic(auto, unfolding(crate::specs::Rises::shift_by))]
+#[tactic(auto, unfolding(crate::specs::Rises::rise_shift_by))]
 pub(crate) fn shift_by(
     tables: &Tables,
     rises: &[Rise],
@@ -45,7 +45,7 @@ pub(crate) fn shift_by(
     minute: u16,
 ) -> i128
     requires { AreRises tables.now rises.now }
-    ensures value { result ≡ shift_by rises.now fleet station minute }
+    ensures value { result ≡ rise_shift_by rises.now fleet station minute }
     ensures size { IsUpTo (3 * length rises.now) result }
 {
     let mut sum = 0;
@@ -87,7 +87,7 @@ fn rise_at(rises: &[Rise], place: usize) -> Rise
 // What a rise does to the price of a minute.
 fn shift_of(rise: &Rise, minute: u16) -> i128
     requires { IsAmount rise.now.amount }
-    ensures value { result ≡ shift_of rise.now minute }
+    ensures value { result ≡ rise_shift rise.now minute }
     ensures size { IsUpTo 3 result }
 {
     match rise.shift {

@@ -4,7 +4,7 @@ ghost use Rattle.sums.specs.Places.{list_below};
 ghost use Rattle.fleet_model.specs.Schedule.{stations_in};
 ghost use Rattle.dual_bound.specs.Sizes.{IsUpTo};
 ghost use Rattle.island_prices.specs.Rises.{AreRises};
-ghost use Rattle.island_prices.specs.Rounds.{has_rise, moments_of, number_of_round, rise_taken, round_count, rounds_of};
+ghost use Rattle.island_prices.specs.Rounds.{has_rise, number_of_round, rise_moments, rise_taken, round_count, rounds_of};
 
 use crate::rises::{Rise, greater, greatest_rise};
 use entries::{Entries, NoMemory};
@@ -51,7 +51,7 @@ fn station_moments(
     rises: &[Rise],
 ) -> Result<Entries<Entries<u16>>, NoMemory>
     requires { AreRises tables.now rises.now }
-    ensures { IfOk result (λ moments. moments ≡ list_below (moments_of tables.now rises.now) (stations_in tables.now)) }
+    ensures { IfOk result (λ moments. moments ≡ list_below (rise_moments tables.now rises.now) (stations_in tables.now)) }
 {
     let mut stations = Vec::new(alloc);
     for station in 0..tables.station_count() {
@@ -69,7 +69,7 @@ fn moments(
     station: u32,
 ) -> Result<Entries<u16>, NoMemory>
     requires { AreRises tables.now rises.now }
-    ensures { IfOk result (λ moments. moments ≡ moments_of tables.now rises.now station) }
+    ensures { IfOk result (λ moments. moments ≡ rise_moments tables.now rises.now station) }
 {
     let mut moments = Vec::new(alloc);
     for minute in 0..tables.period() {
@@ -105,7 +105,7 @@ fn numbers(
     moments: &[Entries<u16>],
 ) -> Result<Entries<i128>, NoMemory>
     requires rises { AreRises tables.now rises.now }
-    requires moments { moments.now ≡ list_below (moments_of tables.now rises.now) (stations_in tables.now) }
+    requires moments { moments.now ≡ list_below (rise_moments tables.now rises.now) (stations_in tables.now) }
     ensures { IfOk result (λ numbers. numbers ≡ list_below (number_of_round rises.now moments.now (stations_in tables.now)) (round_count moments.now (stations_in tables.now))) }
 {
     let mut numbers = Vec::new(alloc);

@@ -1,6 +1,6 @@
 //! Prices as steps: at each minute whose price is another than the one before.
 ghost use Rattle.std.specs.Prelude.{◌≡◌, ◌≤◌, ◌<◌, ◌++◌, length, slice_index_or, pos, OnOk};
-ghost use Rattle.island_prices.specs.Steps.{all_zero, is_step, step_where, steps_below};
+ghost use Rattle.island_prices.specs.Steps.{all_zero, is_minute_step, minute_step_where, steps_below};
 
 use dual_bound::PriceStep;
 use entries::NoMemory;
@@ -31,7 +31,7 @@ fn push_step(
     minute: u16,
 ) -> Result<(), NoMemory>
     requires { minute < length row.now }
-    ensures { OnOk result (steps.new.items ≡ steps.old.items ++ step_where (length row.now) (λ m. slice_index_or row.now m (pos 0)) fleet station minute) }
+    ensures { OnOk result (steps.new.items ≡ steps.old.items ++ minute_step_where (length row.now) (λ m. slice_index_or row.now m (pos 0)) fleet station minute) }
 {
     if !is_step(row, minute) {
         return Ok(());
@@ -47,10 +47,10 @@ fn push_step(
 
 // Whether there is a step at a minute: at the first one where any price of the row is other than 0, at a later one where
 // the price is another than a minute before.
-#[tactic(auto, unfolding(crate::specs::Steps::is_step))]
+#[tactic(auto, unfolding(crate::specs::Steps::is_minute_step))]
 fn is_step(row: &[i128], minute: u16) -> bool
     requires { minute < length row.now }
-    ensures { result ≡ is_step (length row.now) (λ m. slice_index_or row.now m (pos 0)) minute }
+    ensures { result ≡ is_minute_step (length row.now) (λ m. slice_index_or row.now m (pos 0)) minute }
 {
     if minute == 0 {
         !are_zero(row)

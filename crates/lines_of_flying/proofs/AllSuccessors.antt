@@ -7,7 +7,7 @@ use Rattle.fleet_model.specs.declared.tables.Tables.{Tables}
 use Rattle.fleet_model.specs.Counts.{choice_at}
 use Rattle.fleet_model.specs.Schedule.{legs_in}
 use Rattle.ground_turns.specs.FirstOut.{AreFirstOut, IsFirstOut}
-use Rattle.ground_turns.specs.Maps.{HasTurn, Holds, IsHeld, arrivals_of, turn_at, turn_by, turns_by}
+use Rattle.ground_turns.specs.Maps.{HasTurn, Holds, IsHeldByMap, arrivals_of, turn_at, turn_to_next, turns_by}
 use Rattle.ground_turns.proofs.FirstOuts.{first_out_fits}
 use Rattle.ground_turns.proofs.FleetTurns.{each_turn, is_map}
 use Rattle.lines_of_flying.specs.Following.{Follows, next_place}
@@ -22,27 +22,27 @@ turns_below t a f given n = turns_by a f (next t a f given) n
 pub no_turns : (t : Tables) (a : List ℕ) (f : ℕ) (given : List Connection) → [] ≡ turns_below t a f given 0
 no_turns t a f given = refl
 
-one_more : (t : Tables) (a : List ℕ) (f : ℕ) (given : List Connection) (n : ℕ) → turns_below t a f given (n + 1) ≡ turns_below t a f given n ++ (if choice_at a n == f then turn_by (next t a f given) n ∷ [] else [])
+one_more : (t : Tables) (a : List ℕ) (f : ℕ) (given : List Connection) (n : ℕ) → turns_below t a f given (n + 1) ≡ turns_below t a f given n ++ (if choice_at a n == f then turn_to_next (next t a f given) n ∷ [] else [])
 one_more t a f given n = ap (turns_by a f (next t a f given)) (add-one n)
 
-pub turn_more : (t : Tables) (a : List ℕ) (f : ℕ) (given : List Connection) (held : IsHeld t a f given) (n q : ℕ) (turns : List Connection)
+pub turn_more : (t : Tables) (a : List ℕ) (f : ℕ) (given : List Connection) (held : IsHeldByMap t a f given) (n q : ℕ) (turns : List Connection)
     → turns ≡ turns_below t a f given n → n < legs_in t → (choice_at a n == f) ≡ true → Follows t a f given n q
     → turns ++ record { arriving = n; departing = q } ∷ [] ≡ turns_below t a f given (n + 1)
 turn_more t a f given held n q turns same below on follows =
     let next_is = one_follows t a f given held n q (next t a f given n) follows (next_follows t a f given held n below on) in
     ap (λ xs. xs ++ record { arriving = n; departing = q } ∷ []) same
     ∙ ap (λ r. turns_below t a f given n ++ record { arriving = n; departing = r } ∷ []) next_is
-    ∙ ap (λ b. turns_below t a f given n ++ (if b then turn_by (next t a f given) n ∷ [] else [])) (sym on)
+    ∙ ap (λ b. turns_below t a f given n ++ (if b then turn_to_next (next t a f given) n ∷ [] else [])) (sym on)
     ∙ sym (one_more t a f given n)
 
 pub no_turn_more : (t : Tables) (a : List ℕ) (f : ℕ) (given : List Connection) (n : ℕ) (turns : List Connection)
     → turns ≡ turns_below t a f given n → (choice_at a n == f) ≡ false → turns ≡ turns_below t a f given (n + 1)
 no_turn_more t a f given n turns same off =
     same ∙ sym (append-nil (turns_below t a f given n))
-    ∙ ap (λ b. turns_below t a f given n ++ (if b then turn_by (next t a f given) n ∷ [] else [])) (sym off)
+    ∙ ap (λ b. turns_below t a f given n ++ (if b then turn_to_next (next t a f given) n ∷ [] else [])) (sym off)
     ∙ sym (one_more t a f given n)
 
-module _ (t : Tables) (a : List ℕ) (f : ℕ) (given : List Connection) (held : IsHeld t a f given) where
+module _ (t : Tables) (a : List ℕ) (f : ℕ) (given : List Connection) (held : IsHeldByMap t a f given) where
   abbrev turns : List Connection
   turns = turns_below t a f given (legs_in t)
 

@@ -15,7 +15,7 @@ use Rattle.fleet_model.specs.Counts.{choice_at}
 use Rattle.fleet_model.specs.Schedule.{leg_of, leg_on, legs_in, period_of}
 use Rattle.fleet_model.specs.Times.{departure}
 use Rattle.ground_turns.specs.FirstOut.{departure_place, free_departed, free_excess, free_landings, free_need, is_free_departure, is_free_landing, landing_place}
-use Rattle.ground_turns.specs.Maps.{IsNext, HasTurn, IsHeld, IsSuccessorMap, arrivals_of, departures_of, turn_at}
+use Rattle.ground_turns.specs.Maps.{IsNext, HasTurn, IsHeldByMap, IsSuccessorMap, arrivals_of, departures_of, turn_at}
 use Rattle.ground_turns.specs.Turns.{IsTurn}
 use Rattle.ground_turns.proofs.FleetTurns.{pick, picked}
 use Rattle.ground_turns.proofs.FreeTurns.{all_there, by_arriving, by_departing, there, there_is}
@@ -39,7 +39,7 @@ module _ (t : Tables) (a : List ℕ) (f : ℕ) (given : List Connection) where
   unfoldable pub next : ℕ → ℕ
   next l = if arrivals_of given l == 0 then pick (goes_next l) (legs_in t) else partner_of l
 
-module _ (t : Tables) (a : List ℕ) (f : ℕ) (given : List Connection) (held : IsHeld t a f given) where
+module _ (t : Tables) (a : List ℕ) (f : ℕ) (given : List Connection) (held : IsHeldByMap t a f given) where
   abbrev map : IsSuccessorMap t a f held.turns
   map = held.fitting.map
 

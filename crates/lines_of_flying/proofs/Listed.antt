@@ -4,7 +4,7 @@ use Rattle.std.proofs.lemmas.List.{append-nil, get_or_append_left, get_or_push, 
 use Rattle.std.proofs.lemmas.Bool.{cases_lt, eq-eqb}
 use Rattle.fleet_model.specs.declared.parts.Connection.{Connection}
 use Rattle.fleet_model.specs.Counts.{choice_at}
-use Rattle.ground_turns.specs.Maps.{HasTurn, no_turn, turn_at, turn_by, turns_by}
+use Rattle.ground_turns.specs.Maps.{HasTurn, no_turn, turn_at, turn_to_next, turns_by}
 use Rattle.ground_turns.proofs.FleetTurns.{of_one_more}
 
 -- the turns of a list rise by the legs that arrive, and none is of a leg from the bound on
@@ -52,27 +52,27 @@ module _ (a : List ℕ) (f : ℕ) (next : ℕ → ℕ) where
       wider : (xs : List Connection) → Rise xs n → Rise xs (suc n)
       wider xs rise = record { each = rise.each; below = λ k within. let few = rise.below k within in omega arith }
 
-      by_last : (b : Bool) → Rise (turns_by a f next n) n → Rise (turns_by a f next n ++ (if b then turn_by next n ∷ [] else [])) (suc n)
-      by_last true rise = rise_push (turns_by a f next n) (turn_by next n) n rise refl
+      by_last : (b : Bool) → Rise (turns_by a f next n) n → Rise (turns_by a f next n ++ (if b then turn_to_next next n ∷ [] else [])) (suc n)
+      by_last true rise = rise_push (turns_by a f next n) (turn_to_next next n) n rise refl
       by_last false rise = subst (λ xs. Rise xs (suc n)) (sym (append-nil (turns_by a f next n))) (wider (turns_by a f next n) rise)
 
   -- each leg of the fleet has its turn in the list
-  pub has_turn_by : (n l : ℕ) → l < n → choice_at a l ≡ f → HasTurn (turns_by a f next n) (turn_by next l)
+  pub has_turn_by : (n l : ℕ) → l < n → choice_at a l ≡ f → HasTurn (turns_by a f next n) (turn_to_next next l)
   has_turn_by zero l below flies = absurd (omega arith)
   has_turn_by (suc n) l below flies = by_last (choice_at a n == f) refl (λ before. has_turn_by n l before flies)
     where
       earlier : l ≡ n → (choice_at a n == f) ≡ false → ⊥
       earlier same e = let clash : true ≡ false = sym (eq-eqb _ _ flies) ∙ ap (λ k. choice_at a k == f) same ∙ e in cc
 
-      by_last : (b : Bool) → (choice_at a n == f) ≡ b → (l < n → HasTurn (turns_by a f next n) (turn_by next l))
-          → HasTurn (turns_by a f next n ++ (if b then turn_by next n ∷ [] else [])) (turn_by next l)
+      by_last : (b : Bool) → (choice_at a n == f) ≡ b → (l < n → HasTurn (turns_by a f next n) (turn_to_next next l))
+          → HasTurn (turns_by a f next n ++ (if b then turn_to_next next n ∷ [] else [])) (turn_to_next next l)
       by_last true e before = elim (cases_lt l n) [
-        | inl less ↦ has_old (turns_by a f next n) (turn_by next n) (turn_by next l) (before less)
+        | inl less ↦ has_old (turns_by a f next n) (turn_to_next next n) (turn_to_next next l) (before less)
         | inr last ↦
             let same : n ≡ l = omega arith in
-            subst (λ q. HasTurn (turns_by a f next n ++ turn_by next n ∷ []) (turn_by next q)) same (has_last (turns_by a f next n) (turn_by next n))
+            subst (λ q. HasTurn (turns_by a f next n ++ turn_to_next next n ∷ []) (turn_to_next next q)) same (has_last (turns_by a f next n) (turn_to_next next n))
       ]
-      by_last false e before = subst (λ xs. HasTurn xs (turn_by next l)) (sym (append-nil (turns_by a f next n))) (elim (cases_lt l n) [
+      by_last false e before = subst (λ xs. HasTurn xs (turn_to_next next l)) (sym (append-nil (turns_by a f next n))) (elim (cases_lt l n) [
         | inl less ↦ before less
         | inr last ↦ let same : l ≡ n = omega arith in absurd (earlier same e)
       ])

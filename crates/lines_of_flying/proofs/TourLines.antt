@@ -16,10 +16,10 @@ use Rattle.ground_turns.specs.Maps.{IsTour, no_turn, turn_after, turn_at, turns_
 use Rattle.ground_turns.specs.Turns.{IsTurn}
 use Rattle.ground_turns.proofs.TourNights.{nights_are_use, nights_long}
 use Rattle.ground_turns.specs.Nights.{nights_in}
-use Rattle.lines_of_flying.specs.Lines.{AreLegs, day_of, days_of_tour, first_day, legs_on_day, line_after, lines_ended, lines_of, nights_after}
+use Rattle.lines_of_flying.specs.Lines.{AreLegsOfTables, day_of, days_of_tour, first_day, legs_on_day, line_after, lines_ended, lines_of, nights_after}
 
 -- the legs of a tour are legs of the tables
-pub known_legs : (t : Tables) (a : List ℕ) (f : ℕ) (tour : List ℕ) → IsTour t a f tour → AreLegs t tour
+pub known_legs : (t : Tables) (a : List ℕ) (f : ℕ) (tour : List ℕ) → IsTour t a f tour → AreLegsOfTables t tour
 known_legs t a f tour is = record { each = λ k below. known k below }
   where
     known : (k : ℕ) → k < length tour → slice_index tour k < legs_in t

@@ -27,8 +27,8 @@ abbrev pub departs_free : Ground → ℕ → ℕ → Bool
 departs_free g s l = is_free_departure g.tables.now g.plan.now g.fleet g.pairs.now s l
 
 -- another leg's landing is free where a leg lands, and comes before it
-abbrev pub comes_before : Ground → ℕ → ℕ → Bool
-comes_before g l q = lands_before g.tables.now g.plan.now g.fleet g.pairs.now (leg_of g.tables.now l).to l q
+abbrev pub landing_before : Ground → ℕ → ℕ → Bool
+landing_before g l q = lands_before g.tables.now g.plan.now g.fleet g.pairs.now (leg_of g.tables.now l).to l q
 
 -- another leg's departure is free where a leg departs, and comes before it
 abbrev pub leaves_first : Ground → ℕ → ℕ → Bool
@@ -40,8 +40,8 @@ landings_at g s = free_landings g.tables.now g.plan.now g.fleet g.pairs.now s
 abbrev pub landed_by : Ground → ℕ → ℕ → ℕ
 landed_by g s m = free_landed g.tables.now g.plan.now g.fleet g.pairs.now s m
 
-abbrev pub departed_by : Ground → ℕ → ℕ → ℕ
-departed_by g s m = free_departed g.tables.now g.plan.now g.fleet g.pairs.now s m
+abbrev pub free_departed_by : Ground → ℕ → ℕ → ℕ
+free_departed_by g s m = free_departed g.tables.now g.plan.now g.fleet g.pairs.now s m
 
 abbrev pub need_at : Ground → ℕ → ℕ
 need_at g s = free_need g.tables.now g.plan.now g.fleet g.pairs.now s

@@ -43,7 +43,7 @@ pub record BeginsAfterStart (t : Tables) (f : ℕ) (tour : List ℕ) : Type 0 wh
   pub before : 0 < periods_after t f tour (length tour - 1)
 
 -- the legs of a list are legs of the tables
-pub record AreLegs (t : Tables) (legs : List ℕ) : Type 0 where
+pub record AreLegsOfTables (t : Tables) (legs : List ℕ) : Type 0 where
   pub each : (k : ℕ) → k < length legs → slice_index legs k < legs_in t
 
 -- the lines that so many nights end, of which the first has these legs and the others none; and the line after them

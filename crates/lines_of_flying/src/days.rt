@@ -5,7 +5,7 @@ ghost use Rattle.fleet_model.specs.Legal.{IsAssignment};
 ghost use Rattle.fleet_model.specs.Schedule.{days_in, fleets_in, legs_in};
 ghost use Rattle.fleet_model.specs.Use.{used_of};
 ghost use Rattle.ground_turns.specs.Maps.{IsTour, turn_after};
-ghost use Rattle.lines_of_flying.specs.Lines.{AreLegs, BeginsAfterStart, first_day, line_after, lines_ended, lines_of, nights_after, periods_after};
+ghost use Rattle.lines_of_flying.specs.Lines.{AreLegsOfTables, BeginsAfterStart, first_day, line_after, lines_ended, lines_of, nights_after, periods_after};
 
 use entries::{Entries, NoMemory};
 use fleet_model::period::day_of_minute;
@@ -43,7 +43,7 @@ fn cut(
 ) -> Result<Vec<Entries<u32>>, NoMemory>
     requires fleet { fleet < fleets_in tables.now }
     requires some { 0 < length tour.now }
-    requires known { AreLegs tables.now tour.now }
+    requires known { AreLegsOfTables tables.now tour.now }
     ensures { IfOk result (λ lines. lines.items ≡ lines_of tables.now fleet tour.now) }
 {
     let mut lines = Vec::new(alloc);
@@ -84,7 +84,7 @@ fn end_days(
 #[tactic(auto, unfolding(crate::specs::Lines::nights_after))]
 pub fn nights_after(tables: &Tables, fleet: u32, tour: &[u32], place: usize) -> u32
     requires fleet { fleet < fleets_in tables.now }
-    requires known { AreLegs tables.now tour.now }
+    requires known { AreLegsOfTables tables.now tour.now }
     requires place { place < length tour.now }
     ensures { result ≡ nights_after tables.now fleet tour.now place }
 {
@@ -97,7 +97,7 @@ pub fn nights_after(tables: &Tables, fleet: u32, tour: &[u32], place: usize) -> 
 #[tactic(auto, unfolding(crate::specs::Lines::periods_after))]
 pub fn periods_after(tables: &Tables, fleet: u32, tour: &[u32], place: usize) -> u32
     requires fleet { fleet < fleets_in tables.now }
-    requires known { AreLegs tables.now tour.now }
+    requires known { AreLegsOfTables tables.now tour.now }
     requires place { place < length tour.now }
     ensures { result ≡ periods_after tables.now fleet tour.now place }
 {
@@ -120,7 +120,7 @@ pub fn turn_after(tour: &[u32], place: usize) -> Connection
 pub fn first_day(tables: &Tables, fleet: u32, tour: &[u32]) -> u32
     requires fleet { fleet < fleets_in tables.now }
     requires some { 0 < length tour.now }
-    requires known { AreLegs tables.now tour.now }
+    requires known { AreLegsOfTables tables.now tour.now }
     ensures value { result ≡ first_day tables.now fleet tour.now }
     ensures few { result ≤ 7 }
 {

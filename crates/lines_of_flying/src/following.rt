@@ -2,7 +2,7 @@
 ghost use Rattle.std.specs.Prelude.{◌≡◌, ◌≢◌, ◌<◌, true, MatchOption};
 ghost use Rattle.fleet_model.specs.Counts.{choice_at};
 ghost use Rattle.fleet_model.specs.Schedule.{legs_in};
-ghost use Rattle.ground_turns.specs.Maps.{HasTurn, IsHeld, arrivals_of};
+ghost use Rattle.ground_turns.specs.Maps.{HasTurn, IsHeldByMap, arrivals_of};
 ghost use Rattle.lines_of_flying.specs.Following.{Follows, IsFirstOutNext, next_place};
 ghost use Rattle.lines_of_flying.specs.Grounds.{ArePlaces, IsGround};
 
@@ -16,7 +16,7 @@ use fleet_model::Connection;
 pub(crate) fn follower(ground: &Ground<'_>, places: &Places, leg: u32) -> u32
     requires ground { IsGround ground.now }
     requires places { ArePlaces ground.now places.now }
-    requires held { IsHeld ground.now.tables.now ground.now.plan.now ground.now.fleet ground.now.pairs.now }
+    requires held { IsHeldByMap ground.now.tables.now ground.now.plan.now ground.now.fleet ground.now.pairs.now }
     requires leg { leg < legs_in ground.now.tables.now }
     requires flies { choice_at ground.now.plan.now leg ≡ ground.now.fleet }
     ensures { Follows ground.now.tables.now ground.now.plan.now ground.now.fleet ground.now.pairs.now leg result }
@@ -44,7 +44,7 @@ fn partner(pairs: &[Connection], leg: u32) -> Option<u32>
 fn next_place(ground: &Ground<'_>, places: &Places, leg: u32) -> u32
     requires ground { IsGround ground.now }
     requires places { ArePlaces ground.now places.now }
-    requires held { IsHeld ground.now.tables.now ground.now.plan.now ground.now.fleet ground.now.pairs.now }
+    requires held { IsHeldByMap ground.now.tables.now ground.now.plan.now ground.now.fleet ground.now.pairs.now }
     requires leg { leg < legs_in ground.now.tables.now }
     requires flies { choice_at ground.now.plan.now leg ≡ ground.now.fleet }
     requires free { arrivals_of ground.now.pairs.now leg ≡ 0 }
@@ -58,7 +58,7 @@ fn next_place(ground: &Ground<'_>, places: &Places, leg: u32) -> u32
 fn first_out(ground: &Ground<'_>, places: &Places, leg: u32) -> u32
     requires ground { IsGround ground.now }
     requires places { ArePlaces ground.now places.now }
-    requires held { IsHeld ground.now.tables.now ground.now.plan.now ground.now.fleet ground.now.pairs.now }
+    requires held { IsHeldByMap ground.now.tables.now ground.now.plan.now ground.now.fleet ground.now.pairs.now }
     requires leg { leg < legs_in ground.now.tables.now }
     requires flies { choice_at ground.now.plan.now leg ≡ ground.now.fleet }
     requires free { arrivals_of ground.now.pairs.now leg ≡ 0 }

@@ -3,7 +3,7 @@ ghost use Rattle.std.specs.Prelude.{◌≡◌, ◌<◌, ◌≤◌};
 ghost use Rattle.fleet_model.specs.Schedule.{leg_on, legs_in};
 ghost use Rattle.fleet_model.specs.Times.{departure, ready_minute};
 ghost use Rattle.ground_turns.specs.FirstOut.{is_before};
-ghost use Rattle.lines_of_flying.specs.Grounds.{IsGround, comes_before, departs_free, lands_free, leaves_first, landings_at, place_of_departure, place_of_landing};
+ghost use Rattle.lines_of_flying.specs.Grounds.{IsGround, landing_before, departs_free, lands_free, leaves_first, landings_at, place_of_departure, place_of_landing};
 
 use crate::ground::{Ground, departure, ready};
 
@@ -58,7 +58,7 @@ fn lands_before(ground: &Ground<'_>, leg: u32, minute: u16, other: u32) -> bool
     requires leg { leg < legs_in ground.now.tables.now }
     requires other { other < legs_in ground.now.tables.now }
     requires minute { minute ≡ ready_minute ground.now.tables.now (leg_on leg ground.now.fleet) }
-    ensures { result ≡ comes_before ground.now leg other }
+    ensures { result ≡ landing_before ground.now leg other }
 {
     let station = ground.tables.leg(leg).to;
     lands_free(ground, station, other) && is_before(ready(ground, other), other, minute, leg)

@@ -2,7 +2,7 @@ ghost use Rattle.std.specs.Prelude.{◌≡◌, ◌<◌, IfOk};
 ghost use Rattle.fleet_model.specs.Legal.{IsAssignment};
 ghost use Rattle.fleet_model.specs.Schedule.{fleets_in};
 ghost use Rattle.ground_turns.specs.FirstOut.{AreFirstOut};
-ghost use Rattle.ground_turns.specs.Maps.{Holds, IsFitting, IsHeld};
+ghost use Rattle.ground_turns.specs.Maps.{Holds, IsFitting, IsHeldByMap};
 ghost use Rattle.lines_of_flying.specs.Grounds.{ArePlaces, IsGround};
 ghost use Rattle.lines_of_flying.specs.Successors.{AreSuccessors, RiseByArriving};
 
@@ -25,7 +25,7 @@ pub fn successors(
 ) -> Result<Entries<Connection>, NoMemory>
     requires plan { IsAssignment tables.now plan.now }
     requires fleet { fleet < fleets_in tables.now }
-    requires held { IsHeld tables.now plan.now fleet pairs.now }
+    requires held { IsHeldByMap tables.now plan.now fleet pairs.now }
     ensures fitting { IfOk result (λ turns. IsFitting tables.now plan.now fleet turns) }
     ensures holds { IfOk result (λ turns. Holds turns pairs.now) }
     ensures first_out { IfOk result (λ turns. AreFirstOut tables.now plan.now fleet pairs.now turns) }
@@ -45,7 +45,7 @@ fn turns_of(
 ) -> Result<Vec<Connection>, NoMemory>
     requires ground { IsGround ground.now }
     requires places { ArePlaces ground.now places.now }
-    requires held { IsHeld ground.now.tables.now ground.now.plan.now ground.now.fleet ground.now.pairs.now }
+    requires held { IsHeldByMap ground.now.tables.now ground.now.plan.now ground.now.fleet ground.now.pairs.now }
     ensures { IfOk result (λ turns. AreSuccessors ground.now.tables.now ground.now.plan.now ground.now.fleet ground.now.pairs.now turns.items) }
 {
     let mut turns = Vec::new(alloc);

@@ -1,7 +1,7 @@
 //! The aircraft that must be at a station at the period's start for its free departures.
 ghost use Rattle.std.specs.Prelude.{◌≡◌, ◌-◌, ◌<◌, ◌≤◌};
 ghost use Rattle.fleet_model.specs.Schedule.{legs_in};
-ghost use Rattle.lines_of_flying.specs.Grounds.{IsGround, departed_by, landed_by, need_at};
+ghost use Rattle.lines_of_flying.specs.Grounds.{IsGround, free_departed_by, landed_by, need_at};
 
 use crate::free::{departs_free, lands_free};
 use crate::ground::{Ground, departure, ready};
@@ -27,7 +27,7 @@ pub(crate) fn need(ground: &Ground<'_>, station: u32) -> u32
 // By how much free departures pass free landings by the end of a minute.
 fn excess(ground: &Ground<'_>, station: u32, minute: u16) -> u32
     requires { IsGround ground.now }
-    ensures value { result ≡ departed_by ground.now station minute - landed_by ground.now station minute }
+    ensures value { result ≡ free_departed_by ground.now station minute - landed_by ground.now station minute }
     ensures few { result ≤ legs_in ground.now.tables.now }
 {
     departed(ground, station, minute).saturating_sub(landed(ground, station, minute))
@@ -37,7 +37,7 @@ fn excess(ground: &Ground<'_>, station: u32, minute: u16) -> u32
 #[tactic(auto, unfolding(ground_turns::specs::FirstOut::free_departed))]
 fn departed(ground: &Ground<'_>, station: u32, minute: u16) -> u32
     requires { IsGround ground.now }
-    ensures value { result ≡ departed_by ground.now station minute }
+    ensures value { result ≡ free_departed_by ground.now station minute }
     ensures few { result ≤ legs_in ground.now.tables.now }
 {
     let mut count = 0;

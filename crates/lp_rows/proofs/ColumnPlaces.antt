@@ -11,7 +11,7 @@ use Rattle.fleet_model.specs.Kept.{Domains, kept_on, pairs_kept}
 use Rattle.fleet_model.specs.Schedule.{IsPair, choices_in, fleets_in, leg_on, legs_in}
 use Rattle.lp_rows.specs.declared.kinds.Column.{Column}
 use Rattle.lp_rows.specs.declared.kinds.Column.TheVariants.{Flight, Ground, Room, Slack}
-use Rattle.lp_rows.specs.Layout.{Starts, all_arcs, all_kept, all_nodes, all_parks, arc_stays, columns_of, pair_at_column, pair_of, pairs_of}
+use Rattle.lp_rows.specs.Layout.{Starts, all_arcs, all_kept, all_nodes, all_parks, arc_stays, pair_at_column, pair_if_kept, pairs_of_leg, program_columns}
 use Rattle.lp_rows.specs.Points.{arcs_in, column_at, park_count, value_of}
 use Rattle.lp_rows.proofs.Counted.{arcs_are, length-concat, pairs_are, parks_are}
 use Rattle.lp_rows.proofs.LineNumbers.{node_among, park_among}
@@ -22,7 +22,7 @@ use Rattle.lp_rows.proofs.Places.{IsKept, value_there}
 -- ---- the columns of pairs
 module _ (t : Tables) (keeps : Domains) (starts : Starts) where
   abbrev cols : List Column
-  cols = columns_of t keeps starts
+  cols = program_columns t keeps starts
 
   -- the slacks and the rooms, and the arcs before them
   abbrev pub last_columns : List Column
@@ -67,8 +67,8 @@ module _ (t : Tables) (keeps : Domains) (starts : Starts) where
   one_long true p = refl
   one_long false p = refl
 
-  long_of : (l : ℕ) → length (pairs_of t keeps l) ≡ kept_on t keeps l
-  long_of l = length-concat (pair_of keeps l) (λ c. if keeps (leg_on l c) then 1 else 0) (choices_in t l) (λ c known. one_long (keeps (leg_on l c)) (leg_on l c))
+  long_of : (l : ℕ) → length (pairs_of_leg t keeps l) ≡ kept_on t keeps l
+  long_of l = length-concat (pair_if_kept keeps l) (λ c. if keeps (leg_on l c) then 1 else 0) (choices_in t l) (λ c known. one_long (keeps (leg_on l c)) (leg_on l c))
 
   -- the column of a kept pair
   pub pair_column : (p : Pair) → IsPair t p → keeps p ≡ true → (c : ℕ) × (c < pairs_kept t keeps) × (pair_at_column t keeps c ≡ p)
@@ -77,8 +77,8 @@ module _ (t : Tables) (keeps : Domains) (starts : Starts) where
       let inner : rest < kept_on t keeps p.leg = within_sum (λ f. if keeps (leg_on p.leg f) then 1 else 0) (choices_in t p.leg) p.choice 0 known.choice (one_there (keeps p) kept) in (
         sum_below (kept_on t keeps) p.leg + rest,
         within_sum (kept_on t keeps) (legs_in t) p.leg rest known.leg inner,
-        at_concat (pairs_of t keeps) (kept_on t keeps) (leg_on 0 0) (legs_in t) p.leg rest (λ l less. long_of l) known.leg inner
-            ∙ at_concat (pair_of keeps p.leg) (λ f. if keeps (leg_on p.leg f) then 1 else 0) (leg_on 0 0) (choices_in t p.leg) p.choice 0 (λ f less. one_long (keeps (leg_on p.leg f)) (leg_on p.leg f)) known.choice (one_there (keeps p) kept)
+        at_concat (pairs_of_leg t keeps) (kept_on t keeps) (leg_on 0 0) (legs_in t) p.leg rest (λ l less. long_of l) known.leg inner
+            ∙ at_concat (pair_if_kept keeps p.leg) (λ f. if keeps (leg_on p.leg f) then 1 else 0) (leg_on 0 0) (choices_in t p.leg) p.choice 0 (λ f less. one_long (keeps (leg_on p.leg f)) (leg_on p.leg f)) known.choice (one_there (keeps p) kept)
             ∙ there (keeps p) kept,
       )
     where

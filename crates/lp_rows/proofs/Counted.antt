@@ -10,7 +10,7 @@ use Rattle.fleet_model.specs.Kept.{Domains, kept_on, pairs_kept}
 use Rattle.fleet_model.specs.Schedule.{choices_in, fleets_in, leg_on, legs_in, stations_in}
 use Rattle.lp_rows.specs.declared.kinds.Column.TheVariants.{Flight, Ground, Room, Slack}
 use Rattle.sums.specs.Places.{list_below}
-use Rattle.lp_rows.specs.Layout.{Starts, all_arcs, all_kept, all_nodes, all_parks, arc_stays, concat_below, node_at, nodes_at, nodes_of, pair_of, pairs_of, park_at, parking_days, parks_at}
+use Rattle.lp_rows.specs.Layout.{Starts, all_arcs, all_kept, all_nodes, all_parks, arc_stays, concat_below, node_of_place, nodes_at, nodes_of_fleet, pair_if_kept, pairs_of_leg, park_at, parking_days, parks_at}
 use Rattle.lp_rows.specs.Points.{RowsAreCounted, arcs_at, arcs_in, node_count, park_count}
 use Rattle.lp_rows.proofs.LineNumbers.{line_count}
 use Rattle.lp_rows.proofs.Totals.{lines_long}
@@ -26,13 +26,13 @@ length-one false x = refl
 
 pub pairs_are : (t : Tables) (keeps : Domains) → length (all_kept t keeps) ≡ pairs_kept t keeps
 pairs_are t keeps =
-    length-concat (pairs_of t keeps) (kept_on t keeps) (legs_in t)
-    (λ l below. length-concat (pair_of keeps l) (λ c. if keeps (leg_on l c) then 1 else 0) (choices_in t l) (λ c known. length-one (keeps (leg_on l c)) (leg_on l c)))
+    length-concat (pairs_of_leg t keeps) (kept_on t keeps) (legs_in t)
+    (λ l below. length-concat (pair_if_kept keeps l) (λ c. if keeps (leg_on l c) then 1 else 0) (choices_in t l) (λ c known. length-one (keeps (leg_on l c)) (leg_on l c)))
 
 pub nodes_are : (t : Tables) (starts : Starts) → length (all_nodes t starts) ≡ node_count t starts
 nodes_are t starts =
-    length-concat (nodes_of t starts) (λ f. sum_below (λ s. length (starts f s)) (stations_in t)) (fleets_in t)
-    (λ f known. length-concat (nodes_at starts f) (λ s. length (starts f s)) (stations_in t) (λ s within. length-list_below (node_at f s) (length (starts f s))))
+    length-concat (nodes_of_fleet t starts) (λ f. sum_below (λ s. length (starts f s)) (stations_in t)) (fleets_in t)
+    (λ f known. length-concat (nodes_at starts f) (λ s. length (starts f s)) (stations_in t) (λ s within. length-list_below (node_of_place f s) (length (starts f s))))
 
 pub parks_are : (t : Tables) → length (all_parks t) ≡ park_count t
 parks_are t = length-concat (parks_at t) (parking_days t) (stations_in t) (λ s within. length-list_below (park_at s) (parking_days t s))
@@ -55,8 +55,8 @@ filter-list p f (suc n) =
 
 pub arcs_are : (t : Tables) (keeps : Domains) (starts : Starts) → length (all_arcs t keeps starts) ≡ arcs_in t keeps starts
 arcs_are t keeps starts =
-    filter-concat (arc_stays t keeps starts) (nodes_of t starts) (λ f. sum_below (arcs_at t keeps starts f) (stations_in t)) (fleets_in t)
-    (λ f known. filter-concat (arc_stays t keeps starts) (nodes_at starts f) (arcs_at t keeps starts f) (stations_in t) (λ s within. filter-list (arc_stays t keeps starts) (node_at f s) (length (starts f s))))
+    filter-concat (arc_stays t keeps starts) (nodes_of_fleet t starts) (λ f. sum_below (arcs_at t keeps starts f) (stations_in t)) (fleets_in t)
+    (λ f known. filter-concat (arc_stays t keeps starts) (nodes_at starts f) (arcs_at t keeps starts f) (stations_in t) (λ s within. filter-list (arc_stays t keeps starts) (node_of_place f s) (length (starts f s))))
 
 pub rows_are_counted : RowsAreCounted
 rows_are_counted t keeps starts rows are = record {

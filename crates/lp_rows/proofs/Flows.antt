@@ -22,7 +22,7 @@ use Rattle.lp_rows.specs.declared.kinds.Park.{Park}
 use Rattle.lp_rows.specs.declared.kinds.Column.{Column}
 use Rattle.lp_rows.specs.declared.kinds.Column.TheVariants.{Flight, Ground, Room, Slack}
 use Rattle.lp_rows.specs.Entries.{IsNode, IsPark}
-use Rattle.lp_rows.specs.Layout.{IsNetwork, Starts, node_at, parking_days}
+use Rattle.lp_rows.specs.Layout.{IsNetwork, Starts, node_of_place, parking_days}
 use Rattle.lp_rows.proofs.LineSums.{coming_to, last_arc, leaving_from, night_arc}
 use Rattle.lp_rows.proofs.NightArcs.{night_arc_is, night_node}
 use Rattle.lp_rows.proofs.NodeCounts.{come_first, come_next, left_first, left_next, no_need, none_move, none_stand}
@@ -36,20 +36,20 @@ flown v p = v (Flight p)
 pub record IsFlow (t : Tables) (starts : Starts) (q : ℕ) (v : Column → ℕ) : Type 0 where
   pub cover : (l : ℕ) → l < legs_in t → weight_on t (flown v) l ≡ q
   pub balance : (n : Node) → IsNode t starts n
-      → sum_below (coming_to t starts (flown v) n) (departures_in t) + v (Ground (node_at n.fleet n.station (place_before (length (starts n.fleet n.station)) n.place)))
+      → sum_below (coming_to t starts (flown v) n) (departures_in t) + v (Ground (node_of_place n.fleet n.station (place_before (length (starts n.fleet n.station)) n.place)))
       ≡ sum_below (leaving_from t starts (flown v) n) (departures_in t) + v (Ground n)
   pub count : (f : ℕ) → f < fleets_in t → laps_flown t (flown v) f + sum_below (last_arc starts v f) (stations_in t) + v (Slack f) ≡ q * (fleet_of t f).aircraft
   pub room : (p : Park) → IsPark t p → sum_below (night_arc t starts v p.station p.day) (fleets_in t) + v (Room p) ≡ q * parking_limit t p.station
 
 -- the last arc, where there is a node, and where there is none
-pub last_is : (starts : Starts) (v : Column → ℕ) (f s : ℕ) → 0 < length (starts f s) → last_arc starts v f s ≡ v (Ground (node_at f s (length (starts f s) - 1)))
+pub last_is : (starts : Starts) (v : Column → ℕ) (f s : ℕ) → 0 < length (starts f s) → last_arc starts v f s ≡ v (Ground (node_of_place f s (length (starts f s) - 1)))
 last_is starts v f s some =
-    sum_below-agree (λ k. if length (starts f s) == k + 1 then v (Ground (node_at f s k)) else 0) (λ k. if length (starts f s) - 1 == k then v (Ground (node_at f s k)) else 0) (length (starts f s))
-    (record { each = λ k below. ap (λ b. if b then v (Ground (node_at f s k)) else 0) (one_before (length (starts f s)) k some) })
-    ∙ sum_below-at (length (starts f s) - 1) (length (starts f s)) (λ k. v (Ground (node_at f s k))) (omega arith)
+    sum_below-agree (λ k. if length (starts f s) == k + 1 then v (Ground (node_of_place f s k)) else 0) (λ k. if length (starts f s) - 1 == k then v (Ground (node_of_place f s k)) else 0) (length (starts f s))
+    (record { each = λ k below. ap (λ b. if b then v (Ground (node_of_place f s k)) else 0) (one_before (length (starts f s)) k some) })
+    ∙ sum_below-at (length (starts f s) - 1) (length (starts f s)) (λ k. v (Ground (node_of_place f s k))) (omega arith)
 
 pub no_last : (starts : Starts) (v : Column → ℕ) (f s : ℕ) → length (starts f s) ≡ 0 → last_arc starts v f s ≡ 0
-no_last starts v f s none = ap (sum_below (λ k. if length (starts f s) == k + 1 then v (Ground (node_at f s k)) else 0)) none
+no_last starts v f s none = ap (sum_below (λ k. if length (starts f s) == k + 1 then v (Ground (node_of_place f s k)) else 0)) none
 
 pub before_next : (n k : ℕ) → place_before n (k + 1) ≡ k
 before_next n k = grind (arith, nat_tests)
@@ -57,13 +57,13 @@ before_next n k = grind (arith, nat_tests)
 module _ (t : Tables) (keeps : Domains) (starts : Starts) (q : ℕ) (v : Column → ℕ) (network : IsNetwork t keeps starts) (weigh : WeighKept t keeps (flown v)) (flow : IsFlow t starts q v) where
   -- an arc has what the last one has and what came, less what left
   abbrev Conserved : ℕ → ℕ → ℕ → Type 0
-  Conserved f s k = v (Ground (node_at f s k)) + departed t (flown v) f s (end_in t (starts f s) k) ≡ v (Ground (node_at f s (length (starts f s) - 1))) + arrived t (flown v) f s (end_in t (starts f s) k)
+  Conserved f s k = v (Ground (node_of_place f s k)) + departed t (flown v) f s (end_in t (starts f s) k) ≡ v (Ground (node_of_place f s (length (starts f s) - 1))) + arrived t (flown v) f s (end_in t (starts f s) k)
 
   conserved_next : (f s : ℕ) → f < fleets_in t → s < stations_in t → (k : ℕ) → k + 1 < length (starts f s) → Conserved f s k → Conserved f s (k + 1)
   conserved_next f s known within k next before =
       let at = network.each f s known within in
-      let law = flow.balance (node_at f s (k + 1)) (record { fleet = known; station = within; place = next }) in
-      let arc = ap (λ j. v (Ground (node_at f s j))) (before_next (length (starts f s)) k) in
+      let law = flow.balance (node_of_place f s (k + 1)) (record { fleet = known; station = within; place = next }) in
+      let arc = ap (λ j. v (Ground (node_of_place f s j))) (before_next (length (starts f s)) k) in
       omega (arith, before, law, arc, left_next t keeps (flown v) f s starts known weigh at k next, come_next t keeps (flown v) f s starts known weigh at k next)
 
   conserved : (f s : ℕ) → f < fleets_in t → s < stations_in t → (k : ℕ) → k < length (starts f s) → Conserved f s k
@@ -71,7 +71,7 @@ module _ (t : Tables) (keeps : Domains) (starts : Starts) (q : ℕ) (v : Column 
       let at = network.each f s known within in
       omega (
         arith,
-        flow.balance (node_at f s 0) (record { fleet = known; station = within; place = below }),
+        flow.balance (node_of_place f s 0) (record { fleet = known; station = within; place = below }),
         left_first t keeps (flown v) f s starts known weigh at,
         come_first t keeps (flown v) f s starts known weigh at,
       )

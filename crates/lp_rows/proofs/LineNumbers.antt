@@ -19,9 +19,9 @@ use Rattle.lp_rows.specs.declared.kinds.Line.TheVariants.{Cover, Balance, Count,
 use Rattle.lp_rows.specs.Entries.{IsLine, IsNode, IsPark, column_cost, entry_of, right_side_of}
 use Rattle.sums.specs.Places.{list_below}
 use Rattle.sums.proofs.Places.{get_or-list_below, length-list_below}
-use Rattle.lp_rows.specs.Layout.{Starts, all_nodes, all_parks, columns_of, concat_below, lines_of, node_at, nodes_at, nodes_of, park_at, parking_days, parks_at}
+use Rattle.lp_rows.specs.Layout.{Starts, all_nodes, all_parks, concat_below, node_of_place, nodes_at, nodes_of_fleet, park_at, parking_days, parks_at, program_columns, program_lines}
 use Rattle.lp_rows.specs.Points.{column_at}
-use Rattle.lp_rows.specs.Program.{AreRows, numbers_of}
+use Rattle.lp_rows.specs.Program.{AreRows, line_numbers}
 use Rattle.lp_rows.proofs.LineSums.{line_sum}
 use Rattle.lp_rows.proofs.Rooms.{by_number}
 use Rattle.lp_rows.proofs.Totals.{over_columns}
@@ -42,15 +42,15 @@ among_map f xs x here = (here.0, omega (arith, here.1, length-map xs f), get_or-
 
 pub node_among : (t : Tables) (starts : Starts) (n : Node) → IsNode t starts n → Contains (all_nodes t starts) n
 node_among t starts n node =
-    among_concat (nodes_of t starts) n (fleets_in t) n.fleet node.fleet
-    (among_concat (nodes_at starts n.fleet) n (stations_in t) n.station node.station (among_list (node_at n.fleet n.station) (length (starts n.fleet n.station)) n.place node.place))
+    among_concat (nodes_of_fleet t starts) n (fleets_in t) n.fleet node.fleet
+    (among_concat (nodes_at starts n.fleet) n (stations_in t) n.station node.station (among_list (node_of_place n.fleet n.station) (length (starts n.fleet n.station)) n.place node.place))
 
 pub park_among : (t : Tables) (p : Park) → IsPark t p → Contains (all_parks t) p
 park_among t p known =
     among_concat (parks_at t) p (stations_in t) p.station known.station
     (subst (Contains (parks_at t p.station)) (by_number p known.some) (among_list (park_at p.station) (parking_days t p.station) (p.day - 1) (omega (arith, known.some, known.day))))
 
-pub line_among : (t : Tables) (starts : Starts) (line : Line) → IsLine t starts line → Contains (lines_of t starts) line
+pub line_among : (t : Tables) (starts : Starts) (line : Line) → IsLine t starts line → Contains (program_lines t starts) line
 line_among t starts (Cover l) below = Contains-append_left _ _ _ (Contains-append_left _ _ _ (Contains-append_left _ _ _ (among_list Cover (legs_in t) l below)))
 line_among t starts (Balance n) node =
     Contains-append_left _ _ _ (Contains-append_left _ _ _ (Contains-append_right (list_below Cover (legs_in t)) (map Balance (all_nodes t starts)) (Balance n) (among_map Balance (all_nodes t starts) n (node_among t starts n node))))
@@ -62,32 +62,32 @@ line_among t starts (Parking p) known =
 -- ---- the numbers
 module _ (t : Tables) (keeps : Domains) (starts : Starts) (rows : Rows) (are : AreRows t keeps starts rows) where
   abbrev cols : List Column
-  cols = columns_of t keeps starts
+  cols = program_columns t keeps starts
 
-  pub line_count : length rows.lines ≡ length (lines_of t starts)
-  line_count = ap length are.lines ∙ length-map (lines_of t starts) (numbers_of t starts cols)
+  pub line_count : length rows.lines ≡ length (program_lines t starts)
+  line_count = ap length are.lines ∙ length-map (program_lines t starts) (line_numbers t starts cols)
 
-  numbers_at : (i : ℕ) → i < length (lines_of t starts) → get_or rows.lines i [] ≡ numbers_of t starts cols (get_or (lines_of t starts) i (Cover 0))
-  numbers_at i within = ap (λ ls. get_or ls i []) are.lines ∙ get_or-map (numbers_of t starts cols) (lines_of t starts) i (Cover 0) [] within
+  numbers_at : (i : ℕ) → i < length (program_lines t starts) → get_or rows.lines i [] ≡ line_numbers t starts cols (get_or (program_lines t starts) i (Cover 0))
+  numbers_at i within = ap (λ ls. get_or ls i []) are.lines ∙ get_or-map (line_numbers t starts cols) (program_lines t starts) i (Cover 0) [] within
 
-  pub number_at_column : (i c : ℕ) → i < length (lines_of t starts) → c < length cols → entry rows i c ≡ entry_of t starts (get_or (lines_of t starts) i (Cover 0)) (column_at cols c)
+  pub number_at_column : (i c : ℕ) → i < length (program_lines t starts) → c < length cols → entry rows i c ≡ entry_of t starts (get_or (program_lines t starts) i (Cover 0)) (column_at cols c)
   number_at_column i c within below =
-      let line = get_or (lines_of t starts) i (Cover 0) in
+      let line = get_or (program_lines t starts) i (Cover 0) in
       ap (λ ns. get_or ns c (pos 0)) (numbers_at i within)
       ∙ get_or_append_left (map (entry_of t starts line) cols) (right_side_of t line ∷ []) (pos 0) c (omega (arith, below, length-map cols (entry_of t starts line)))
       ∙ get_or-map (entry_of t starts line) cols c (Slack 0) (pos 0) below
 
-  pub right_side_at : (i : ℕ) → i < length (lines_of t starts) → entry rows i rows.columns ≡ right_side_of t (get_or (lines_of t starts) i (Cover 0))
+  pub right_side_at : (i : ℕ) → i < length (program_lines t starts) → entry rows i rows.columns ≡ right_side_of t (get_or (program_lines t starts) i (Cover 0))
   right_side_at i within =
-      let line = get_or (lines_of t starts) i (Cover 0) in
+      let line = get_or (program_lines t starts) i (Cover 0) in
       ap (λ ns. get_or ns rows.columns (pos 0)) (numbers_at i within)
       ∙ get_or_push (map (entry_of t starts line) cols) (right_side_of t line) (pos 0) rows.columns (length-map cols (entry_of t starts line) ∙ sym are.columns)
 
   -- a line's sum at a point, by the kinds of columns
-  pub sum_at : (x : ℕ → ℕ) (v : Column → ℕ) → ((c : ℕ) → c < length cols → x c ≡ v (column_at cols c)) → (i : ℕ) → i < length (lines_of t starts)
-      → sum_below_ℤ (λ c. entry rows i c *ℤ pos (x c)) rows.columns ≡ line_sum t keeps starts v (entry_of t starts (get_or (lines_of t starts) i (Cover 0)))
+  pub sum_at : (x : ℕ → ℕ) (v : Column → ℕ) → ((c : ℕ) → c < length cols → x c ≡ v (column_at cols c)) → (i : ℕ) → i < length (program_lines t starts)
+      → sum_below_ℤ (λ c. entry rows i c *ℤ pos (x c)) rows.columns ≡ line_sum t keeps starts v (entry_of t starts (get_or (program_lines t starts) i (Cover 0)))
   sum_at x v same i within =
-      let line = get_or (lines_of t starts) i (Cover 0) in
+      let line = get_or (program_lines t starts) i (Cover 0) in
       ap (sum_below_ℤ (λ c. entry rows i c *ℤ pos (x c))) are.columns
       ∙ sum_below_ℤ-same (λ c. entry rows i c *ℤ pos (x c)) (λ c. entry_of t starts line (column_at cols c) *ℤ pos (v (column_at cols c))) (length cols)
       (λ c below. ap (λ e. e *ℤ pos (x c)) (number_at_column i c within below) ∙ ap (λ n. entry_of t starts line (column_at cols c) *ℤ pos n) (same c below))
@@ -99,7 +99,7 @@ module _ (t : Tables) (keeps : Domains) (starts : Starts) (rows : Rows) (are : A
   meets_line q x v same meets line known =
       let place = line_among t starts line known in
       let within = place.1 in
-      let there : get_or (lines_of t starts) place.0 (Cover 0) ≡ line = get_or_default (lines_of t starts) place.0 (Cover 0) line within ∙ place.2 in
+      let there : get_or (program_lines t starts) place.0 (Cover 0) ≡ line = get_or_default (program_lines t starts) place.0 (Cover 0) line within ∙ place.2 in
       subst (λ k. line_sum t keeps starts v (entry_of t starts k) ≡ right_side_of t k *ℤ pos q) there
       (sym (sum_at x v same place.0 within) ∙ meets.each place.0 (omega (arith, line_count)) ∙ ap (λ r. r *ℤ pos q) (right_side_at place.0 within))
 

@@ -11,7 +11,7 @@ use Rattle.lp_rows.specs.declared.kinds.Line.{Line}
 use Rattle.lp_rows.specs.declared.kinds.Line.TheVariants.{Balance, Count, Cover, Parking}
 use Rattle.lp_rows.specs.Entries.{IsNode}
 use Rattle.sums.specs.Places.{list_below}
-use Rattle.lp_rows.specs.Layout.{Starts, all_nodes, all_parks, line_at, lines_of, node_at, node_of_number, nodes_at, nodes_of, park_at, park_of_number}
+use Rattle.lp_rows.specs.Layout.{Starts, all_nodes, all_parks, line_at, node_of_number, node_of_place, nodes_at, nodes_of_fleet, park_at, park_of_number, program_lines}
 use Rattle.lp_rows.specs.Points.{node_count, park_count}
 use Rattle.lp_rows.proofs.Counted.{length-concat, nodes_are, parks_are}
 use Rattle.sums.proofs.Places.{get_or-list_below, length-list_below}
@@ -26,19 +26,19 @@ module _ (t : Tables) (starts : Starts) where
   before f s = sum_below nodes_in f + sum_below (λ r. length (starts f r)) s
 
   long_at : (f s : ℕ) → length (nodes_at starts f s) ≡ length (starts f s)
-  long_at f s = length-list_below (node_at f s) (length (starts f s))
+  long_at f s = length-list_below (node_of_place f s) (length (starts f s))
 
-  long_of : (f : ℕ) → length (nodes_of t starts f) ≡ nodes_in f
+  long_of : (f : ℕ) → length (nodes_of_fleet t starts f) ≡ nodes_in f
   long_of f = length-concat (nodes_at starts f) (λ s. length (starts f s)) (stations_in t) (λ s within. long_at f s)
 
   -- the place of a node
-  pub node_there : (f s k : ℕ) (d : Node) → f < fleets_in t → s < stations_in t → k < length (starts f s) → get_or (all_nodes t starts) (before f s + k) d ≡ node_at f s k
+  pub node_there : (f s k : ℕ) (d : Node) → f < fleets_in t → s < stations_in t → k < length (starts f s) → get_or (all_nodes t starts) (before f s + k) d ≡ node_of_place f s k
   node_there f s k d known within below =
       let place : before f s + k ≡ sum_below nodes_in f + (sum_below (λ r. length (starts f r)) s + k) = omega arith in
       ap (λ n. get_or (all_nodes t starts) n d) place
-      ∙ at_concat (nodes_of t starts) nodes_in d (fleets_in t) f (sum_below (λ r. length (starts f r)) s + k) (λ g less. long_of g) known (within_sum (λ r. length (starts f r)) (stations_in t) s k within below)
+      ∙ at_concat (nodes_of_fleet t starts) nodes_in d (fleets_in t) f (sum_below (λ r. length (starts f r)) s + k) (λ g less. long_of g) known (within_sum (λ r. length (starts f r)) (stations_in t) s k within below)
       ∙ at_concat (nodes_at starts f) (λ r. length (starts f r)) d (stations_in t) s k (λ r less. long_at f r) within below
-      ∙ get_or-list_below (node_at f s) (length (starts f s)) k d below
+      ∙ get_or-list_below (node_of_place f s) (length (starts f s)) k d below
 
   pub node_within : (f s k : ℕ) → f < fleets_in t → s < stations_in t → k < length (starts f s) → before f s + k < node_count t starts
   node_within f s k known within below =
@@ -63,8 +63,8 @@ module _ (t : Tables) (starts : Starts) where
   pub node_is : (k : ℕ) → k < node_count t starts → IsNode t starts (node_of_number t starts k)
   node_is k below =
       let number = node_number k below in
-      let same : node_of_number t starts k ≡ node_at number.fleet number.station number.place =
-      ap (λ j. get_or (all_nodes t starts) j (node_at 0 0 0)) number.is ∙ node_there number.fleet number.station number.place (node_at 0 0 0) number.known number.within number.below in
+      let same : node_of_number t starts k ≡ node_of_place number.fleet number.station number.place =
+      ap (λ j. get_or (all_nodes t starts) j (node_of_place 0 0 0)) number.is ∙ node_there number.fleet number.station number.place (node_of_place 0 0 0) number.known number.within number.below in
       subst (IsNode t starts) (sym same) (record { fleet = number.known; station = number.within; place = number.below })
 
   -- ---- the lines by their numbers
@@ -84,7 +84,7 @@ module _ (t : Tables) (starts : Starts) where
   abbrev behind : List Line
   behind = map Balance (all_nodes t starts) ++ last_lines
 
-  in_parts : lines_of t starts ≡ list_below Cover (legs_in t) ++ behind
+  in_parts : program_lines t starts ≡ list_below Cover (legs_in t) ++ behind
   in_parts =
       append_assoc (list_below Cover (legs_in t) ++ map Balance (all_nodes t starts)) (list_below Count (fleets_in t)) (map Parking (all_parks t))
       ∙ append_assoc (list_below Cover (legs_in t)) (map Balance (all_nodes t starts)) last_lines
@@ -109,7 +109,7 @@ module _ (t : Tables) (starts : Starts) where
   balance_there k below =
       behind_covers k
       ∙ get_or_append_left (map Balance (all_nodes t starts)) last_lines (Cover 0) k (omega (arith, below, balances_long))
-      ∙ get_or-map Balance (all_nodes t starts) k (node_at 0 0 0) (Cover 0) (omega (arith, below, nodes_are t starts))
+      ∙ get_or-map Balance (all_nodes t starts) k (node_of_place 0 0 0) (Cover 0) (omega (arith, below, nodes_are t starts))
 
   pub count_there : (f : ℕ) → f < fleets_in t → line_at t starts (legs_in t + (node_count t starts + f)) ≡ Count f
   count_there f known =

@@ -22,8 +22,8 @@ use Rattle.lp_rows.specs.declared.kinds.Node.{Node}
 use Rattle.lp_rows.specs.declared.kinds.Park.{Park}
 use Rattle.lp_rows.specs.declared.kinds.Column.{Column}
 use Rattle.lp_rows.specs.declared.kinds.Column.TheVariants.{Flight, Ground, Room, Slack}
-use Rattle.lp_rows.specs.Entries.{IsNode, IsPark, balance_entry, count_entry, cover_entry, is_in, one_if, parking_entry, place_after, same_park}
-use Rattle.lp_rows.specs.Layout.{Starts, arc_stays, node_at, park_at, parking_days}
+use Rattle.lp_rows.specs.Entries.{IsNode, IsPark, balance_entry, count_entry, cover_entry, is_in_node, one_if, parking_entry, place_after, same_park}
+use Rattle.lp_rows.specs.Layout.{Starts, arc_stays, node_of_place, park_at, parking_days}
 use Rattle.lp_rows.proofs.ListSums.{one_if-times, test_out}
 use Rattle.lp_rows.proofs.Picks.{count_before, inner_tests, one_test, pick_fleet, pick_nodes, pick_station, place_before, times_test, two_tests}
 use Rattle.lp_rows.proofs.Rooms.{pick_room}
@@ -32,19 +32,19 @@ use Rattle.lp_rows.proofs.Totals.{flights, grounds, on_arc, rooms, slacks}
 
 -- what a departure's weight adds to the aircraft of a fleet that come to a node
 abbrev pub coming_to : Tables → Starts → Weights → Node → ℕ → ℕ
-coming_to t starts w n d = if ((leg_of t (leg_at t d)).to == n.station) && is_in t (starts n.fleet n.station) n.place (ready_minute t (pair_on t d n.fleet)) then w (pair_on t d n.fleet) else 0
+coming_to t starts w n d = if ((leg_of t (leg_at t d)).to == n.station) && is_in_node t (starts n.fleet n.station) n.place (ready_minute t (pair_on t d n.fleet)) then w (pair_on t d n.fleet) else 0
 
 -- and to those that leave it
 abbrev pub leaving_from : Tables → Starts → Weights → Node → ℕ → ℕ
-leaving_from t starts w n d = if ((leg_of t (leg_at t d)).from == n.station) && is_in t (starts n.fleet n.station) n.place (departure t (pair_on t d n.fleet)) then w (pair_on t d n.fleet) else 0
+leaving_from t starts w n d = if ((leg_of t (leg_at t d)).from == n.station) && is_in_node t (starts n.fleet n.station) n.place (departure t (pair_on t d n.fleet)) then w (pair_on t d n.fleet) else 0
 
 -- what stands on the last arc of a fleet at a station
 abbrev pub last_arc : Starts → (Column → ℕ) → ℕ → ℕ → ℕ
-last_arc starts v f s = sum_below (λ k. if length (starts f s) == k + 1 then v (Ground (node_at f s k)) else 0) (length (starts f s))
+last_arc starts v f s = sum_below (λ k. if length (starts f s) == k + 1 then v (Ground (node_of_place f s k)) else 0) (length (starts f s))
 
 -- and on that which passes the end of a day
 abbrev pub night_arc : Tables → Starts → (Column → ℕ) → ℕ → ℕ → ℕ → ℕ
-night_arc t starts v s d f = sum_below (λ k. if end_in t (starts f s) k == day_end d then v (Ground (node_at f s k)) else 0) (length (starts f s))
+night_arc t starts v s d f = sum_below (λ k. if end_in t (starts f s) k == day_end d then v (Ground (node_of_place f s k)) else 0) (length (starts f s))
 
 -- all columns by a line's numbers
 abbrev pub line_sum : Tables → Domains → Starts → (Column → ℕ) → (Column → ℤ) → ℤ
@@ -77,14 +77,14 @@ module _ (t : Tables) (keeps : Domains) (starts : Starts) (v : Column → ℕ) (
   filled true e n none = refl
   filled false e n none = sym (ap (λ k. e *ℤ pos k) (none refl) ∙ *ℤ-zero e)
 
-  over_grounds : StandOnArcs t keeps starts v → (e : Column → ℤ) (u : ℕ → ℕ → ℕ → ℤ) → ((f s k : ℕ) → e (Ground (node_at f s k)) *ℤ pos (v (Ground (node_at f s k))) ≡ u f s k)
+  over_grounds : StandOnArcs t keeps starts v → (e : Column → ℤ) (u : ℕ → ℕ → ℕ → ℤ) → ((f s k : ℕ) → e (Ground (node_of_place f s k)) *ℤ pos (v (Ground (node_of_place f s k))) ≡ u f s k)
       → grounds t keeps starts (λ k. e k *ℤ pos (v k)) ≡ sum_below_ℤ (λ f. sum_below_ℤ (λ s. sum_below_ℤ (u f s) (length (starts f s))) (stations_in t)) (fleets_in t)
   over_grounds stand e u same =
       sum_below_ℤ-same (λ f. sum_below_ℤ (λ s. sum_below_ℤ (on_arc t keeps starts (λ c. e c *ℤ pos (v c)) f s) (length (starts f s))) (stations_in t))
       (λ f. sum_below_ℤ (λ s. sum_below_ℤ (u f s) (length (starts f s))) (stations_in t)) (fleets_in t)
       (λ f known. sum_below_ℤ-same (λ s. sum_below_ℤ (on_arc t keeps starts (λ c. e c *ℤ pos (v c)) f s) (length (starts f s))) (λ s. sum_below_ℤ (u f s) (length (starts f s))) (stations_in t)
       (λ s within. sum_below_ℤ-same (on_arc t keeps starts (λ c. e c *ℤ pos (v c)) f s) (u f s) (length (starts f s))
-      (λ k below. filled (arc_stays t keeps starts (node_at f s k)) (e (Ground (node_at f s k))) (v (Ground (node_at f s k))) (stand.each (node_at f s k) (record { fleet = known; station = within; place = below })) ∙ same f s k)))
+      (λ k below. filled (arc_stays t keeps starts (node_of_place f s k)) (e (Ground (node_of_place f s k))) (v (Ground (node_of_place f s k))) (stand.each (node_of_place f s k) (record { fleet = known; station = within; place = below })) ∙ same f s k)))
 
   -- ---- cover
   pub cover_sum : (l0 : ℕ) → l0 < legs_in t → line_sum t keeps starts v (cover_entry l0) ≡ pos (weight_on t w l0)
@@ -107,8 +107,8 @@ module _ (t : Tables) (keeps : Domains) (starts : Starts) (v : Column → ℕ) (
 
   balance_flights : (n : Node) → n.fleet < fleets_in t → flights t keeps (λ k. balance_entry t starts n k *ℤ pos (v k)) ≡ pos (into n) -ℤ pos (out_of n)
   balance_flights n known =
-      let come = λ (p : Pair). ((leg_of t p.leg).to == n.station) && is_in t (starts n.fleet n.station) n.place (ready_minute t p) in
-      let leave = λ (p : Pair). ((leg_of t p.leg).from == n.station) && is_in t (starts n.fleet n.station) n.place (departure t p) in
+      let come = λ (p : Pair). ((leg_of t p.leg).to == n.station) && is_in_node t (starts n.fleet n.station) n.place (ready_minute t p) in
+      let leave = λ (p : Pair). ((leg_of t p.leg).from == n.station) && is_in_node t (starts n.fleet n.station) n.place (departure t p) in
       let part = λ (p : Pair). pos (if come p then w p else 0) -ℤ pos (if leave p then w p else 0) in
       over_flights (balance_entry t starts n) (λ p. where_true (n.fleet == fleet_by t p) (part p)) (λ p. two_tests (n.fleet == fleet_by t p) (come p) (leave p) (w p))
       ∙ pick_ℤ t part n.fleet known
@@ -116,12 +116,12 @@ module _ (t : Tables) (keeps : Domains) (starts : Starts) (v : Column → ℕ) (
 
   -- the arc into a node, and that from it
   abbrev before : Node → ℕ
-  before n = v (Ground (node_at n.fleet n.station (place_before (length (starts n.fleet n.station)) n.place)))
+  before n = v (Ground (node_of_place n.fleet n.station (place_before (length (starts n.fleet n.station)) n.place)))
 
   balance_grounds : StandOnArcs t keeps starts v → (n : Node) → IsNode t starts n → grounds t keeps starts (λ k. balance_entry t starts n k *ℤ pos (v k)) ≡ pos (before n) -ℤ pos (v (Ground n))
   balance_grounds stand n node =
       let nodes = length (starts n.fleet n.station) in
-      let arc = λ (f s k : ℕ). v (Ground (node_at f s k)) in
+      let arc = λ (f s k : ℕ). v (Ground (node_of_place f s k)) in
       let part = λ (f s k : ℕ). pos (if n.place == place_after nodes k then arc f s k else 0) -ℤ pos (if n.place == k then arc f s k else 0) in
       over_grounds stand (balance_entry t starts n) (λ f s k. where_true (n.fleet == f) (where_true (n.station == s) (part f s k)))
       (λ f s k. two_tests (n.fleet == f) ((n.station == s) && (n.place == place_after nodes k)) ((n.station == s) && (n.place == k)) (arc f s k)
@@ -148,11 +148,11 @@ module _ (t : Tables) (keeps : Domains) (starts : Starts) (v : Column → ℕ) (
 
   count_grounds : StandOnArcs t keeps starts v → (f0 : ℕ) → f0 < fleets_in t → grounds t keeps starts (λ k. count_entry t starts f0 k *ℤ pos (v k)) ≡ pos (sum_below (last_arc starts v f0) (stations_in t))
   count_grounds stand f0 known =
-      let part = λ (f s k : ℕ). pos (if length (starts f0 s) == k + 1 then v (Ground (node_at f s k)) else 0) in
-      over_grounds stand (count_entry t starts f0) (λ f s k. where_true (f0 == f) (part f s k)) (λ f s k. one_test (f0 == f) (length (starts f0 s) == k + 1) (v (Ground (node_at f s k))))
+      let part = λ (f s k : ℕ). pos (if length (starts f0 s) == k + 1 then v (Ground (node_of_place f s k)) else 0) in
+      over_grounds stand (count_entry t starts f0) (λ f s k. where_true (f0 == f) (part f s k)) (λ f s k. one_test (f0 == f) (length (starts f0 s) == k + 1) (v (Ground (node_of_place f s k))))
       ∙ pick_fleet (fleets_in t) (stations_in t) f0 (λ f s. length (starts f s)) part known
       ∙ sum_below_ℤ-same (λ s. sum_below_ℤ (part f0 s) (length (starts f0 s))) (λ s. pos (last_arc starts v f0 s)) (stations_in t)
-      (λ s within. sum_below_ℤ-pos (λ k. if length (starts f0 s) == k + 1 then v (Ground (node_at f0 s k)) else 0) (length (starts f0 s)))
+      (λ s within. sum_below_ℤ-pos (λ k. if length (starts f0 s) == k + 1 then v (Ground (node_of_place f0 s k)) else 0) (length (starts f0 s)))
       ∙ sum_below_ℤ-pos (last_arc starts v f0) (stations_in t)
 
   count_slacks : (f0 : ℕ) → f0 < fleets_in t → slacks t (λ k. count_entry t starts f0 k *ℤ pos (v k)) ≡ pos (v (Slack f0))
@@ -168,11 +168,11 @@ module _ (t : Tables) (keeps : Domains) (starts : Starts) (v : Column → ℕ) (
   -- ---- parking
   parking_grounds : StandOnArcs t keeps starts v → (p : Park) → p.station < stations_in t → grounds t keeps starts (λ k. parking_entry t starts p k *ℤ pos (v k)) ≡ pos (sum_below (night_arc t starts v p.station p.day) (fleets_in t))
   parking_grounds stand p within =
-      let part = λ (f s k : ℕ). pos (if end_in t (starts f s) k == day_end p.day then v (Ground (node_at f s k)) else 0) in
-      over_grounds stand (parking_entry t starts p) (λ f s k. where_true (p.station == s) (part f s k)) (λ f s k. one_test (p.station == s) (end_in t (starts f s) k == day_end p.day) (v (Ground (node_at f s k))))
+      let part = λ (f s k : ℕ). pos (if end_in t (starts f s) k == day_end p.day then v (Ground (node_of_place f s k)) else 0) in
+      over_grounds stand (parking_entry t starts p) (λ f s k. where_true (p.station == s) (part f s k)) (λ f s k. one_test (p.station == s) (end_in t (starts f s) k == day_end p.day) (v (Ground (node_of_place f s k))))
       ∙ pick_station (fleets_in t) (stations_in t) p.station (λ f s. length (starts f s)) part within
       ∙ sum_below_ℤ-same (λ f. sum_below_ℤ (part f p.station) (length (starts f p.station))) (λ f. pos (night_arc t starts v p.station p.day f)) (fleets_in t)
-      (λ f known. sum_below_ℤ-pos (λ k. if end_in t (starts f p.station) k == day_end p.day then v (Ground (node_at f p.station k)) else 0) (length (starts f p.station)))
+      (λ f known. sum_below_ℤ-pos (λ k. if end_in t (starts f p.station) k == day_end p.day then v (Ground (node_of_place f p.station k)) else 0) (length (starts f p.station)))
       ∙ sum_below_ℤ-pos (night_arc t starts v p.station p.day) (fleets_in t)
 
   parking_rooms : (p : Park) → IsPark t p → rooms t (λ k. parking_entry t starts p k *ℤ pos (v k)) ≡ pos (v (Room p))

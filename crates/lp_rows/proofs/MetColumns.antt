@@ -16,10 +16,10 @@ use Rattle.lp_rows.specs.declared.kinds.Column.TheVariants.{Flight, Ground, Room
 use Rattle.lp_rows.specs.declared.kinds.Line.{Line}
 use Rattle.lp_rows.specs.declared.kinds.Line.TheVariants.{Cover, Balance, Count, Parking}
 use Rattle.lp_rows.specs.declared.kinds.Node.{Node}
-use Rattle.lp_rows.specs.Entries.{IsColumn, comes_to_node, entry_of, gets_arc, is_in, leaves_node, one_if, right_side_of, same_node}
-use Rattle.lp_rows.specs.Meeting.{HasPair, meets, meets_at, touched_by, touching}
+use Rattle.lp_rows.specs.Entries.{IsColumn, comes_to_node, entry_of, gets_arc, is_in_node, leaves_node, one_if, right_side_of, same_node}
+use Rattle.lp_rows.specs.Meeting.{HasPair, line_meets, meets_at, touched_by, touching}
 use Rattle.lp_rows.specs.Layout.{Starts}
-use Rattle.lp_rows.specs.Program.{numbers_of}
+use Rattle.lp_rows.specs.Program.{line_numbers}
 use Rattle.lp_rows.specs.Staying.{passing_below}
 use Rattle.lp_rows.proofs.HeldLines.{column_number}
 use Rattle.lp_rows.proofs.PassingNumbers.{at_place, behind, from_place, next_behind, no_more, none_between, placed}
@@ -59,13 +59,13 @@ arc_elsewhere f a n e x = subst (λ s. (f && (s && x)) ≡ false) (turned a n) (
 none_less_none : (a b : Bool) → a ≡ false → b ≡ false → (one_if a -ℤ one_if b) ≡ pos 0
 none_less_none a b none no_other = rw (none, no_other) refl
 
-leaves_elsewhere : (t : Tables) (starts : Starts) (n : Node) (p : Pair) → meets (Balance n) (touched_by t (Flight p)) ≡ false → leaves_node t starts n p ≡ false
-leaves_elsewhere t starts n p e = one_fails (n.fleet == fleet_by t p) ((leg_of t p.leg).from == n.station) ((leg_of t p.leg).to == n.station) e (is_in t (starts n.fleet n.station) n.place (departure t p))
+leaves_elsewhere : (t : Tables) (starts : Starts) (n : Node) (p : Pair) → line_meets (Balance n) (touched_by t (Flight p)) ≡ false → leaves_node t starts n p ≡ false
+leaves_elsewhere t starts n p e = one_fails (n.fleet == fleet_by t p) ((leg_of t p.leg).from == n.station) ((leg_of t p.leg).to == n.station) e (is_in_node t (starts n.fleet n.station) n.place (departure t p))
 
-comes_elsewhere : (t : Tables) (starts : Starts) (n : Node) (p : Pair) → meets (Balance n) (touched_by t (Flight p)) ≡ false → comes_to_node t starts n p ≡ false
-comes_elsewhere t starts n p e = other_fails (n.fleet == fleet_by t p) ((leg_of t p.leg).from == n.station) ((leg_of t p.leg).to == n.station) e (is_in t (starts n.fleet n.station) n.place (ready_minute t p))
+comes_elsewhere : (t : Tables) (starts : Starts) (n : Node) (p : Pair) → line_meets (Balance n) (touched_by t (Flight p)) ≡ false → comes_to_node t starts n p ≡ false
+comes_elsewhere t starts n p e = other_fails (n.fleet == fleet_by t p) ((leg_of t p.leg).from == n.station) ((leg_of t p.leg).to == n.station) e (is_in_node t (starts n.fleet n.station) n.place (ready_minute t p))
 
-no_number : (t : Tables) (starts : Starts) (line : Line) (column : Column) → meets line (touched_by t column) ≡ false → entry_of t starts line column ≡ pos 0
+no_number : (t : Tables) (starts : Starts) (line : Line) (column : Column) → line_meets line (touched_by t column) ≡ false → entry_of t starts line column ≡ pos 0
 no_number t starts (Cover l) (Flight p) e = rw e refl
 no_number t starts (Cover l) (Ground a) e = refl
 no_number t starts (Cover l) (Slack f) e = refl
@@ -83,7 +83,7 @@ no_number t starts (Parking p) (Ground a) e = rw (first_fails _ _ e) refl
 no_number t starts (Parking p) (Slack f) e = refl
 no_number t starts (Parking p) (Room q) e = rw (first_fails _ _ e) refl
 
--- a row that is filled up to each column that its line meets
+-- a row that is filled up to each column that its line line_meets
 module _ (t : Tables) (starts : Starts) (columns : List Column) (line : Line) where
   abbrev passes : ℕ → Bool
   passes = meets_at (map (touched_by t) columns) line
@@ -92,7 +92,7 @@ module _ (t : Tables) (starts : Starts) (columns : List Column) (line : Line) wh
   next place = from_place passes (length columns) place
 
   abbrev pub number : ℕ → ℤ
-  number k = get_or (numbers_of t starts columns line) k (pos 0)
+  number k = get_or (line_numbers t starts columns line) k (pos 0)
 
   abbrev pub IsFilledTo : FracRow → ℕ → Type 0
   IsFilledTo row place = IsFilledRow row number (length columns + 1) (next place)
@@ -100,7 +100,7 @@ module _ (t : Tables) (starts : Starts) (columns : List Column) (line : Line) wh
   not_met : (k : ℕ) → k < length columns → passes k ≡ false → number k ≡ pos 0
   not_met k below e =
       sym (column_number (entry_of t starts line) columns (right_side_of t line) k (Slack 0) below)
-      ∙ no_number t starts line (get_or columns k (Slack 0)) (subst (λ x. meets line x ≡ false) (get_or-map (touched_by t) columns k (Slack 0) (touching 0 0 0 0) below) e)
+      ∙ no_number t starts line (get_or columns k (Slack 0)) (subst (λ x. line_meets line x ≡ false) (get_or-map (touched_by t) columns k (Slack 0) (touching 0 0 0 0) below) e)
 
   pub begun : (row : FracRow) → row ≡ record { numbers = list_below (λ column. pos 0) (length columns + 1); den = pos 1 } → IsFilledTo row 0
   begun row zeros =

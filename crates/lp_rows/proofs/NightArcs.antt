@@ -15,7 +15,7 @@ use Rattle.node_aggregate.proofs.NodeEnds.{node_that_holds}
 use Rattle.node_aggregate.proofs.Starts.{end_last, end_next}
 use Rattle.lp_rows.specs.declared.kinds.Column.{Column}
 use Rattle.lp_rows.specs.declared.kinds.Column.TheVariants.{Ground}
-use Rattle.lp_rows.specs.Layout.{Starts, node_at, parking_days}
+use Rattle.lp_rows.specs.Layout.{Starts, node_of_place, parking_days}
 use Rattle.lp_rows.proofs.LineSums.{night_arc}
 use Rattle.lp_rows.proofs.NodeEnds.{ends_rise}
 
@@ -99,10 +99,10 @@ module _ (t : Tables) (keeps : Domains) (f s d : ℕ) (starts : Starts) (at : Ar
   ]
 
   -- and its arc alone passes the end of the day
-  pub night_arc_is : (v : Column → ℕ) → night_arc t starts v s d f ≡ v (Ground (node_at f s night_node.0))
+  pub night_arc_is : (v : Column → ℕ) → night_arc t starts v s d f ≡ v (Ground (node_of_place f s night_node.0))
   night_arc_is v =
-      at_the_met (end_in t (starts f s)) (λ k. v (Ground (node_at f s k))) (length (starts f s)) night_node.0 (day_end d) (ends_rise t keeps f s starts at) night_node.1.there night_node.1.ends
+      at_the_met (end_in t (starts f s)) (λ k. v (Ground (node_of_place f s k))) (length (starts f s)) night_node.0 (day_end d) (ends_rise t keeps f s starts at) night_node.1.there night_node.1.ends
 
 -- where there are no nodes, nothing stands on it
 pub no_night_arc : (t : Tables) (starts : Starts) (v : Column → ℕ) (s d f : ℕ) → length (starts f s) ≡ 0 → night_arc t starts v s d f ≡ 0
-no_night_arc t starts v s d f none = ap (sum_below (λ k. if end_in t (starts f s) k == day_end d then v (Ground (node_at f s k)) else 0)) none
+no_night_arc t starts v s d f none = ap (sum_below (λ k. if end_in t (starts f s) k == day_end d then v (Ground (node_of_place f s k)) else 0)) none

@@ -19,7 +19,7 @@ use Rattle.node_aggregate.specs.Laws.{WeighKept, excess_at_end}
 use Rattle.node_aggregate.specs.Nodes.{AreNodesAt, end_in}
 use Rattle.node_aggregate.proofs.EventsAmong.{ready_at}
 use Rattle.node_aggregate.proofs.NodeEnds.{need_is_at_node_ends}
-use Rattle.lp_rows.specs.Layout.{Starts, node_at}
+use Rattle.lp_rows.specs.Layout.{Starts, node_of_place}
 use Rattle.lp_rows.proofs.LineSums.{coming_to, leaving_from}
 use Rattle.lp_rows.proofs.NodeEnds.{ends_rise, next_start}
 
@@ -38,33 +38,33 @@ from_start false m low high w zero_low = refl
 
 module _ (t : Tables) (keeps : Domains) (w : Weights) (f s : ℕ) (starts : Starts) (known : f < fleets_in t) (weigh : WeighKept t keeps w) (at : AreNodesAt t keeps f s (starts f s)) where
   pub left_next : (k : ℕ) → k + 1 < length (starts f s)
-      → departed t w f s (end_in t (starts f s) (k + 1)) ≡ departed t w f s (end_in t (starts f s) k) + sum_below (leaving_from t starts w (node_at f s (k + 1))) (departures_in t)
+      → departed t w f s (end_in t (starts f s) (k + 1)) ≡ departed t w f s (end_in t (starts f s) k) + sum_below (leaving_from t starts w (node_of_place f s (k + 1))) (departures_in t)
   unfolding departed
   left_next k next =
-      sum_below-agree (leaving t w f s (end_in t (starts f s) (k + 1))) (λ d. leaving t w f s (end_in t (starts f s) k) d + leaving_from t starts w (node_at f s (k + 1)) d) (departures_in t)
+      sum_below-agree (leaving t w f s (end_in t (starts f s) (k + 1))) (λ d. leaving t w f s (end_in t (starts f s) k) d + leaving_from t starts w (node_of_place f s (k + 1)) d) (departures_in t)
       (record {
         each = λ d below. one_split ((leg_of t (leg_at t d)).from == s) (departure t (pair_on t d f)) (get_or (starts f s) (k + 1) 0) (end_in t (starts f s) (k + 1)) (end_in t (starts f s) k) (w (pair_on t d f)) (next_start t keeps f s starts at k next) (omega (arith, ends_rise t keeps f s starts at k next));
       })
-      ∙ sum_below-add (leaving t w f s (end_in t (starts f s) k)) (leaving_from t starts w (node_at f s (k + 1))) (departures_in t)
+      ∙ sum_below-add (leaving t w f s (end_in t (starts f s) k)) (leaving_from t starts w (node_of_place f s (k + 1))) (departures_in t)
 
   pub come_next : (k : ℕ) → k + 1 < length (starts f s)
-      → arrived t w f s (end_in t (starts f s) (k + 1)) ≡ arrived t w f s (end_in t (starts f s) k) + sum_below (coming_to t starts w (node_at f s (k + 1))) (departures_in t)
+      → arrived t w f s (end_in t (starts f s) (k + 1)) ≡ arrived t w f s (end_in t (starts f s) k) + sum_below (coming_to t starts w (node_of_place f s (k + 1))) (departures_in t)
   unfolding arrived
   come_next k next =
-      sum_below-agree (coming t w f s (end_in t (starts f s) (k + 1))) (λ d. coming t w f s (end_in t (starts f s) k) d + coming_to t starts w (node_at f s (k + 1)) d) (departures_in t)
+      sum_below-agree (coming t w f s (end_in t (starts f s) (k + 1))) (λ d. coming t w f s (end_in t (starts f s) k) d + coming_to t starts w (node_of_place f s (k + 1)) d) (departures_in t)
       (record {
         each = λ d below. one_split ((leg_of t (leg_at t d)).to == s) (ready_minute t (pair_on t d f)) (get_or (starts f s) (k + 1) 0) (end_in t (starts f s) (k + 1)) (end_in t (starts f s) k) (w (pair_on t d f)) (next_start t keeps f s starts at k next) (omega (arith, ends_rise t keeps f s starts at k next));
       })
-      ∙ sum_below-add (coming t w f s (end_in t (starts f s) k)) (coming_to t starts w (node_at f s (k + 1))) (departures_in t)
+      ∙ sum_below-add (coming t w f s (end_in t (starts f s) k)) (coming_to t starts w (node_of_place f s (k + 1))) (departures_in t)
 
-  pub left_first : departed t w f s (end_in t (starts f s) 0) ≡ sum_below (leaving_from t starts w (node_at f s 0)) (departures_in t)
+  pub left_first : departed t w f s (end_in t (starts f s) 0) ≡ sum_below (leaving_from t starts w (node_of_place f s 0)) (departures_in t)
   unfolding departed
-  left_first = sum_below-agree (leaving t w f s (end_in t (starts f s) 0)) (leaving_from t starts w (node_at f s 0)) (departures_in t)
+  left_first = sum_below-agree (leaving t w f s (end_in t (starts f s) 0)) (leaving_from t starts w (node_of_place f s 0)) (departures_in t)
       (record { each = λ d below. from_start ((leg_of t (leg_at t d)).from == s) (departure t (pair_on t d f)) (get_or (starts f s) 0 0) (end_in t (starts f s) 0) (w (pair_on t d f)) at.nodes.first })
 
-  pub come_first : arrived t w f s (end_in t (starts f s) 0) ≡ sum_below (coming_to t starts w (node_at f s 0)) (departures_in t)
+  pub come_first : arrived t w f s (end_in t (starts f s) 0) ≡ sum_below (coming_to t starts w (node_of_place f s 0)) (departures_in t)
   unfolding arrived
-  come_first = sum_below-agree (coming t w f s (end_in t (starts f s) 0)) (coming_to t starts w (node_at f s 0)) (departures_in t)
+  come_first = sum_below-agree (coming t w f s (end_in t (starts f s) 0)) (coming_to t starts w (node_of_place f s 0)) (departures_in t)
       (record { each = λ d below. from_start ((leg_of t (leg_at t d)).to == s) (ready_minute t (pair_on t d f)) (get_or (starts f s) 0 0) (end_in t (starts f s) 0) (w (pair_on t d f)) at.nodes.first })
 
   -- without nodes there is no need, and nothing comes or leaves

@@ -15,10 +15,10 @@ use Rattle.lp_rows.specs.declared.kinds.Line.TheVariants.{Cover, Balance, Count,
 use Rattle.lp_rows.specs.declared.kinds.Node.{Node}
 use Rattle.lp_rows.specs.declared.outline.Outline.{Outline}
 use Rattle.lp_rows.specs.Entries.{IsColumn, IsLine, column_cost}
-use Rattle.lp_rows.specs.Layout.{Starts, all_arcs, all_kept, all_nodes, all_parks, arc_stays, columns_of, lines_of, moment_at, node_at, park_at, starts_in}
+use Rattle.lp_rows.specs.Layout.{Starts, all_arcs, all_kept, all_nodes, all_parks, arc_stays, moment_at, node_of_place, park_at, program_columns, program_lines, starts_in}
 use Rattle.lp_rows.specs.Outline.{IsOutline, StandsAt, arc_in, balance_line, column_count, columns_in, count_line, ground_column, line_count, lines_in, node_in, park_in, parking_line, room_column, slack_column}
 use Rattle.lp_rows.specs.Staying.{AreStaying, passing_below, stays_at}
-use Rattle.lp_rows.specs.Program.{AreOutlinedRows, AreRows, numbers_of}
+use Rattle.lp_rows.specs.Program.{AreOutlinedRows, AreRows, line_numbers}
 use Rattle.lp_rows.proofs.ListPlaces.{in_first, in_fourth, in_list_below, in_map, in_second, in_third}
 use Rattle.lp_rows.proofs.PassingNumbers.{IsFound, bisected, by_numbers, few_pass, passing_long, placed}
 use Rattle.lp_rows.proofs.Totals.{AreFew, columns_are_known, few_lines, few_parts, lines_are_known, lines_long}
@@ -82,7 +82,7 @@ module _ (o : Outline) where
 
   pub balance_stands : (number place : ℕ) → place ≡ balance_line o number → number < length o.nodes → StandsAt (lines_in o) place (Balance (node_in o number))
   balance_stands number place is below =
-      in_second (list_below Cover o.legs) (map Balance o.nodes) (list_below Count o.fleets) (map Parking o.parks) _ o.legs number place is (length-list_below Cover o.legs) (in_map Balance o.nodes (node_at 0 0 0) number below)
+      in_second (list_below Cover o.legs) (map Balance o.nodes) (list_below Count o.fleets) (map Parking o.parks) _ o.legs number place is (length-list_below Cover o.legs) (in_map Balance o.nodes (node_of_place 0 0 0) number below)
 
   pub count_stands : (f place : ℕ) → place ≡ count_line o f → f < o.fleets → StandsAt (lines_in o) place (Count f)
   count_stands f place is below =
@@ -132,18 +132,18 @@ module _ (t : Tables) (keeps : Domains) (o : Outline) (is : IsOutline t keeps o)
   unfolding arc_stays
   arcs_are_those =
       ap (map (arc_in o)) o.arcs_stay.staying
-      ∙ by_numbers Ground (arc_stays t keeps (starts_in o.network)) (stays_at o.moments) o.nodes (node_at 0 0 0)
-      (λ k below. ap (λ ms. is_none (get_or ms k None)) is.moments ∙ ap is_none (get_or-map (moment_at t keeps (starts_in o.network)) o.nodes k (node_at 0 0 0) None below))
+      ∙ by_numbers Ground (arc_stays t keeps (starts_in o.network)) (stays_at o.moments) o.nodes (node_of_place 0 0 0)
+      (λ k below. ap (λ ms. is_none (get_or ms k None)) is.moments ∙ ap is_none (get_or-map (moment_at t keeps (starts_in o.network)) o.nodes k (node_of_place 0 0 0) None below))
       ∙ ap (λ ns. map Ground (filter (arc_stays t keeps (starts_in o.network)) ns)) is.over.nodes
 
-  pub columns_are : columns_in o ≡ columns_of t keeps (starts_in o.network)
+  pub columns_are : columns_in o ≡ program_columns t keeps (starts_in o.network)
   columns_are =
       ap (λ ps. map Flight ps ++ map (arc_in o) o.arcs ++ list_below Slack o.fleets ++ map Room o.parks) is.pairs
       ∙ ap (λ gs. map Flight (all_kept t keeps) ++ gs ++ list_below Slack o.fleets ++ map Room o.parks) arcs_are_those
       ∙ ap (λ n. map Flight (all_kept t keeps) ++ map Ground (all_arcs t keeps (starts_in o.network)) ++ list_below Slack n ++ map Room o.parks) is.over.fleets
       ∙ ap (λ ps. map Flight (all_kept t keeps) ++ map Ground (all_arcs t keeps (starts_in o.network)) ++ list_below Slack (fleets_in t) ++ map Room ps) is.over.parks
 
-  pub lines_are : lines_in o ≡ lines_of t (starts_in o.network)
+  pub lines_are : lines_in o ≡ program_lines t (starts_in o.network)
   lines_are =
       ap (λ n. list_below Cover n ++ map Balance o.nodes ++ list_below Count o.fleets ++ map Parking o.parks) is.over.legs
       ∙ ap (λ ns. list_below Cover (legs_in t) ++ map Balance ns ++ list_below Count o.fleets ++ map Parking o.parks) is.over.nodes
@@ -160,6 +160,6 @@ module _ (t : Tables) (keeps : Domains) (o : Outline) (is : IsOutline t keeps o)
   are_rows rows are = record {
     network = is.network;
     columns = are.columns ∙ ap length columns_are;
-    lines = are.lines ∙ ap (λ cs. map (numbers_of t (starts_in o.network) cs) (lines_in o)) columns_are ∙ ap (map (numbers_of t (starts_in o.network) (columns_of t keeps (starts_in o.network)))) lines_are;
+    lines = are.lines ∙ ap (λ cs. map (line_numbers t (starts_in o.network) cs) (lines_in o)) columns_are ∙ ap (map (line_numbers t (starts_in o.network) (program_columns t keeps (starts_in o.network)))) lines_are;
     costs = are.costs ∙ ap (map (column_cost t)) columns_are;
   }

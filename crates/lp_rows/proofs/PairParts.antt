@@ -11,7 +11,7 @@ use Rattle.fleet_model.specs.Kept.{Domains, pairs_kept}
 use Rattle.fleet_model.specs.Schedule.{IsPair, fleets_in}
 use Rattle.lp_rows.specs.declared.kinds.Column.{Column}
 use Rattle.lp_rows.specs.declared.kinds.Column.TheVariants.{Flight, Ground, Room, Slack}
-use Rattle.lp_rows.specs.Layout.{Starts, all_arcs, all_parks, columns_of, pair_at_column}
+use Rattle.lp_rows.specs.Layout.{Starts, all_arcs, all_parks, pair_at_column, program_columns}
 use Rattle.lp_rows.specs.Points.{column_at, pair_part, same_column, value_of}
 use Rattle.lp_rows.proofs.ColumnPlaces.{behind, behind_pairs, flight_there, pairs_within}
 use Rattle.lp_rows.proofs.Places.{IsKept, columns_are_kept, value_there}
@@ -36,7 +36,7 @@ no_flight_behind t keeps starts p k =
 
 module _ (t : Tables) (keeps : Domains) (starts : Starts) where
   abbrev cols : List Column
-  cols = columns_of t keeps starts
+  cols = program_columns t keeps starts
 
   -- where two points agree on pairs but for a factor, so do their pair parts
   pub same_parts : (k : ℕ) (x y : ℕ → ℕ) → ((c : ℕ) → c < pairs_kept t keeps → x c ≡ k * y c) → (p : Pair) → pair_part cols x p ≡ k * pair_part cols y p

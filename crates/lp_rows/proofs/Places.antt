@@ -18,7 +18,7 @@ use Rattle.lp_rows.specs.declared.kinds.Park.{Park}
 use Rattle.lp_rows.specs.declared.kinds.Column.{Column}
 use Rattle.lp_rows.specs.declared.kinds.Column.TheVariants.{Flight, Ground, Room, Slack}
 use Rattle.lp_rows.specs.Entries.{IsNode, IsPark, one_if, same_node, same_park}
-use Rattle.lp_rows.specs.Layout.{Starts, arc_stays, columns_of, node_at, park_at, parking_days}
+use Rattle.lp_rows.specs.Layout.{Starts, arc_stays, node_of_place, park_at, parking_days, program_columns}
 use Rattle.lp_rows.specs.Points.{column_at, same_column, value_of}
 use Rattle.lp_rows.proofs.ListSums.{all_zero, of_tests}
 use Rattle.lp_rows.proofs.Picks.{pick_choice, pick_nodes}
@@ -32,7 +32,7 @@ IsKept t keeps starts (Ground a) = IsNode t starts a × (arc_stays t keeps start
 IsKept t keeps starts (Slack f) = f < fleets_in t
 IsKept t keeps starts (Room p) = IsPark t p
 
-pub columns_are_kept : (t : Tables) (keeps : Domains) (starts : Starts) → All (IsKept t keeps starts) (columns_of t keeps starts)
+pub columns_are_kept : (t : Tables) (keeps : Domains) (starts : Starts) → All (IsKept t keeps starts) (program_columns t keeps starts)
 columns_are_kept t keeps starts = all_columns t keeps starts (IsKept t keeps starts) (λ l c below known kept. (record { leg = below; choice = known }, kept)) (λ n fits stays. (fits, stays)) (λ f known. known) (λ p known. known)
 
 three_tests : (k a b : Bool) → where_true k (one_if (a && b)) ≡ where_true a (where_true b (where_true k (pos 1)))
@@ -61,7 +61,7 @@ module _ (t : Tables) (keeps : Domains) (starts : Starts) where
   pub no_grounds : (h : Column → ℤ) → ((n : Node) → h (Ground n) ≡ pos 0) → grounds t keeps starts h ≡ pos 0
   no_grounds h none = all_zero (λ f. sum_below_ℤ (λ s. sum_below_ℤ (on_arc t keeps starts h f s) (length (starts f s))) (stations_in t)) (fleets_in t)
       (λ f known. all_zero (λ s. sum_below_ℤ (on_arc t keeps starts h f s) (length (starts f s))) (stations_in t)
-      (λ s within. all_zero (on_arc t keeps starts h f s) (length (starts f s)) (λ k below. ap (where_true (arc_stays t keeps starts (node_at f s k))) (none (node_at f s k)) ∙ masked_zero (arc_stays t keeps starts (node_at f s k)))))
+      (λ s within. all_zero (on_arc t keeps starts h f s) (length (starts f s)) (λ k below. ap (where_true (arc_stays t keeps starts (node_of_place f s k))) (none (node_of_place f s k)) ∙ masked_zero (arc_stays t keeps starts (node_of_place f s k)))))
 
   pub no_slacks : (h : Column → ℤ) → ((f : ℕ) → h (Slack f) ≡ pos 0) → slacks t h ≡ pos 0
   no_slacks h none = all_zero (λ f. h (Slack f)) (fleets_in t) (λ f known. none f)
@@ -82,7 +82,7 @@ module _ (t : Tables) (keeps : Domains) (starts : Starts) where
       omega (arith, ints, pairs, no_grounds (λ k. one_if (same_column (Flight p) k)) (λ n. refl), no_slacks (λ k. one_if (same_column (Flight p) k)) (λ f. refl), no_rooms (λ k. one_if (same_column (Flight p) k)) (λ q. refl))
   once (Ground a) kept =
       let node = kept.0 in
-      let stays = λ (f s k : ℕ). arc_stays t keeps starts (node_at f s k) in
+      let stays = λ (f s k : ℕ). arc_stays t keeps starts (node_of_place f s k) in
       let here = on_arc t keeps starts (λ k. one_if (same_column (Ground a) k)) in
       let there = λ (f s k : ℕ). where_true (a.place == k) (where_true (stays f s k) (pos 1)) in
       let nodes = sum_below_ℤ-same (λ f. sum_below_ℤ (λ s. sum_below_ℤ (here f s) (length (starts f s))) (stations_in t))
@@ -104,7 +104,7 @@ module _ (t : Tables) (keeps : Domains) (starts : Starts) where
       omega (arith, ints, days, no_flights (λ k. one_if (same_column (Room p) k)) (λ q. refl), no_grounds (λ k. one_if (same_column (Room p) k)) (λ n. refl), no_slacks (λ k. one_if (same_column (Room p) k)) (λ f. refl))
 
   abbrev cols : List Column
-  cols = columns_of t keeps starts
+  cols = program_columns t keeps starts
 
   at_place : (c : ℕ) → c < length cols → IsKept t keeps starts (column_at cols c)
   at_place c within = columns_are_kept t keeps starts c (Slack 0) within
@@ -121,10 +121,10 @@ same_self (Slack f) = grind (arith, nat_tests)
 same_self (Room p) = grind (arith, nat_tests)
 
 -- a point gives to the column at a place the number there
-pub value_there : (t : Tables) (keeps : Domains) (starts : Starts) (x : ℕ → ℕ) (c : ℕ) → c < length (columns_of t keeps starts)
-    → value_of (columns_of t keeps starts) x (column_at (columns_of t keeps starts) c) ≡ x c
+pub value_there : (t : Tables) (keeps : Domains) (starts : Starts) (x : ℕ → ℕ) (c : ℕ) → c < length (program_columns t keeps starts)
+    → value_of (program_columns t keeps starts) x (column_at (program_columns t keeps starts) c) ≡ x c
 value_there t keeps starts x c within =
-    let columns = columns_of t keeps starts in
+    let columns = program_columns t keeps starts in
     let passes = λ (k : ℕ). same_column (column_at columns c) (column_at columns k) in
     let single = counted_once t keeps starts (column_at columns c) (at_place t keeps starts c within) in
     sum_below-agree (λ k. if passes k then x k else 0) (λ k. if c == k then x c else 0) (length columns) (record {
@@ -141,9 +141,9 @@ value_there t keeps starts x c within =
     elsewhere c k v differ = grind (arith, nat_tests)
 
 -- and nothing to a pair that isn't kept
-pub nothing_there : (t : Tables) (keeps : Domains) (starts : Starts) (x : ℕ → ℕ) (p : Pair) → keeps p ≡ false → value_of (columns_of t keeps starts) x (Flight p) ≡ 0
+pub nothing_there : (t : Tables) (keeps : Domains) (starts : Starts) (x : ℕ → ℕ) (p : Pair) → keeps p ≡ false → value_of (program_columns t keeps starts) x (Flight p) ≡ 0
 nothing_there t keeps starts x p not_kept =
-    let columns = columns_of t keeps starts in
+    let columns = program_columns t keeps starts in
     sum_below-agree (λ c. if same_column (Flight p) (column_at columns c) then x c else 0) (λ c. 0) (length columns) (record {
       each = λ c below.
           ap (λ b. if b then x c else 0) (differs (column_at columns c) (columns_are_kept t keeps starts c (Slack 0) below));
@@ -160,9 +160,9 @@ nothing_there t keeps starts x p not_kept =
     differs (Room q) kept = refl
 
 -- nor to an arc that went
-pub nothing_on_ground : (t : Tables) (keeps : Domains) (starts : Starts) (x : ℕ → ℕ) (n : Node) → arc_stays t keeps starts n ≡ false → value_of (columns_of t keeps starts) x (Ground n) ≡ 0
+pub nothing_on_ground : (t : Tables) (keeps : Domains) (starts : Starts) (x : ℕ → ℕ) (n : Node) → arc_stays t keeps starts n ≡ false → value_of (program_columns t keeps starts) x (Ground n) ≡ 0
 nothing_on_ground t keeps starts x n went =
-    let columns = columns_of t keeps starts in
+    let columns = program_columns t keeps starts in
     sum_below-agree (λ c. if same_column (Ground n) (column_at columns c) then x c else 0) (λ c. 0) (length columns) (record {
       each = λ c below.
           ap (λ b. if b then x c else 0) (differs (column_at columns c) (columns_are_kept t keeps starts c (Slack 0) below));
@@ -172,7 +172,7 @@ nothing_on_ground t keeps starts x n went =
     differs : (column : Column) → IsKept t keeps starts column → same_column (Ground n) column ≡ false
     differs (Ground a) kept = by_test (same_node n a)
         (λ e. let fleet : n.fleet ≡ a.fleet = grind (arith, nat_tests) in let station : n.station ≡ a.station = grind (arith, nat_tests) in let place : n.place ≡ a.place = grind (arith, nat_tests) in
-        let stays : arc_stays t keeps starts n ≡ true = ap (λ f. arc_stays t keeps starts (node_at f n.station n.place)) fleet ∙ ap (λ s. arc_stays t keeps starts (node_at a.fleet s n.place)) station ∙ ap (λ k. arc_stays t keeps starts (node_at a.fleet a.station k)) place ∙ kept.1 in
+        let stays : arc_stays t keeps starts n ≡ true = ap (λ f. arc_stays t keeps starts (node_of_place f n.station n.place)) fleet ∙ ap (λ s. arc_stays t keeps starts (node_of_place a.fleet s n.place)) station ∙ ap (λ k. arc_stays t keeps starts (node_of_place a.fleet a.station k)) place ∙ kept.1 in
         absurd (false≢true (sym went ∙ stays)))
         (λ e. e)
     differs (Flight p) kept = refl

@@ -30,7 +30,7 @@ use Rattle.lp_rows.specs.declared.kinds.Column.TheVariants.{Flight, Ground, Room
 use Rattle.lp_rows.specs.declared.kinds.Line.{Line}
 use Rattle.lp_rows.specs.declared.kinds.Line.TheVariants.{Cover, Balance, Count, Parking}
 use Rattle.lp_rows.specs.Entries.{IsLine, IsPark, entry_of, right_side_of}
-use Rattle.lp_rows.specs.Layout.{IsNetwork, Starts, arc_stays, columns_of, lines_of, moment_at, node_at, parking_days}
+use Rattle.lp_rows.specs.Layout.{IsNetwork, Starts, arc_stays, moment_at, node_of_place, parking_days, program_columns, program_lines}
 use Rattle.lp_rows.specs.Points.{PlansArePoints, column_at, same_column, value_of}
 use Rattle.lp_rows.proofs.Flows.{IsFlow, before_next, flown, last_is, no_last}
 use Rattle.lp_rows.proofs.LineNumbers.{line_count, right_side_at, sum_at}
@@ -67,16 +67,16 @@ module _ (t : Tables) (keeps : Domains) (starts : Starts) (q : ℕ) (w : Weights
 
   abbrev Keeps : ℕ → ℕ → ℕ → Type 0
   Keeps f s k =
-      sum_below (coming_to t starts w (node_at f s k)) (departures_in t) + plan_value t starts q w (Ground (node_at f s (place_before (length (starts f s)) k)))
-      ≡ sum_below (leaving_from t starts w (node_at f s k)) (departures_in t) + plan_value t starts q w (Ground (node_at f s k))
+      sum_below (coming_to t starts w (node_of_place f s k)) (departures_in t) + plan_value t starts q w (Ground (node_of_place f s (place_before (length (starts f s)) k)))
+      ≡ sum_below (leaving_from t starts w (node_of_place f s k)) (departures_in t) + plan_value t starts q w (Ground (node_of_place f s k))
 
-  last_stand : (f s : ℕ) → f < fleets_in t → s < stations_in t → 0 < length (starts f s) → plan_value t starts q w (Ground (node_at f s (length (starts f s) - 1))) ≡ need_of t w f s
+  last_stand : (f s : ℕ) → f < fleets_in t → s < stations_in t → 0 < length (starts f s) → plan_value t starts q w (Ground (node_of_place f s (length (starts f s) - 1))) ≡ need_of t w f s
   last_stand f s known within some = ap (stand_of t w f s) (end_last t (starts f s) (length (starts f s) - 1) (omega arith)) ∙ stand_at_last f s known within
 
   keeps_next : (f s k : ℕ) → f < fleets_in t → s < stations_in t → k + 1 < length (starts f s) → Keeps f s (k + 1)
   keeps_next f s k known within next =
       let at = network.each f s known within in
-      let arc = ap (λ j. plan_value t starts q w (Ground (node_at f s j))) (before_next (length (starts f s)) k) in
+      let arc = ap (λ j. plan_value t starts q w (Ground (node_of_place f s j))) (before_next (length (starts f s)) k) in
       omega (
         arith,
         arc,
@@ -174,7 +174,7 @@ flow_meets t keeps starts q v weigh stand flow (Cover l) below = cover_sum t kee
 flow_meets t keeps starts q v weigh stand flow (Balance n) node =
     balance_sum t keeps starts v weigh stand n node
     ∙ to_balance (sum_below (coming_to t starts (flown v) n) (departures_in t)) (sum_below (leaving_from t starts (flown v) n) (departures_in t))
-    (v (Ground (node_at n.fleet n.station (place_before (length (starts n.fleet n.station)) n.place)))) (v (Ground n)) q (flow.balance n node)
+    (v (Ground (node_of_place n.fleet n.station (place_before (length (starts n.fleet n.station)) n.place)))) (v (Ground n)) q (flow.balance n node)
 flow_meets t keeps starts q v weigh stand flow (Count f) known =
     count_sum t keeps starts v weigh stand f known
     ∙ to_product (laps_flown t (flown v) f + sum_below (last_arc starts v f) (stations_in t) + v (Slack f)) (fleet_of t f).aircraft q (flow.count f known)
@@ -191,9 +191,9 @@ masked_tests false false b y = refl
 
 -- what a point by kinds gives to a pair
 value_of_pair : (t : Tables) (keeps : Domains) (starts : Starts) (v : Column → ℕ) (p : Pair) → IsPair t p → keeps p ≡ true
-    → value_of (columns_of t keeps starts) (λ c. v (column_at (columns_of t keeps starts) c)) (Flight p) ≡ v (Flight p)
+    → value_of (program_columns t keeps starts) (λ c. v (column_at (program_columns t keeps starts) c)) (Flight p) ≡ v (Flight p)
 value_of_pair t keeps starts v p known kept =
-    let columns = columns_of t keeps starts in
+    let columns = program_columns t keeps starts in
     let here = λ (k : Column). pos (if same_column (Flight p) k then v k else 0) in
     let pairs = sum_below_ℤ-same (λ l. sum_below_ℤ (λ c. where_true (keeps (leg_on l c)) (pos (if (p.leg == l) && (p.choice == c) then v (Flight (leg_on l c)) else 0))) (choices_in t l))
     (λ l. sum_below_ℤ (λ c. where_true (p.leg == l) (where_true (p.choice == c) (where_true (keeps (leg_on l c)) (pos (v (Flight (leg_on l c))))))) (choices_in t l)) (legs_in t)
@@ -208,14 +208,14 @@ value_of_pair t keeps starts v p known kept =
 pub plans_are_points : PlansArePoints
 plans_are_points t keeps starts rows q w are plan =
     let v = plan_value t starts q w in
-    let columns = columns_of t keeps starts in
+    let columns = program_columns t keeps starts in
     let flow = plan_is_flow t keeps starts q w are.network plan in (
       λ c. v (column_at columns c),
       record {
         meets = record {
           each = λ i within.
-              let line = get_or (lines_of t starts) i (Cover 0) in
-              let place : i < length (lines_of t starts) = omega (arith, line_count t keeps starts rows are) in
+              let line = get_or (program_lines t starts) i (Cover 0) in
+              let place : i < length (program_lines t starts) = omega (arith, line_count t keeps starts rows are) in
               sum_at t keeps starts rows are (λ c. v (column_at columns c)) v (λ c below. refl) i place
               ∙ flow_meets t keeps starts q v (record { each = plan.kept }) (stands_on_arcs t keeps starts q w are.network plan) flow line (lines_are_known t starts i (Cover 0) place)
               ∙ ap (λ r. r *ℤ pos q) (sym (right_side_at t keeps starts rows are i place));

@@ -18,7 +18,7 @@ use Rattle.lp_rows.specs.declared.kinds.Column.TheVariants.{Ground, Room, Slack}
 use Rattle.lp_rows.specs.declared.kinds.Line.{Line}
 use Rattle.lp_rows.specs.declared.kinds.Line.TheVariants.{Cover, Balance, Count, Parking}
 use Rattle.lp_rows.specs.Entries.{IsLine, column_cost, entry_of, right_side_of}
-use Rattle.lp_rows.specs.Layout.{Starts, columns_of, node_at}
+use Rattle.lp_rows.specs.Layout.{Starts, node_of_place, program_columns}
 use Rattle.lp_rows.specs.Points.{PointsArePlans, PointsCostAsPlans, value_of}
 use Rattle.lp_rows.proofs.Flows.{IsFlow, flow_is_plan, flown}
 use Rattle.lp_rows.proofs.LineNumbers.{cost_at, meets_line}
@@ -43,7 +43,7 @@ pub lines_are_flow : (t : Tables) (keeps : Domains) (starts : Starts) (q : ℕ) 
 lines_are_flow t keeps starts q v weigh stand meets = record {
   cover = λ l below. as_counts (weight_on t (flown v) l) q (sym (cover_sum t keeps starts v weigh l below) ∙ meets.each (Cover l) below);
   balance = λ n node. as_balance (sum_below (coming_to t starts (flown v) n) (departures_in t)) (sum_below (leaving_from t starts (flown v) n) (departures_in t))
-      (v (Ground (node_at n.fleet n.station (place_before (length (starts n.fleet n.station)) n.place)))) (v (Ground n)) q
+      (v (Ground (node_of_place n.fleet n.station (place_before (length (starts n.fleet n.station)) n.place)))) (v (Ground n)) q
       (sym (balance_sum t keeps starts v weigh stand n node) ∙ meets.each (Balance n) node);
   count = λ f known. as_product (laps_flown t (flown v) f + sum_below (last_arc starts v f) (stations_in t) + v (Slack f)) (fleet_of t f).aircraft q
       (sym (count_sum t keeps starts v weigh stand f known) ∙ meets.each (Count f) known);
@@ -51,22 +51,22 @@ lines_are_flow t keeps starts q v weigh stand meets = record {
       (sym (parking_sum t keeps starts v weigh stand p known) ∙ meets.each (Parking p) known);
 }
 
-weighs_kept : (t : Tables) (keeps : Domains) (starts : Starts) (x : ℕ → ℕ) → WeighKept t keeps (flown (value_of (columns_of t keeps starts) x))
+weighs_kept : (t : Tables) (keeps : Domains) (starts : Starts) (x : ℕ → ℕ) → WeighKept t keeps (flown (value_of (program_columns t keeps starts) x))
 weighs_kept t keeps starts x = record { each = λ p known not_kept. nothing_there t keeps starts x p not_kept }
 
-stands_on_arcs : (t : Tables) (keeps : Domains) (starts : Starts) (x : ℕ → ℕ) → StandOnArcs t keeps starts (value_of (columns_of t keeps starts) x)
+stands_on_arcs : (t : Tables) (keeps : Domains) (starts : Starts) (x : ℕ → ℕ) → StandOnArcs t keeps starts (value_of (program_columns t keeps starts) x)
 stands_on_arcs t keeps starts x = record { each = λ n node went. nothing_on_ground t keeps starts x n went }
 
 pub points_are_plans : PointsArePlans
 points_are_plans t keeps starts rows q x are meets =
-    let v = value_of (columns_of t keeps starts) x in
+    let v = value_of (program_columns t keeps starts) x in
     flow_is_plan t keeps starts q v are.network (weighs_kept t keeps starts x) (lines_are_flow t keeps starts q v (weighs_kept t keeps starts x) (stands_on_arcs t keeps starts x)
     (record { each = meets_line t keeps starts rows are q x v (λ c below. sym (value_there t keeps starts x c below)) meets }))
 
 pub points_cost_as_plans : PointsCostAsPlans
 unfolding mixed_cost
 points_cost_as_plans t keeps starts rows x are =
-    let v = value_of (columns_of t keeps starts) x in
+    let v = value_of (program_columns t keeps starts) x in
     let pairs = over_flights t keeps starts v (weighs_kept t keeps starts x) (column_cost t) (λ p. weighted_cost t (flown v) p.leg p.choice)
     (λ p. *ℤ_comm (unwrap_or (cost_of t p) (pos 0)) (pos (flown v p))) in
     let arcs = no_grounds t keeps starts (λ k. column_cost t k *ℤ pos (v k)) (λ n. zero-*ℤ (pos (v (Ground n)))) in

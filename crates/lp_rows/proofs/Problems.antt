@@ -23,9 +23,9 @@ use Rattle.lp_rows.specs.declared.kinds.Column.TheVariants.{Flight, Ground, Room
 use Rattle.lp_rows.specs.declared.kinds.Line.{Line}
 use Rattle.lp_rows.specs.declared.kinds.Line.TheVariants.{Cover, Balance, Count, Parking}
 use Rattle.lp_rows.specs.Entries.{IsColumn, IsLine, column_cost, comes_to_node, entry_of, gets_arc, leaves_node, one_if, passes_day_end, passes_start, right_side_of, same_node, same_park}
-use Rattle.lp_rows.specs.Layout.{Starts, columns_of, lines_of}
+use Rattle.lp_rows.specs.Layout.{Starts, program_columns, program_lines}
 use Rattle.lp_rows.specs.Points.{column_at}
-use Rattle.lp_rows.specs.Program.{AreRows, numbers_of}
+use Rattle.lp_rows.specs.Program.{AreRows, line_numbers}
 use Rattle.lp_rows.proofs.LineNumbers.{line_count, number_at_column, right_side_at}
 use Rattle.lp_rows.proofs.Totals.{AreFew, columns_are_known, few_columns, few_lines, lines_are_known}
 
@@ -83,12 +83,12 @@ small_cost t (Room p) = omega arith
 module _ (t : Tables) (keeps : Domains) (starts : Starts) (rows : Rows) (are : AreRows t keeps starts rows) (few : AreFew t starts) where
   small_number : (i c : ℕ) → i < length rows.lines → c ≤ rows.columns → unsigned_abs (entry rows i c) ≤ 10000
   small_number i c within order =
-      let place : i < length (lines_of t starts) = omega (arith, line_count t keeps starts rows are) in
-      let line = get_or (lines_of t starts) i (Cover 0) in
+      let place : i < length (program_lines t starts) = omega (arith, line_count t keeps starts rows are) in
+      let line = get_or (program_lines t starts) i (Cover 0) in
       elim (cases_lt c rows.columns) [
         | inl below ↦
-            let column : c < length (columns_of t keeps starts) = omega (arith, are.columns) in
-            let small = small_entry t starts line (column_at (columns_of t keeps starts) c) (columns_are_known t keeps starts c (Slack 0) column) in
+            let column : c < length (program_columns t keeps starts) = omega (arith, are.columns) in
+            let small = small_entry t starts line (column_at (program_columns t keeps starts) c) (columns_are_known t keeps starts c (Slack 0) column) in
             rw (number_at_column t keeps starts rows are i c place column) (omega (arith, small))
         | inr last ↦
             let same : c ≡ rows.columns = omega arith in
@@ -98,11 +98,11 @@ module _ (t : Tables) (keeps : Domains) (starts : Starts) (rows : Rows) (are : A
 
   widths : All (λ line. length line ≡ rows.columns + 1) rows.lines
   widths = subst (All (λ line. length line ≡ rows.columns + 1)) (sym are.lines)
-      (All-map (λ line. length line ≡ rows.columns + 1) (numbers_of t starts (columns_of t keeps starts)) (lines_of t starts)
+      (All-map (λ line. length line ≡ rows.columns + 1) (line_numbers t starts (program_columns t keeps starts)) (program_lines t starts)
       (λ k d below. omega (
         arith,
-        length_push (map (entry_of t starts (get_or (lines_of t starts) k d)) (columns_of t keeps starts)) (right_side_of t (get_or (lines_of t starts) k d)),
-        length-map (columns_of t keeps starts) (entry_of t starts (get_or (lines_of t starts) k d)),
+        length_push (map (entry_of t starts (get_or (program_lines t starts) k d)) (program_columns t keeps starts)) (right_side_of t (get_or (program_lines t starts) k d)),
+        length-map (program_columns t keeps starts) (entry_of t starts (get_or (program_lines t starts) k d)),
         are.columns,
       )))
 
@@ -110,8 +110,8 @@ module _ (t : Tables) (keeps : Domains) (starts : Starts) (rows : Rows) (are : A
   is_problem = record {
     few = omega (arith, are.columns, line_count t keeps starts rows are, few_columns t keeps starts few, few_lines t starts few);
     widths = widths;
-    costs = ap length are.costs ∙ length-map (columns_of t keeps starts) (column_cost t) ∙ sym are.columns;
-    costs_within = subst (All IsWithin) (sym are.costs) (All-map IsWithin (column_cost t) (columns_of t keeps starts) (λ k d below. small_cost t (get_or (columns_of t keeps starts) k d)));
+    costs = ap length are.costs ∙ length-map (program_columns t keeps starts) (column_cost t) ∙ sym are.columns;
+    costs_within = subst (All IsWithin) (sym are.costs) (All-map IsWithin (column_cost t) (program_columns t keeps starts) (λ k d below. small_cost t (get_or (program_columns t keeps starts) k d)));
     sums_within = λ c order. omega (
       arith,
       sum_below-bound (λ i. unsigned_abs (entry rows i c)) 10000 (length rows.lines) (record { each = λ i below. small_number i c below order }),

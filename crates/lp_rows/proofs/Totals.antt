@@ -20,7 +20,7 @@ use Rattle.lp_rows.specs.declared.kinds.Column.TheVariants.{Flight, Ground, Room
 use Rattle.lp_rows.specs.declared.kinds.Line.TheVariants.{Cover, Balance, Count, Parking}
 use Rattle.lp_rows.specs.Entries.{IsColumn, IsLine, IsNode, IsPark}
 use Rattle.sums.specs.Places.{list_below}
-use Rattle.lp_rows.specs.Layout.{Starts, all_arcs, all_kept, all_nodes, all_parks, arc_stays, columns_of, concat_below, lines_of, node_at, nodes_at, nodes_of, pair_of, pairs_of, park_at, parking_days, parks_at}
+use Rattle.lp_rows.specs.Layout.{Starts, all_arcs, all_kept, all_nodes, all_parks, arc_stays, concat_below, node_of_place, nodes_at, nodes_of_fleet, pair_if_kept, pairs_of_leg, park_at, parking_days, parks_at, program_columns, program_lines}
 use Rattle.lp_rows.proofs.ListSums.{by_places, of_append, of_concat, of_filter, of_list, of_map, of_one, sum_list}
 
 -- over the kept pairs
@@ -29,7 +29,7 @@ flights t keeps h = sum_below_ℤ (λ l. sum_below_ℤ (λ c. where_true (keeps 
 
 -- over the arcs that stay
 abbrev pub on_arc : Tables → Domains → Starts → (Column → ℤ) → ℕ → ℕ → ℕ → ℤ
-on_arc t keeps starts h f s k = where_true (arc_stays t keeps starts (node_at f s k)) (h (Ground (node_at f s k)))
+on_arc t keeps starts h f s k = where_true (arc_stays t keeps starts (node_of_place f s k)) (h (Ground (node_of_place f s k)))
 
 abbrev pub grounds : Tables → Domains → Starts → (Column → ℤ) → ℤ
 grounds t keeps starts h = sum_below_ℤ (λ f. sum_below_ℤ (λ s. sum_below_ℤ (on_arc t keeps starts h f s) (length (starts f s))) (stations_in t)) (fleets_in t)
@@ -45,19 +45,19 @@ rooms t h = sum_below_ℤ (λ s. sum_below_ℤ (λ k. h (Room (park_at s k))) (p
 module _ (t : Tables) (keeps : Domains) (starts : Starts) (h : Column → ℤ) where
   over_pairs : sum_list (λ p. h (Flight p)) (all_kept t keeps) ≡ flights t keeps h
   over_pairs =
-      of_concat (λ p. h (Flight p)) (pairs_of t keeps) (legs_in t)
-      ∙ sum_below_ℤ-same (λ l. sum_list (λ p. h (Flight p)) (pairs_of t keeps l)) (λ l. sum_below_ℤ (λ c. where_true (keeps (leg_on l c)) (h (Flight (leg_on l c)))) (choices_in t l)) (legs_in t)
-      (λ l below. of_concat (λ p. h (Flight p)) (pair_of keeps l) (choices_in t l)
-      ∙ sum_below_ℤ-same (λ c. sum_list (λ p. h (Flight p)) (pair_of keeps l c)) (λ c. where_true (keeps (leg_on l c)) (h (Flight (leg_on l c)))) (choices_in t l)
+      of_concat (λ p. h (Flight p)) (pairs_of_leg t keeps) (legs_in t)
+      ∙ sum_below_ℤ-same (λ l. sum_list (λ p. h (Flight p)) (pairs_of_leg t keeps l)) (λ l. sum_below_ℤ (λ c. where_true (keeps (leg_on l c)) (h (Flight (leg_on l c)))) (choices_in t l)) (legs_in t)
+      (λ l below. of_concat (λ p. h (Flight p)) (pair_if_kept keeps l) (choices_in t l)
+      ∙ sum_below_ℤ-same (λ c. sum_list (λ p. h (Flight p)) (pair_if_kept keeps l c)) (λ c. where_true (keeps (leg_on l c)) (h (Flight (leg_on l c)))) (choices_in t l)
       (λ c lt. of_one (λ p. h (Flight p)) (keeps (leg_on l c)) (leg_on l c)))
 
-  over_nodes : (g : Node → ℤ) → sum_list g (all_nodes t starts) ≡ sum_below_ℤ (λ f. sum_below_ℤ (λ s. sum_below_ℤ (λ k. g (node_at f s k)) (length (starts f s))) (stations_in t)) (fleets_in t)
+  over_nodes : (g : Node → ℤ) → sum_list g (all_nodes t starts) ≡ sum_below_ℤ (λ f. sum_below_ℤ (λ s. sum_below_ℤ (λ k. g (node_of_place f s k)) (length (starts f s))) (stations_in t)) (fleets_in t)
   over_nodes g =
-      of_concat g (nodes_of t starts) (fleets_in t)
-      ∙ sum_below_ℤ-same (λ f. sum_list g (nodes_of t starts f)) (λ f. sum_below_ℤ (λ s. sum_below_ℤ (λ k. g (node_at f s k)) (length (starts f s))) (stations_in t)) (fleets_in t)
+      of_concat g (nodes_of_fleet t starts) (fleets_in t)
+      ∙ sum_below_ℤ-same (λ f. sum_list g (nodes_of_fleet t starts f)) (λ f. sum_below_ℤ (λ s. sum_below_ℤ (λ k. g (node_of_place f s k)) (length (starts f s))) (stations_in t)) (fleets_in t)
       (λ f below. of_concat g (nodes_at starts f) (stations_in t)
-      ∙ sum_below_ℤ-same (λ s. sum_list g (nodes_at starts f s)) (λ s. sum_below_ℤ (λ k. g (node_at f s k)) (length (starts f s))) (stations_in t)
-      (λ s lt. of_list g (node_at f s) (length (starts f s))))
+      ∙ sum_below_ℤ-same (λ s. sum_list g (nodes_at starts f s)) (λ s. sum_below_ℤ (λ k. g (node_of_place f s k)) (length (starts f s))) (stations_in t)
+      (λ s lt. of_list g (node_of_place f s) (length (starts f s))))
 
   over_arcs : sum_list (λ n. h (Ground n)) (all_arcs t keeps starts) ≡ grounds t keeps starts h
   over_arcs = of_filter (λ n. h (Ground n)) (arc_stays t keeps starts) (all_nodes t starts) ∙ over_nodes (λ n. where_true (arc_stays t keeps starts n) (h (Ground n)))
@@ -79,9 +79,9 @@ module _ (t : Tables) (keeps : Domains) (starts : Starts) (h : Column → ℤ) w
       ∙ ap (λ z. flights t keeps h +ℤ grounds t keeps starts h +ℤ z) (of_list h Slack (fleets_in t))
 
   -- over all columns by their places
-  pub over_columns : sum_below_ℤ (λ c. h (get_or (columns_of t keeps starts) c (Slack 0))) (length (columns_of t keeps starts)) ≡ flights t keeps h +ℤ grounds t keeps starts h +ℤ slacks t h +ℤ rooms t h
+  pub over_columns : sum_below_ℤ (λ c. h (get_or (program_columns t keeps starts) c (Slack 0))) (length (program_columns t keeps starts)) ≡ flights t keeps h +ℤ grounds t keeps starts h +ℤ slacks t h +ℤ rooms t h
   over_columns =
-      by_places h (columns_of t keeps starts) (Slack 0)
+      by_places h (program_columns t keeps starts) (Slack 0)
       ∙ of_append h (map Flight (all_kept t keeps) ++ map Ground (all_arcs t keeps starts) ++ list_below Slack (fleets_in t)) (map Room (all_parks t))
       ∙ ap (λ z. z +ℤ sum_list h (map Room (all_parks t))) before_rooms
       ∙ ap (λ z. flights t keeps h +ℤ grounds t keeps starts h +ℤ slacks t h +ℤ z) (of_map h Room (all_parks t) ∙ over_parks)
@@ -102,8 +102,8 @@ all_one P false x here = All-nil P
 
 all_of_nodes : (t : Tables) (starts : Starts) (P : Node → Type 0) → ((n : Node) → IsNode t starts n → P n) → All P (all_nodes t starts)
 all_of_nodes t starts P each =
-    all_concat P (nodes_of t starts) (fleets_in t) (λ f known. all_concat P (nodes_at starts f) (stations_in t) (λ s within. all_list P (node_at f s) (length (starts f s)) (λ k below.
-    each (node_at f s k) (record { fleet = known; station = within; place = below }))))
+    all_concat P (nodes_of_fleet t starts) (fleets_in t) (λ f known. all_concat P (nodes_at starts f) (stations_in t) (λ s within. all_list P (node_of_place f s) (length (starts f s)) (λ k below.
+    each (node_of_place f s k) (record { fleet = known; station = within; place = below }))))
 
 -- .. and of those of them that pass a test
 pub all_filter : {X : Type 0} (P : X → Type 0) (p : X → Bool) (xs : List X) → All (λ x. p x ≡ true → P x) xs → All P (filter p xs)
@@ -122,21 +122,21 @@ all_of_parks t P each =
 -- what holds of kept pairs, arcs that stay, slacks and rooms holds of all columns
 pub all_columns : (t : Tables) (keeps : Domains) (starts : Starts) (P : Column → Type 0)
     → ((l c : ℕ) → l < legs_in t → c < choices_in t l → keeps (leg_on l c) ≡ true → P (Flight (leg_on l c))) → ((n : Node) → IsNode t starts n → arc_stays t keeps starts n ≡ true → P (Ground n)) → ((f : ℕ) → f < fleets_in t → P (Slack f))
-    → ((p : Park) → IsPark t p → P (Room p)) → All P (columns_of t keeps starts)
+    → ((p : Park) → IsPark t p → P (Room p)) → All P (program_columns t keeps starts)
 all_columns t keeps starts P of_pairs of_arcs of_fleets of_parks =
     All-append P _ _
     (All-append P _ _
     (All-append P _ _
-    (All-map P Flight (all_kept t keeps) (all_concat (λ p. P (Flight p)) (pairs_of t keeps) (legs_in t) (λ l below. all_concat (λ p. P (Flight p)) (pair_of keeps l) (choices_in t l) (λ c known.
+    (All-map P Flight (all_kept t keeps) (all_concat (λ p. P (Flight p)) (pairs_of_leg t keeps) (legs_in t) (λ l below. all_concat (λ p. P (Flight p)) (pair_if_kept keeps l) (choices_in t l) (λ c known.
     all_one (λ p. P (Flight p)) (keeps (leg_on l c)) (leg_on l c) (of_pairs l c below known)))))
     (All-map P Ground (all_arcs t keeps starts) (all_filter (λ n. P (Ground n)) (arc_stays t keeps starts) (all_nodes t starts) (all_of_nodes t starts (λ n. arc_stays t keeps starts n ≡ true → P (Ground n)) of_arcs))))
     (all_list P Slack (fleets_in t) of_fleets))
     (All-map P Room (all_parks t) (all_of_parks t (λ p. P (Room p)) of_parks))
 
-pub columns_are_known : (t : Tables) (keeps : Domains) (starts : Starts) → All (IsColumn t starts) (columns_of t keeps starts)
+pub columns_are_known : (t : Tables) (keeps : Domains) (starts : Starts) → All (IsColumn t starts) (program_columns t keeps starts)
 columns_are_known t keeps starts = all_columns t keeps starts (IsColumn t starts) (λ l c below known kept. record { leg = below; choice = known }) (λ n fits stays. fits) (λ f known. known) (λ p known. known)
 
-pub lines_are_known : (t : Tables) (starts : Starts) → All (IsLine t starts) (lines_of t starts)
+pub lines_are_known : (t : Tables) (starts : Starts) → All (IsLine t starts) (program_lines t starts)
 lines_are_known t starts =
     All-append (IsLine t starts) _ _
     (All-append (IsLine t starts) _ _
@@ -159,8 +159,8 @@ pub record AreFew (t : Tables) (starts : Starts) : Type 0 where
 
 few_nodes : (t : Tables) (starts : Starts) → AreFew t starts → length (all_nodes t starts) ≤ 40320000
 few_nodes t starts few =
-    let nodes = few_concat (nodes_of t starts) (fleets_in t) 2016000 (λ f known.
-    let row = few_concat (nodes_at starts f) (stations_in t) 10080 (λ s within. omega (arith, length-list_below (node_at f s) (length (starts f s)), few.each f s known within, at_most_week t)) in
+    let nodes = few_concat (nodes_of_fleet t starts) (fleets_in t) 2016000 (λ f known.
+    let row = few_concat (nodes_at starts f) (stations_in t) 10080 (λ s within. omega (arith, length-list_below (node_of_place f s) (length (starts f s)), few.each f s known within, at_most_week t)) in
     omega (arith, row, t.in_range.stations_fit.few)) in
     omega (arith, nodes, t.in_range.fleets_fit.few)
 
@@ -183,8 +183,8 @@ few_filter {X} p (x ∷ xs) = picked (p x) (filter p xs) (few_filter p xs)
 -- a hundred million at most, also with all arcs
 pub few_parts : (t : Tables) (keeps : Domains) (starts : Starts) → AreFew t starts → length (all_kept t keeps) + length (all_nodes t starts) + fleets_in t + length (all_parks t) ≤ 10 ^ 8
 few_parts t keeps starts few =
-    let pairs = few_concat (pairs_of t keeps) (legs_in t) MAX_CHOICES (λ l below.
-    let row = few_concat (pair_of keeps l) (choices_in t l) 1 (λ c known. few_one (keeps (leg_on l c)) (leg_on l c)) in omega (arith, row, few_choices t l)) in
+    let pairs = few_concat (pairs_of_leg t keeps) (legs_in t) MAX_CHOICES (λ l below.
+    let row = few_concat (pair_if_kept keeps l) (choices_in t l) 1 (λ c known. few_one (keeps (leg_on l c)) (leg_on l c)) in omega (arith, row, few_choices t l)) in
     omega (
       arith,
       pairs,
@@ -194,7 +194,7 @@ few_parts t keeps starts few =
       t.in_range.fleets_fit.few,
     )
 
-pub few_columns : (t : Tables) (keeps : Domains) (starts : Starts) → AreFew t starts → length (columns_of t keeps starts) ≤ 10 ^ 8
+pub few_columns : (t : Tables) (keeps : Domains) (starts : Starts) → AreFew t starts → length (program_columns t keeps starts) ≤ 10 ^ 8
 few_columns t keeps starts few =
     omega (
       arith,
@@ -209,7 +209,7 @@ few_columns t keeps starts few =
       length-list_below Slack (fleets_in t),
     )
 
-pub lines_long : (t : Tables) (starts : Starts) → length (lines_of t starts) ≡ legs_in t + length (all_nodes t starts) + fleets_in t + length (all_parks t)
+pub lines_long : (t : Tables) (starts : Starts) → length (program_lines t starts) ≡ legs_in t + length (all_nodes t starts) + fleets_in t + length (all_parks t)
 lines_long t starts =
     omega (
       arith,
@@ -222,7 +222,7 @@ lines_long t starts =
       length-list_below Count (fleets_in t),
     )
 
-pub few_lines : (t : Tables) (starts : Starts) → AreFew t starts → length (lines_of t starts) ≤ 10 ^ 8
+pub few_lines : (t : Tables) (starts : Starts) → AreFew t starts → length (program_lines t starts) ≤ 10 ^ 8
 few_lines t starts few =
     omega (
       arith,

@@ -45,16 +45,16 @@ abbrev pub one_if : Bool → ℤ
 one_if b = if b then pos 1 else pos 0
 
 -- a minute lies in a node
-abbrev pub is_in : Tables → List ℕ → ℕ → ℕ → Bool
-is_in t starts place minute = nat_le (slice_index starts place) minute && nat_le minute (end_in t starts place)
+abbrev pub is_in_node : Tables → List ℕ → ℕ → ℕ → Bool
+is_in_node t starts place minute = nat_le (slice_index starts place) minute && nat_le minute (end_in t starts place)
 
 -- a pair departs in a node
 abbrev pub leaves_node : Tables → Starts → Node → Pair → Bool
-leaves_node t starts n p = (n.fleet == fleet_by t p) && (((leg_of t p.leg).from == n.station) && is_in t (starts n.fleet n.station) n.place (departure t p))
+leaves_node t starts n p = (n.fleet == fleet_by t p) && (((leg_of t p.leg).from == n.station) && is_in_node t (starts n.fleet n.station) n.place (departure t p))
 
 -- the aircraft of a pair is ready in a node
 abbrev pub comes_to_node : Tables → Starts → Node → Pair → Bool
-comes_to_node t starts n p = (n.fleet == fleet_by t p) && (((leg_of t p.leg).to == n.station) && is_in t (starts n.fleet n.station) n.place (ready_minute t p))
+comes_to_node t starts n p = (n.fleet == fleet_by t p) && (((leg_of t p.leg).to == n.station) && is_in_node t (starts n.fleet n.station) n.place (ready_minute t p))
 
 abbrev pub same_node : Node → Node → Bool
 same_node n a = (n.fleet == a.fleet) && ((n.station == a.station) && (n.place == a.place))

@@ -42,20 +42,20 @@ abbrev pub concat_below : {X : Type 0} → (ℕ → List X) → ℕ → List X
 concat_below g zero = []
 concat_below g (suc n) = concat_below g n ++ g n
 
-abbrev pub node_at : ℕ → ℕ → ℕ → Node
-node_at f s k = record { fleet = f; station = s; place = k }
+abbrev pub node_of_place : ℕ → ℕ → ℕ → Node
+node_of_place f s k = record { fleet = f; station = s; place = k }
 
 -- the nodes of a fleet at a station
 abbrev pub nodes_at : Starts → ℕ → ℕ → List Node
-nodes_at starts f s = list_below (node_at f s) (length (starts f s))
+nodes_at starts f s = list_below (node_of_place f s) (length (starts f s))
 
 -- the nodes of a fleet, by station
-abbrev pub nodes_of : Tables → Starts → ℕ → List Node
-nodes_of t starts f = concat_below (nodes_at starts f) (stations_in t)
+abbrev pub nodes_of_fleet : Tables → Starts → ℕ → List Node
+nodes_of_fleet t starts f = concat_below (nodes_at starts f) (stations_in t)
 
 -- all nodes, by fleet
 abbrev pub all_nodes : Tables → Starts → List Node
-all_nodes t starts = concat_below (nodes_of t starts) (fleets_in t)
+all_nodes t starts = concat_below (nodes_of_fleet t starts) (fleets_in t)
 
 -- the moment of the arc from a node: the first minute of its wait at which its station is idle
 abbrev pub moment_at : Tables → Domains → Starts → Node → Option ℕ
@@ -70,16 +70,16 @@ abbrev pub all_arcs : Tables → Domains → Starts → List Node
 all_arcs t keeps starts = filter (arc_stays t keeps starts) (all_nodes t starts)
 
 -- the pair of a leg and a choice, where it is kept
-abbrev pub pair_of : Domains → ℕ → ℕ → List Pair
-pair_of keeps l c = if keeps (leg_on l c) then leg_on l c ∷ [] else []
+abbrev pub pair_if_kept : Domains → ℕ → ℕ → List Pair
+pair_if_kept keeps l c = if keeps (leg_on l c) then leg_on l c ∷ [] else []
 
 -- the kept pairs of a leg, by choice
-abbrev pub pairs_of : Tables → Domains → ℕ → List Pair
-pairs_of t keeps l = concat_below (pair_of keeps l) (choices_in t l)
+abbrev pub pairs_of_leg : Tables → Domains → ℕ → List Pair
+pairs_of_leg t keeps l = concat_below (pair_if_kept keeps l) (choices_in t l)
 
 -- all kept pairs, by leg
 abbrev pub all_kept : Tables → Domains → List Pair
-all_kept t keeps = concat_below (pairs_of t keeps) (legs_in t)
+all_kept t keeps = concat_below (pairs_of_leg t keeps) (legs_in t)
 
 -- how many days of a station have a limit: all, or none
 abbrev pub parking_days : Tables → ℕ → ℕ
@@ -98,12 +98,12 @@ abbrev pub all_parks : Tables → List Park
 all_parks t = concat_below (parks_at t) (stations_in t)
 
 -- the kept pairs, the ground arcs that stay, the slacks, the rooms
-abbrev pub columns_of : Tables → Domains → Starts → List Column
-columns_of t keeps starts = map Flight (all_kept t keeps) ++ map Ground (all_arcs t keeps starts) ++ list_below Slack (fleets_in t) ++ map Room (all_parks t)
+abbrev pub program_columns : Tables → Domains → Starts → List Column
+program_columns t keeps starts = map Flight (all_kept t keeps) ++ map Ground (all_arcs t keeps starts) ++ list_below Slack (fleets_in t) ++ map Room (all_parks t)
 
 -- the cover lines, the balance lines, the count lines, the parking lines
-abbrev pub lines_of : Tables → Starts → List Line
-lines_of t starts = list_below Cover (legs_in t) ++ map Balance (all_nodes t starts) ++ list_below Count (fleets_in t) ++ map Parking (all_parks t)
+abbrev pub program_lines : Tables → Starts → List Line
+program_lines t starts = list_below Cover (legs_in t) ++ map Balance (all_nodes t starts) ++ list_below Count (fleets_in t) ++ map Parking (all_parks t)
 
 -- by their numbers: the pair of a column, the node in the order of the balance lines, the day in that of the parking lines, the
 -- line
@@ -111,10 +111,10 @@ abbrev pub pair_at_column : Tables → Domains → ℕ → Pair
 pair_at_column t keeps column = slice_index_or (all_kept t keeps) column (leg_on 0 0)
 
 abbrev pub node_of_number : Tables → Starts → ℕ → Node
-node_of_number t starts k = slice_index_or (all_nodes t starts) k (node_at 0 0 0)
+node_of_number t starts k = slice_index_or (all_nodes t starts) k (node_of_place 0 0 0)
 
 abbrev pub park_of_number : Tables → ℕ → Park
 park_of_number t k = slice_index_or (all_parks t) k (park_at 0 0)
 
 abbrev pub line_at : Tables → Starts → ℕ → Line
-line_at t starts line = slice_index_or (lines_of t starts) line (Cover 0)
+line_at t starts line = slice_index_or (program_lines t starts) line (Cover 0)

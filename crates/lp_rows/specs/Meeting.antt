@@ -28,15 +28,15 @@ touched_by t (Slack f) = touching (legs_in t) f (stations_in t) (stations_in t)
 touched_by t (Room p) = touching (legs_in t) (fleets_in t) p.station p.station
 
 -- a line may have a number in a column that touches its leg, its fleet, its station
-abbrev pub meets : Line → Touched → Bool
-meets (Cover l) x = l == x.leg
-meets (Balance n) x = (n.fleet == x.fleet) && ((x.from == n.station) || (x.to == n.station))
-meets (Count f) x = f == x.fleet
-meets (Parking p) x = (p.station == x.from) || (p.station == x.to)
+abbrev pub line_meets : Line → Touched → Bool
+line_meets (Cover l) x = l == x.leg
+line_meets (Balance n) x = (n.fleet == x.fleet) && ((x.from == n.station) || (x.to == n.station))
+line_meets (Count f) x = f == x.fleet
+line_meets (Parking p) x = (p.station == x.from) || (p.station == x.to)
 
 abbrev pub meets_at : List Touched → Line → ℕ → Bool
-meets_at touched line column = meets line (slice_index_or touched column (touching 0 0 0 0))
+meets_at touched line column = line_meets line (slice_index_or touched column (touching 0 0 0 0))
 
--- the columns that a line meets
+-- the columns that a line line_meets
 pub record IsMet (touched : List Touched) (met : Met) : Type 0 where
   pub all : met.columns ≡ passing_below (meets_at touched met.line) (length touched)

@@ -13,7 +13,7 @@ use Rattle.lp_rows.specs.declared.kinds.Column.TheVariants.{Flight, Ground, Room
 use Rattle.lp_rows.specs.declared.kinds.Line.{Line}
 use Rattle.lp_rows.specs.declared.kinds.Line.TheVariants.{Cover, Balance, Count, Parking}
 use Rattle.lp_rows.specs.declared.outline.Outline.{Outline}
-use Rattle.lp_rows.specs.Layout.{AreByStation, IsNetwork, all_kept, all_nodes, all_parks, moment_at, node_at, park_at, starts_in}
+use Rattle.lp_rows.specs.Layout.{AreByStation, IsNetwork, all_kept, all_nodes, all_parks, moment_at, node_of_place, park_at, starts_in}
 use Rattle.lp_rows.specs.Staying.{stays_at}
 
 -- an outline has the nodes of its network, and the legs, fleets and limits of the tables
@@ -32,11 +32,11 @@ pub record IsOutline (t : Tables) (keeps : Domains) (outline : Outline) : Type 0
   pub moments : outline.moments ≡ map (moment_at t keeps (starts_in outline.network)) outline.nodes
 
 -- pairs, nodes with their arcs, days with a limit and the moments of arcs, by their numbers
-abbrev pub pair_in : Outline → ℕ → Pair
-pair_in o number = slice_index_or o.pairs number (leg_on 0 0)
+abbrev pub outline_pair : Outline → ℕ → Pair
+outline_pair o number = slice_index_or o.pairs number (leg_on 0 0)
 
 abbrev pub node_in : Outline → ℕ → Node
-node_in o number = slice_index_or o.nodes number (node_at 0 0 0)
+node_in o number = slice_index_or o.nodes number (node_of_place 0 0 0)
 
 abbrev pub arc_in : Outline → ℕ → Column
 arc_in o number = Ground (node_in o number)

@@ -12,7 +12,7 @@ use Rattle.row_store.specs.declared.problem.Rows.{Rows}
 use Rattle.lp_rows.specs.declared.kinds.Column.{Column}
 use Rattle.lp_rows.specs.declared.kinds.Column.TheVariants.{Flight, Ground, Room, Slack}
 use Rattle.lp_rows.specs.Entries.{same_node, same_park}
-use Rattle.lp_rows.specs.Layout.{Starts, arc_stays, columns_of, node_at, parking_days}
+use Rattle.lp_rows.specs.Layout.{Starts, arc_stays, node_of_place, parking_days, program_columns}
 use Rattle.lp_rows.specs.Program.{AreRows}
 
 abbrev pub same_column : Column → Column → Bool
@@ -37,7 +37,7 @@ pair_part columns x p = value_of columns x (Flight p)
 -- the pair part of each point is a mixed plan of its scale
 abbrev pub PointsArePlans : Type 0
 PointsArePlans = (t : Tables) (keeps : Domains) (starts : Starts) (rows : Rows) (scale : ℕ) (x : ℕ → ℕ) → AreRows t keeps starts rows
-    → MeetsRows rows scale x → IsMixedPlan t keeps scale (pair_part (columns_of t keeps starts) x)
+    → MeetsRows rows scale x → IsMixedPlan t keeps scale (pair_part (program_columns t keeps starts) x)
 
 -- a point whose pair part is a mixed plan
 pub record IsPointOf (t : Tables) (columns : List Column) (rows : Rows) (scale : ℕ) (w : Weights) (x : ℕ → ℕ) : Type 0 where
@@ -47,12 +47,12 @@ pub record IsPointOf (t : Tables) (columns : List Column) (rows : Rows) (scale :
 -- each mixed plan is the pair part of a point
 abbrev pub PlansArePoints : Type 0
 PlansArePoints = (t : Tables) (keeps : Domains) (starts : Starts) (rows : Rows) (scale : ℕ) (w : Weights) → AreRows t keeps starts rows
-    → IsMixedPlan t keeps scale w → (x : ℕ → ℕ) × IsPointOf t (columns_of t keeps starts) rows scale w x
+    → IsMixedPlan t keeps scale w → (x : ℕ → ℕ) × IsPointOf t (program_columns t keeps starts) rows scale w x
 
 -- a point costs what its pair part does
 abbrev pub PointsCostAsPlans : Type 0
 PointsCostAsPlans = (t : Tables) (keeps : Domains) (starts : Starts) (rows : Rows) (x : ℕ → ℕ) → AreRows t keeps starts rows
-    → point_cost rows x ≡ mixed_cost t (pair_part (columns_of t keeps starts) x)
+    → point_cost rows x ≡ mixed_cost t (pair_part (program_columns t keeps starts) x)
 
 -- how many nodes there are
 abbrev pub node_count : Tables → Starts → ℕ
@@ -60,7 +60,7 @@ node_count t starts = sum_below (λ f. sum_below (λ s. length (starts f s)) (st
 
 -- how many of their arcs stay
 abbrev pub arcs_at : Tables → Domains → Starts → ℕ → ℕ → ℕ
-arcs_at t keeps starts f s = count_below (λ k. arc_stays t keeps starts (node_at f s k)) (length (starts f s))
+arcs_at t keeps starts f s = count_below (λ k. arc_stays t keeps starts (node_of_place f s k)) (length (starts f s))
 
 abbrev pub arcs_in : Tables → Domains → Starts → ℕ
 arcs_in t keeps starts = sum_below (λ f. sum_below (arcs_at t keeps starts f) (stations_in t)) (fleets_in t)
@@ -87,6 +87,6 @@ pub record AreLinesOf (t : Tables) (keeps : Domains) (rows : Rows) : Type 0 wher
   pub starts : Starts
   pub lines : AreRows t keeps starts rows
   pub counted : AreCounted t keeps starts rows
-  pub points_are_plans : (scale : ℕ) (x : ℕ → ℕ) → MeetsRows rows scale x → IsMixedPlan t keeps scale (pair_part (columns_of t keeps starts) x)
-  pub plans_are_points : (scale : ℕ) (w : Weights) → IsMixedPlan t keeps scale w → (x : ℕ → ℕ) × IsPointOf t (columns_of t keeps starts) rows scale w x
-  pub costs_are_same : (x : ℕ → ℕ) → point_cost rows x ≡ mixed_cost t (pair_part (columns_of t keeps starts) x)
+  pub points_are_plans : (scale : ℕ) (x : ℕ → ℕ) → MeetsRows rows scale x → IsMixedPlan t keeps scale (pair_part (program_columns t keeps starts) x)
+  pub plans_are_points : (scale : ℕ) (w : Weights) → IsMixedPlan t keeps scale w → (x : ℕ → ℕ) × IsPointOf t (program_columns t keeps starts) rows scale w x
+  pub costs_are_same : (x : ℕ → ℕ) → point_cost rows x ≡ mixed_cost t (pair_part (program_columns t keeps starts) x)

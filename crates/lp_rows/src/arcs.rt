@@ -3,7 +3,7 @@ ghost use Rattle.std.specs.Prelude.{◌≡◌, ◌<◌, ◌++◌, ◌∷◌, ◌
 ghost use Rattle.fleet_model.specs.Kept.{kept_by};
 ghost use Rattle.fleet_model.specs.Schedule.{fleets_in};
 ghost use Rattle.node_aggregate.specs.KeptIdles.{AreIdleIn};
-ghost use Rattle.lp_rows.specs.Layout.{AreByStation, IsNetwork, all_nodes, moment_at, nodes_of, starts_in};
+ghost use Rattle.lp_rows.specs.Layout.{AreByStation, IsNetwork, all_nodes, moment_at, nodes_of_fleet, starts_in};
 ghost use Rattle.lp_rows.specs.Staying.{passing_below, stays_at};
 
 use crate::network::Network;
@@ -56,7 +56,7 @@ fn push_fleet(
     requires idle { AreIdleIn tables.now (kept_by kept.now) idle.now }
     requires fleet { fleet < fleets_in tables.now }
     ensures { OnOk result (found.new.items ≡ found.old.items
-        ++ map (moment_at tables.now (kept_by kept.now) (starts_in network.now)) (nodes_of tables.now (starts_in network.now) fleet)) }
+        ++ map (moment_at tables.now (kept_by kept.now) (starts_in network.now)) (nodes_of_fleet tables.now (starts_in network.now) fleet)) }
 {
     for station in 0..tables.station_count() {
         let starts = network.starts(tables, fleet, station);

@@ -1,7 +1,7 @@
 //! The number of a line in a column, by their kinds.
 ghost use Rattle.std.specs.Prelude.{◌≡◌, ◌<◌, ◌≤◌, length};
 ghost use Rattle.fleet_model.specs.Schedule.{IsPair, day_end, fleets_in};
-ghost use Rattle.lp_rows.specs.Entries.{IsColumn, IsLine, IsNode, balance_entry, column_cost, comes_to_node, count_entry, cover_entry, entry_of, gets_arc, is_in, leaves_node, one_if, parking_entry, passes_day_end, passes_start, place_after, right_side_of, same_node, same_park};
+ghost use Rattle.lp_rows.specs.Entries.{IsColumn, IsLine, IsNode, balance_entry, column_cost, comes_to_node, count_entry, cover_entry, entry_of, gets_arc, is_in_node, leaves_node, one_if, parking_entry, passes_day_end, passes_start, place_after, right_side_of, same_node, same_park};
 ghost use Rattle.lp_rows.specs.Layout.{AreByStation, starts_in};
 
 use crate::kinds::{Column, Line, Node, Park};
@@ -209,7 +209,7 @@ fn passes_day_end(tables: &Tables, network: &Network, park: Park, arc: Node) -> 
 // A minute lies in a node.
 fn is_in(tables: &Tables, starts: &[u16], place: u32, minute: u16) -> bool
     requires { place < length starts.now }
-    ensures { result ≡ is_in tables.now starts.now place minute }
+    ensures { result ≡ is_in_node tables.now starts.now place minute }
 {
     starts[place as usize] <= minute && minute <= node_end(tables, starts, place as usize)
 }

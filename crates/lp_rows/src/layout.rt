@@ -4,7 +4,7 @@ ghost use Rattle.fleet_model.specs.declared.limits.TheConstants.{MAX_CHOICES, MA
 ghost use Rattle.fleet_model.specs.Kept.{kept_by};
 ghost use Rattle.fleet_model.specs.Schedule.{fleets_in, legs_in, stations_in};
 ghost use Rattle.sums.specs.Places.{list_below};
-ghost use Rattle.lp_rows.specs.Layout.{AreByStation, all_kept, all_nodes, all_parks, nodes_at, nodes_of, pair_of, pairs_of, parking_days, parks_at, starts_in};
+ghost use Rattle.lp_rows.specs.Layout.{AreByStation, all_kept, all_nodes, all_parks, nodes_at, nodes_of_fleet, pair_if_kept, pairs_of_leg, parking_days, parks_at, starts_in};
 ghost use Rattle.lp_rows.specs.Outline.{arc_in, columns_in, lines_in};
 ghost use Rattle.lp_rows.specs.declared.kinds.Column.TheVariants.{Flight, Room, Slack};
 ghost use Rattle.lp_rows.specs.declared.kinds.Line.TheVariants.{Balance, Count, Cover, Parking};
@@ -128,7 +128,7 @@ pub fn kept_pairs(alloc: Global, tables: &Tables, kept: &Kept) -> Result<Vec<Pai
 // Puts the kept pairs of a leg behind those so far.
 fn push_pairs(pairs: &mut Vec<Pair>, tables: &Tables, kept: &Kept, leg: u32) -> Result<(), NoMemory>
     requires { leg < legs_in tables.now }
-    ensures { OnOk result (pairs.new.items ≡ pairs.old.items ++ pairs_of tables.now (kept_by kept.now) leg) }
+    ensures { OnOk result (pairs.new.items ≡ pairs.old.items ++ pairs_of_leg tables.now (kept_by kept.now) leg) }
 {
     for choice in 0..tables.choice_count(leg) {
         push_pair(pairs, kept, Pair { leg, choice })?;
@@ -140,7 +140,7 @@ fn push_pairs(pairs: &mut Vec<Pair>, tables: &Tables, kept: &Kept, leg: u32) -> 
 fn push_pair(pairs: &mut Vec<Pair>, kept: &Kept, pair: Pair) -> Result<(), NoMemory>
     requires leg { pair.leg < MAX_LEGS }
     requires choice { pair.choice < MAX_CHOICES }
-    ensures { OnOk result (pairs.new.items ≡ pairs.old.items ++ pair_of (kept_by kept.now) pair.leg pair.choice) }
+    ensures { OnOk result (pairs.new.items ≡ pairs.old.items ++ pair_if_kept (kept_by kept.now) pair.leg pair.choice) }
 {
     if !kept.kept(pair.leg, pair.choice) {
         return Ok(());
@@ -174,7 +174,7 @@ fn push_fleet(
 ) -> Result<(), NoMemory>
     requires shape { AreByStation tables.now network.now }
     requires fleet { fleet < fleets_in tables.now }
-    ensures { OnOk result (nodes.new.items ≡ nodes.old.items ++ nodes_of tables.now (starts_in network.now) fleet) }
+    ensures { OnOk result (nodes.new.items ≡ nodes.old.items ++ nodes_of_fleet tables.now (starts_in network.now) fleet) }
 {
     for station in 0..tables.station_count() {
         push_station(nodes, tables, network, fleet, station)?;

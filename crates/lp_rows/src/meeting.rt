@@ -1,6 +1,6 @@
 //! Which columns a line may have numbers in.
 ghost use Rattle.std.specs.Prelude.{◌≡◌, ◌^◌, ◌<◌, All, IsTrue, length, map, IfOk};
-ghost use Rattle.lp_rows.specs.Meeting.{HasPair, IsMet, meets, meets_at, touched_by};
+ghost use Rattle.lp_rows.specs.Meeting.{HasPair, IsMet, line_meets, meets_at, touched_by};
 ghost use Rattle.lp_rows.specs.Staying.{passing_below};
 ghost use Rattle.lp_rows.specs.declared.kinds.Line.TheVariants.{Cover};
 ghost use Rattle.lp_rows.specs.declared.meeting.Touched.{Touched};
@@ -154,7 +154,7 @@ fn columns_passing(alloc: Global, line: Line, touched: &[Touched]) -> Result<Vec
 /// Whether a line may have a number in a column, by what that one touches.
 #[inline(always)]
 fn meets(line: Line, touched: Touched) -> bool
-    ensures { result ≡ meets line touched }
+    ensures { result ≡ line_meets line touched }
 {
     match line {
         Line::Cover { leg } => leg == touched.leg,
@@ -169,7 +169,7 @@ fn meets(line: Line, touched: Touched) -> bool
 
 // Whether two lines meet the same columns for sure.
 fn meet_alike(line: Line, other: Line) -> bool
-    ensures { IsTrue result → (touched : Touched) → meets line touched ≡ meets other touched }
+    ensures { IsTrue result → (touched : Touched) → line_meets line touched ≡ line_meets other touched }
 {
     match (line, other) {
         (Line::Balance(node), Line::Balance(second)) => {

@@ -3,7 +3,7 @@ ghost use Rattle.std.specs.Prelude.{◌≡◌, ◌<◌, length, IfOk, IfSome};
 ghost use Rattle.fleet_model.specs.Kept.{kept_by};
 ghost use Rattle.lp_rows.specs.declared.kinds.Column.TheVariants.{Flight, Room, Slack};
 ghost use Rattle.lp_rows.specs.declared.kinds.Line.TheVariants.{Balance, Count, Cover, Parking};
-ghost use Rattle.lp_rows.specs.Outline.{IsOutline, StandsAt, arc_in, balance_line, column_count, columns_in, count_line, cover_line, first_priced_line, flight_column, ground_column, line_count, lines_in, node_in, pair_in, park_in, parking_line, room_column, slack_column};
+ghost use Rattle.lp_rows.specs.Outline.{IsOutline, StandsAt, arc_in, balance_line, column_count, columns_in, count_line, cover_line, first_priced_line, flight_column, ground_column, line_count, lines_in, node_in, outline_pair, park_in, parking_line, room_column, slack_column};
 
 use crate::arcs::{arc_moments, staying_arcs};
 use crate::layout::{kept_pairs, network_nodes, parks};
@@ -56,7 +56,7 @@ impl Outline {
     pub fn flight_column(&self, number: u32) -> u32
         requires { number < length self.now.pairs }
         ensures place { result ≡ flight_column self.now number }
-        ensures stands { StandsAt (columns_in self.now) result (Flight (pair_in self.now number)) }
+        ensures stands { StandsAt (columns_in self.now) result (Flight (outline_pair self.now number)) }
     {
         number
     }

@@ -6,7 +6,7 @@ ghost use Rattle.lp_rows.specs.Meeting.{meets_at, touched_by};
 ghost use Rattle.lp_rows.specs.Layout.{AreByStation, starts_in};
 ghost use Rattle.lp_rows.specs.Points.{AreLinesOf};
 ghost use Rattle.lp_rows.specs.Outline.{IsOutline, columns_in, lines_in};
-ghost use Rattle.lp_rows.specs.Program.{AreOutlinedRows, AreRows, numbers_of};
+ghost use Rattle.lp_rows.specs.Program.{AreOutlinedRows, AreRows, line_numbers};
 ghost use Rattle.lp_rows.specs.Staying.{passing_below};
 
 use crate::entry::{column_cost, entry, right_side};
@@ -90,7 +90,7 @@ fn all_numbers(
     requires touched { touched.now ≡ map (touched_by tables.now) columns.now }
     requires few { length columns.now + 1 < 2 ^ 32 }
     requires lines { All (IsLine tables.now (starts_in network.now)) lines.now }
-    ensures { IfOk result (λ rows. rows ≡ map (numbers_of tables.now (starts_in network.now) columns.now) lines.now) }
+    ensures { IfOk result (λ rows. rows ≡ map (line_numbers tables.now (starts_in network.now) columns.now) lines.now) }
 {
     let mut met = Met::of(alloc, Line::Cover { leg: 0 }, touched)?;
     let mut rows = Vec::new(alloc);
@@ -123,7 +123,7 @@ fn line_numbers(
     requires met { met.now ≡ passing_below (meets_at (map (touched_by tables.now) columns.now) line) (length columns.now) }
     requires few { length columns.now + 1 < 2 ^ 32 }
     requires line { IsLine tables.now (starts_in network.now) line }
-    ensures { IfOk result (λ row. row.numbers ≡ numbers_of tables.now (starts_in network.now) columns.now line) }
+    ensures { IfOk result (λ row. row.numbers ≡ line_numbers tables.now (starts_in network.now) columns.now line) }
 {
     let right = columns.len() as u32;
     let mut row = SparseRow::zeros(alloc, right + 1);

@@ -19,7 +19,7 @@ use Rattle.island_cut.proofs.IslandProofs.{idle_is_empty}
 use Rattle.node_aggregate.specs.ArcLaws.{GoneIsEmpty}
 use Rattle.node_aggregate.specs.KeptIdles.{idle_in, keeps_allowed}
 use Rattle.node_aggregate.specs.Moments.{moment_in_node, moment_of, moment_round}
-use Rattle.node_aggregate.specs.Waits.{is_among, waits_in_node, waits_round}
+use Rattle.node_aggregate.specs.Waits.{lies_between, waits_in_node, waits_round}
 use Rattle.node_aggregate.proofs.AllowedPairs.{allowed_tested}
 use Rattle.node_aggregate.proofs.QuietMinutes.{none_come, none_come_yet, none_leave, none_left_yet}
 use Rattle.node_aggregate.proofs.Ends.{among_ends}
@@ -79,7 +79,7 @@ module _ (t : Tables) (keeps : Domains) (scale : ℕ) (w : Weights) (plan : IsMi
   empty_in_node : stand_of t w f s m ≡ 0 → waits_in_node t keeps f s starts k m ≡ true → stand_of t w f s (end_in t starts k) ≡ 0
   unfolding stand_of
   empty_in_node empty waits =
-      let parts = parts_true (is_among (slice_index starts k) (end_in t starts k) m) _ waits in
+      let parts = parts_true (lies_between (slice_index starts k) (end_in t starts k) m) _ waits in
       let ends = among_ends (slice_index starts k) (end_in t starts k) m parts.0 in
       omega (arith, empty, none_leave t keeps w f s known weigh m (end_in t starts k) ends.1 parts.1, none_come t keeps w f s known weigh m (end_in t starts k) ends.1 parts.1)
 

@@ -11,7 +11,7 @@ use Rattle.fleet_model.specs.Schedule.{departures_in, leg_at, leg_of, pair_on, p
 use Rattle.fleet_model.specs.Times.{busy_minutes, departure, ready_minute}
 use Rattle.fleet_model.proofs.PeriodMinutes.{departs_always, in_period}
 use Rattle.timeline_net.specs.declared.timeline.Event.{Event}
-use Rattle.timeline_net.specs.Events.{AreEvents, departure_event, departures_of, events_below, readies_of, ready_event}
+use Rattle.timeline_net.specs.Events.{AreEvents, departure_event, departure_events, events_below, readies_of, ready_event}
 use Rattle.node_aggregate.specs.Nodes.{HappensAt}
 
 -- an event that stands where a test passes
@@ -30,7 +30,7 @@ module _ (t : Tables) (keeps : Domains) (f s : ℕ) where
     | inl before ↦ Contains-append_left _ _ _ (Contains-append_left _ _ _ (departs_below d n before kept from))
     | inr last ↦
         let same : d ≡ n = omega arith in
-        rw (← same) (Contains-append_left _ _ _ (Contains-append_right (events_below t keeps f s d) (departures_of t keeps f s d) _
+        rw (← same) (Contains-append_left _ _ _ (Contains-append_right (events_below t keeps f s d) (departure_events t keeps f s d) _
         (one_where (keeps (pair_on t d f) && ((leg_of t (leg_at t d)).from == s)) _ (both_true _ _ kept (equal_number _ _ from)))))
   ]
 
@@ -40,7 +40,7 @@ module _ (t : Tables) (keeps : Domains) (f s : ℕ) where
     | inl before ↦ Contains-append_left _ _ _ (Contains-append_left _ _ _ (ready_below d n before kept to))
     | inr last ↦
         let same : d ≡ n = omega arith in
-        rw (← same) (Contains-append_right (events_below t keeps f s d ++ departures_of t keeps f s d) (readies_of t keeps f s d) _
+        rw (← same) (Contains-append_right (events_below t keeps f s d ++ departure_events t keeps f s d) (readies_of t keeps f s d) _
         (one_where (keeps (pair_on t d f) && ((leg_of t (leg_at t d)).to == s)) _ (both_true _ _ kept (equal_number _ _ to))))
   ]
 

@@ -18,7 +18,7 @@ use Rattle.island_cut.proofs.InOrder.{idle_listed, idles_rise, listed_idle}
 use Rattle.node_aggregate.specs.EventMinutes.{IsFirstAmong, IsLastAmong, ListsAt, is_within, minute_at}
 use Rattle.node_aggregate.specs.KeptIdles.{AreIdleIn, idle_in, idles_in, keeps_allowed}
 use Rattle.node_aggregate.specs.Moments.{first_minute, moment_in_node, moment_of, moment_round}
-use Rattle.node_aggregate.specs.Waits.{is_among, waits_in_node, waits_round}
+use Rattle.node_aggregate.specs.Waits.{lies_between, waits_in_node, waits_round}
 use Rattle.node_aggregate.proofs.QuietEvents.{quiet_where, where_quiet}
 use Rattle.node_aggregate.proofs.Ends.{among_ends, among_where, within_ends, within_where}
 
@@ -61,7 +61,7 @@ lists_station t keeps s idle station are = record {
 
 -- ---- the parts of a wait
 
-not_among_low : (low high m : ℕ) → is_among low high m ≡ false → m ≤ high → m < low
+not_among_low : (low high m : ℕ) → lies_between low high m ≡ false → m ≤ high → m < low
 not_among_low low high m e order = grind (arith, nat_tests)
 
 last_place : (k n : ℕ) → k + 1 ≡ n → (k + 1 == n) ≡ true
@@ -72,7 +72,7 @@ module _ (t : Tables) (keeps : Domains) (f s : ℕ) (events : List Event) (are :
       → waits_in_node t keeps f s starts place m ≡ is_within last until m
   in_node_same last until m is found = same_tests _ _
       (λ waits.
-      let parts = parts_true (is_among (slice_index starts place) (end_in t starts place) m) _ waits in
+      let parts = parts_true (lies_between (slice_index starts place) (end_in t starts place) m) _ waits in
       let ends = among_ends (slice_index starts place) (end_in t starts place) m parts.0 in
       let none = where_quiet t keeps f s events are (m + 1) (end_in t starts place) parts.1 in
       within_where last until m
@@ -81,7 +81,7 @@ module _ (t : Tables) (keeps : Domains) (f s : ℕ) (events : List Event) (are :
       (λ within.
       let ends = within_ends last until m within in
       both_true _ _ (among_where (slice_index starts place) (end_in t starts place) m (omega (arith, found.no_earlier, ends.0)) (omega (arith, ends.1, is)))
-      (quiet_where t keeps f s events are (m + 1) (end_in t starts place) (λ k inside. never_passes (is_among (m + 1) (end_in t starts place) (minute_at events k)) (λ e.
+      (quiet_where t keeps f s events are (m + 1) (end_in t starts place) (λ k inside. never_passes (lies_between (m + 1) (end_in t starts place) (minute_at events k)) (λ e.
       let there = among_ends (m + 1) (end_in t starts place) (minute_at events k) e in
       let early = found.covers k inside (omega (arith, there.1, is)) in
       omega (arith, there.0, early, ends.0)))))
@@ -102,11 +102,11 @@ module _ (t : Tables) (keeps : Domains) (f s : ℕ) (events : List Event) (are :
       (λ within.
       let ends = within_ends 0 first m within in
       both_true _ _ (last_place place (length starts) at_last)
-      (quiet_where t keeps f s events are 0 m (λ k inside. never_passes (is_among 0 m (minute_at events k)) (λ e.
+      (quiet_where t keeps f s events are 0 m (λ k inside. never_passes (lies_between 0 m (minute_at events k)) (λ e.
       let there = among_ends 0 m (minute_at events k) e in
       omega (arith, there.1, found.covers k inside, ends.1)))))
     where
-      late : (n m : ℕ) → is_among 0 m n ≡ false → m + 1 ≤ n
+      late : (n m : ℕ) → lies_between 0 m n ≡ false → m + 1 ≤ n
       late n m e = grind (arith, nat_tests)
 
   pub round_found : (first : ℕ) (o : Option ℕ) → place + 1 ≡ length starts → IsFirstAmong (period_of t) events (length events) first

@@ -15,7 +15,7 @@ use Rattle.node_aggregate.specs.Nodes.{HappensAt}
 use Rattle.node_aggregate.proofs.EventsAmong.{departs_at, ready_at}
 use Rattle.island_cut.proofs.Counted.{count_none}
 use Rattle.node_aggregate.specs.EventMinutes.{minute_at, no_event}
-use Rattle.node_aggregate.specs.Waits.{happens_among, is_among, is_quiet}
+use Rattle.node_aggregate.specs.Waits.{happens_among, is_quiet, lies_between}
 use Rattle.node_aggregate.proofs.QuietMinutes.{departs_elsewhere, ready_elsewhere}
 
 -- what happens in a minute stands at a place
@@ -29,23 +29,23 @@ all_where true e P holds = All-cons P e [] (holds refl) (All-nil P)
 all_where false e P holds = All-nil P
 
 module _ (t : Tables) (keeps : Domains) (f s : ℕ) (events : List Event) (are : AreEvents t keeps f s events) (low high : ℕ) where
-  pub quiet_where : ((k : ℕ) → k < length events → is_among low high (minute_at events k) ≡ false) → is_quiet t keeps f s low high ≡ true
+  pub quiet_where : ((k : ℕ) → k < length events → lies_between low high (minute_at events k) ≡ false) → is_quiet t keeps f s low high ≡ true
   unfolding is_quiet
   quiet_where none = count_none (λ d. keeps (pair_on t d f) && happens_among t s low high (pair_on t d f)) (departures_in t) (λ d below.
       never_passes (keeps (pair_on t d f) && happens_among t s low high (pair_on t d f)) (λ e.
       let parts = parts_true (keeps (pair_on t d f)) _ e in
-      by_either (((leg_of t (leg_at t d)).from == s) && is_among low high (departure t (pair_on t d f))) (((leg_of t (leg_at t d)).to == s) && is_among low high (ready_minute t (pair_on t d f))) parts.1
+      by_either (((leg_of t (leg_at t d)).from == s) && lies_between low high (departure t (pair_on t d f))) (((leg_of t (leg_at t d)).to == s) && lies_between low high (ready_minute t (pair_on t d f))) parts.1
       (λ leaves.
       let here = parts_true ((leg_of t (leg_at t d)).from == s) _ leaves in
       let at = happens_there events false (departure t (pair_on t d f)) (departs_at t keeps f s events are d below parts.0 (eqb-true (leg_of t (leg_at t d)).from s here.0)) in
-      no_both (none at.0 at.1) (ap (is_among low high) at.2 ∙ here.1))
+      no_both (none at.0 at.1) (ap (lies_between low high) at.2 ∙ here.1))
       (λ comes.
       let here = parts_true ((leg_of t (leg_at t d)).to == s) _ comes in
       let at = happens_there events true (ready_minute t (pair_on t d f)) (ready_at t keeps f s events are d below parts.0 (eqb-true (leg_of t (leg_at t d)).to s here.0)) in
-      no_both (none at.0 at.1) (ap (is_among low high) at.2 ∙ here.1))))
+      no_both (none at.0 at.1) (ap (lies_between low high) at.2 ∙ here.1))))
 
   abbrev Elsewhere : Event → Type 0
-  Elsewhere e = is_among low high e.minute ≡ false
+  Elsewhere e = lies_between low high e.minute ≡ false
 
   none_below : is_quiet t keeps f s low high ≡ true → (n : ℕ) → n < suc (departures_in t) → All Elsewhere (events_below t keeps f s n)
   none_below quiet zero few = All-nil Elsewhere
@@ -56,7 +56,7 @@ module _ (t : Tables) (keeps : Domains) (f s : ℕ) (events : List Event) (are :
       (λ e. let parts = parts_true (keeps (pair_on t n f)) _ e in ready_elsewhere t keeps f s low high quiet n (omega (arith, few)) parts.0 (eqb-true (leg_of t (leg_at t n)).to s parts.1)) in
       All-append Elsewhere _ _ (All-append Elsewhere _ _ (none_below quiet n (omega (arith, few))) departs) back
 
-  pub where_quiet : is_quiet t keeps f s low high ≡ true → (k : ℕ) → k < length events → is_among low high (minute_at events k) ≡ false
+  pub where_quiet : is_quiet t keeps f s low high ≡ true → (k : ℕ) → k < length events → lies_between low high (minute_at events k) ≡ false
   where_quiet quiet k within =
       let all = All-permutation Elsewhere _ _ are.each_once (none_below quiet (departures_in t) (omega arith)) in
       All-contains Elsewhere events (slice_index_or events k no_event) all (k, within, get_or_default events k (slice_index_or events k no_event) no_event within)

@@ -12,7 +12,7 @@ use Rattle.fleet_model.specs.Times.{departure, ready_minute}
 use Rattle.fleet_model.proofs.Choices.{on_departure}
 use Rattle.node_aggregate.specs.Laws.{WeighKept}
 use Rattle.island_cut.proofs.Counted.{none_counted}
-use Rattle.node_aggregate.specs.Waits.{happens_among, is_among, is_quiet}
+use Rattle.node_aggregate.specs.Waits.{happens_among, is_quiet, lies_between}
 
 pub none_happens : (t : Tables) (keeps : Domains) (f s low high : ℕ) → is_quiet t keeps f s low high ≡ true → (d : ℕ) → d < departures_in t → keeps (pair_on t d f) ≡ true → happens_among t s low high (pair_on t d f) ≡ false
 unfolding is_quiet
@@ -22,19 +22,19 @@ none_happens t keeps f s low high quiet d below kept =
 
 -- a kept pair's departure and ready minute, where nothing happens
 pub departs_elsewhere : (t : Tables) (keeps : Domains) (f s low high : ℕ) → is_quiet t keeps f s low high ≡ true → (d : ℕ) → d < departures_in t → keeps (pair_on t d f) ≡ true → (leg_of t (leg_at t d)).from ≡ s
-    → is_among low high (departure t (pair_on t d f)) ≡ false
+    → lies_between low high (departure t (pair_on t d f)) ≡ false
 departs_elsewhere t keeps f s low high quiet d below kept from = let none = none_happens t keeps f s low high quiet d below kept in grind (arith, nat_tests)
 
 pub ready_elsewhere : (t : Tables) (keeps : Domains) (f s low high : ℕ) → is_quiet t keeps f s low high ≡ true → (d : ℕ) → d < departures_in t → keeps (pair_on t d f) ≡ true → (leg_of t (leg_at t d)).to ≡ s
-    → is_among low high (ready_minute t (pair_on t d f)) ≡ false
+    → lies_between low high (ready_minute t (pair_on t d f)) ≡ false
 ready_elsewhere t keeps f s low high quiet d below kept to = let none = none_happens t keeps f s low high quiet d below kept in grind (arith, nat_tests)
 
 -- what is counted by two minutes, where it happens in none between
-same_by : (here : Bool) (minute low high weight : ℕ) → low ≤ high → (here && is_among (low + 1) high minute) ≡ false → ◌≡◌ {A = ℕ} (if here && nat_le minute high then weight else 0) (if here && nat_le minute low then weight else 0)
+same_by : (here : Bool) (minute low high weight : ℕ) → low ≤ high → (here && lies_between (low + 1) high minute) ≡ false → ◌≡◌ {A = ℕ} (if here && nat_le minute high then weight else 0) (if here && nat_le minute low then weight else 0)
 same_by here minute low high weight order none = grind (arith, nat_tests)
 
 -- and where it happens in none from the day start on
-none_by : (here : Bool) (minute high weight : ℕ) → (here && is_among 0 high minute) ≡ false → ◌≡◌ {A = ℕ} (if here && nat_le minute high then weight else 0) 0
+none_by : (here : Bool) (minute high weight : ℕ) → (here && lies_between 0 high minute) ≡ false → ◌≡◌ {A = ℕ} (if here && nat_le minute high then weight else 0) 0
 none_by here minute high weight none = grind (arith, nat_tests)
 
 no_weight : (b c : Bool) (w : ℕ) → w ≡ 0 → ◌≡◌ {A = ℕ} (if b then w else 0) (if c then w else 0)

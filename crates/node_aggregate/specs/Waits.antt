@@ -10,13 +10,13 @@ use Rattle.fleet_model.specs.Times.{departure, ready_minute}
 use Rattle.node_aggregate.specs.Nodes.{end_in}
 
 -- a minute lies among these, both ends included
-abbrev pub is_among : ℕ → ℕ → ℕ → Bool
-is_among low high m = nat_le low m && nat_le m high
+abbrev pub lies_between : ℕ → ℕ → ℕ → Bool
+lies_between low high m = nat_le low m && nat_le m high
 
 -- the pair departs from the station in these minutes, or its aircraft is ready there
 abbrev pub happens_among : Tables → ℕ → ℕ → ℕ → Pair → Bool
 happens_among t s low high p =
-    (((leg_of t p.leg).from == s) && is_among low high (departure t p)) || (((leg_of t p.leg).to == s) && is_among low high (ready_minute t p))
+    (((leg_of t p.leg).from == s) && lies_between low high (departure t p)) || (((leg_of t p.leg).to == s) && lies_between low high (ready_minute t p))
 
 -- no kept pair of the fleet departs from the station in these minutes, and none is ready there
 unfoldable pub is_quiet : Tables → Domains → ℕ → ℕ → ℕ → ℕ → Bool
@@ -24,7 +24,7 @@ is_quiet t keeps f s low high = count_below (λ d. keeps (pair_on t d f) && happ
 
 -- the minute lies in the node, and no event comes after it there
 abbrev pub waits_in_node : Tables → Domains → ℕ → ℕ → List ℕ → ℕ → ℕ → Bool
-waits_in_node t keeps f s starts k m = is_among (slice_index starts k) (end_in t starts k) m && is_quiet t keeps f s (m + 1) (end_in t starts k)
+waits_in_node t keeps f s starts k m = lies_between (slice_index starts k) (end_in t starts k) m && is_quiet t keeps f s (m + 1) (end_in t starts k)
 
 -- the node is the last, and no event comes from the day start up to and with the minute
 abbrev pub waits_round : Tables → Domains → ℕ → ℕ → List ℕ → ℕ → ℕ → Bool

@@ -8,7 +8,7 @@ use Rattle.fleet_model.specs.declared.tables.Tables.{Tables}
 use Rattle.dual_lift.specs.declared.error.LiftError.{LiftError}
 use Rattle.dual_lift.specs.declared.error.LiftError.TheVariants as lift
 use Rattle.price_lift.specs.PaidBack.{IsLiftErrorBy}
-use Rattle.node_bounding.specs.Relaxed.{IsTold}
+use Rattle.node_bounding.specs.Relaxed.{IsLiftTold}
 use Rattle.node_bounding.specs.Tried.{IsLeftBy, Settles, IsTried, excess_from}
 use Rattle.node_bounding.specs.declared.relaxing.Relaxed.{Relaxed}
 use Rattle.node_bounding.specs.declared.relaxing.Relaxed.TheVariants as relaxed
@@ -23,14 +23,14 @@ module _ (t : Tables) (keeps : Domains) (end : Hint) where
   settled_comes (relaxed.Bounded best) is = (is, tt)
   settled_comes (relaxed.Stopped why) is = absurd is
 
-  comes : (lifted : Result Relaxed LiftError) (r : Result Relaxed NoMemory) → IfOk lifted (Settles t keeps) → IfErr lifted (IsLiftErrorBy t keeps (excess_from t keeps end)) → IsTold lifted r → IfOk r Comes
+  comes : (lifted : Result Relaxed LiftError) (r : Result Relaxed NoMemory) → IfOk lifted (Settles t keeps) → IfErr lifted (IsLiftErrorBy t keeps (excess_from t keeps end)) → IsLiftTold lifted r → IfOk r Comes
   comes (Ok found) r is large told = subst (λ r. IfOk r Comes) (sym told) (settled_comes found is)
   comes (Err (lift.TooLarge step at)) (Ok found) is large told = subst Comes (sym told.stopped) (tt, large)
   comes (Err (lift.TooLarge step at)) (Err error) is large told = tt
   comes (Err lift.NoMemory) (Ok found) is large told = absurd (false≢true told)
   comes (Err lift.NoMemory) (Err error) is large told = tt
 
-  module _ (lifted : Result Relaxed LiftError) (r : Result Relaxed NoMemory) (is : IfOk lifted (Settles t keeps)) (large : IfErr lifted (IsLiftErrorBy t keeps (excess_from t keeps end))) (told : IsTold lifted r) where
+  module _ (lifted : Result Relaxed LiftError) (r : Result Relaxed NoMemory) (is : IfOk lifted (Settles t keeps)) (large : IfErr lifted (IsLiftErrorBy t keeps (excess_from t keeps end))) (told : IsLiftTold lifted r) where
     pub told_tried : IfOk r (IsTried t keeps)
     told_tried = first r (comes lifted r is large told)
       where

@@ -14,11 +14,11 @@ use Rattle.dual_bound.specs.declared.trees.Cause.{Cause}
 use Rattle.dual_bound.specs.declared.trees.Cause.TheVariants as cause
 use Rattle.dual_bound.specs.declared.trees.Tree.{Tree}
 use Rattle.dual_bound.specs.declared.trees.Tree.TheVariants as tree
-use Rattle.dual_bound.specs.Fractions.{IsWhole}
+use Rattle.dual_bound.specs.Fractions.{IsMixedWhole}
 use Rattle.dual_bound.specs.WrittenOrder.{IsNodeInOrder}
 use Rattle.dual_bound.specs.declared.nodes.Node.{Node}
 use Rattle.dual_bound.specs.declared.nodes.Node.TheVariants as ordered
-use Rattle.cert_check.specs.Rules.{Reaches}
+use Rattle.cert_check.specs.Rules.{ReachesCost}
 use Rattle.price_lift.specs.declared.best_point.BestPoint.{BestPoint}
 use Rattle.node_bounding.specs.Examined.{IsDoneLeaf, IsExamined, IsFoundHere, IsStoppedBy, IsStoppedWith, IsWholeOffered}
 use Rattle.node_bounding.specs.Found.{EndsAt}
@@ -26,7 +26,7 @@ use Rattle.node_bounding.specs.Made.{CouldBeSplit, IsMadeAs}
 use Rattle.node_bounding.specs.Offers.{IsNoSole, IsOffered, IsPlanOf, IsSoleOffered, IsTaken}
 use Rattle.node_bounding.specs.Relaxed.{AreGood, AreRefuting, IsBestPoint, IsWhyStopped}
 use Rattle.node_bounding.specs.Runs.{IsSearched}
-use Rattle.node_bounding.specs.Subproblems.{IsFractional, IsLess, IsNoMore, IsPart, IsPlan, cost_of}
+use Rattle.node_bounding.specs.Subproblems.{IsFractional, IsLess, IsNoMore, IsPart, IsPlan, cost_of_plan}
 use Rattle.node_bounding.specs.Trims.{AreSearched}
 use Rattle.node_bounding.specs.Wholes.{FliesParts}
 use Rattle.node_bounding.specs.Worked.{own_node}
@@ -43,8 +43,8 @@ use Rattle.node_bounding.proofs.WholePlans.{whole_kept, whole_legal, whole_worth
 -- ---- nothing was found
 module _ (t : Tables) (pivots : Option ℕ) (best : Option Plan) (plan : IfSome best (IsPlan t)) (keeps : Domains) (above : Prices) where
   -- a leaf
-  at_leaf : (leaf : Tree) → IsDoneLeaf leaf → IsMadeAs t (cost_of best) keeps (own_node leaf) None → AreSearched t keeps leaf
-      → ((final : Option ℤ) → IsNoMore (cost_of best) final → IsPart t pivots final keeps above leaf) → IsExamined t pivots best best keeps above (state.Leaf leaf)
+  at_leaf : (leaf : Tree) → IsDoneLeaf leaf → IsMadeAs t (cost_of_plan best) keeps (own_node leaf) None → AreSearched t keeps leaf
+      → ((final : Option ℤ) → IsNoMore (cost_of_plan best) final → IsPart t pivots final keeps above leaf) → IsExamined t pivots best best keeps above (state.Leaf leaf)
   at_leaf leaf done made searched part = record {
     found = None;
     fresh = done;
@@ -61,15 +61,15 @@ module _ (t : Tables) (pivots : Option ℕ) (best : Option Plan) (plan : IfSome 
       (λ final less. leaf_part t pivots final keeps above (tree.Refuted prices) refl refl refuting.good.known (all_one (IsNodeInOrder t) (ordered.Refuted prices) refuting.good.in_order)
       (refuted_sound t final keeps prices refuting.good.proper searched.some_pair refuting.refute) (answers_none t final keeps (tree.Refuted prices) (λ e. cc)) tt)
 
-  pub priced_leaf : (prices : Prices) → IsSearched t keeps → AreGood t prices → IsSomeAnd (cost_of best) (Reaches t keeps prices)
+  pub priced_leaf : (prices : Prices) → IsSearched t keeps → AreGood t prices → IsSomeAnd (cost_of_plan best) (ReachesCost t keeps prices)
       → IsExamined t pivots best best keeps above (state.Leaf (tree.Priced prices))
   priced_leaf prices searched good reached = at_leaf (tree.Priced prices) tt (inl (record { reaches = reached; none = refl })) searched
       (λ final less. leaf_part t pivots final keeps above (tree.Priced prices) refl refl good.known (all_one (IsNodeInOrder t) (ordered.Priced prices) good.in_order)
-      (priced_sound t final keeps prices good.proper searched.some_pair (reaches_on t keeps prices (cost_of best) final reached less)) (answers_none t final keeps (tree.Priced prices) (λ e. cc)) tt)
+      (priced_sound t final keeps prices good.proper searched.some_pair (reaches_on t keeps prices (cost_of_plan best) final reached less)) (answers_none t final keeps (tree.Priced prices) (λ e. cc)) tt)
 
   -- its run gave no prices, and it takes those above
   stopped_parts : (prices : Prices) (why : Cause) → IsSearched t keeps → AreGood t above → prices ≡ above → IsWhyStopped t keeps pivots why
-      → IsStoppedBy why × IsMadeAs t (cost_of best) keeps (ordered.Open prices why) None × ((final : Option ℤ) → IsPart t pivots final keeps above (tree.Open prices why))
+      → IsStoppedBy why × IsMadeAs t (cost_of_plan best) keeps (ordered.Open prices why) None × ((final : Option ℤ) → IsPart t pivots final keeps above (tree.Open prices why))
   stopped_parts prices (cause.Nodes mixed) searched good same is = absurd is.stopped
   stopped_parts prices (cause.Pivots made) searched good same is =
       let own : AreGood t prices = subst (AreGood t) (sym same) good in (
@@ -111,13 +111,13 @@ module _ (t : Tables) (pivots : Option ℕ) (best : Option Plan) (plan : IfSome 
   stopped_here prices why (state.Split f) searched good same is stays = absurd stays
 
   -- it waits to be split
-  pub waiting : (f : Fraction) → IsFractional t keeps f → IfSome (cost_of best) (λ c. f.worth <ℤ c) → IsExamined t pivots best best keeps above (state.Waiting f)
+  pub waiting : (f : Fraction) → IsFractional t keeps f → IfSome (cost_of_plan best) (λ c. f.worth <ℤ c) → IsExamined t pivots best best keeps above (state.Waiting f)
   waiting f is below = record {
     found = None;
     fresh = tt;
     plan = plan;
     cheapest = refl;
-    is = (by_cost (cost_of best) below, refl);
+    is = (by_cost (cost_of_plan best) below, refl);
     right = λ final less. is;
     place = inl refl;
     replaced = inl refl;
@@ -128,7 +128,7 @@ module _ (t : Tables) (pivots : Option ℕ) (best : Option Plan) (plan : IfSome 
       by_cost (Some c) below = record { least = f.worth; rounded = is.rounded; short = below }
 
 -- a rounded worth that reaches the cost of a plan
-pub reaches_by : (t : Tables) (keeps : Domains) (prices : Prices) (worth : ℤ) (cost : Option ℤ) → IsCeiling (worth_of t keeps prices 1) prices.scale worth → IsSomeAnd cost (λ c. c ≤ℤ worth) → IsSomeAnd cost (Reaches t keeps prices)
+pub reaches_by : (t : Tables) (keeps : Domains) (prices : Prices) (worth : ℤ) (cost : Option ℤ) → IsCeiling (worth_of t keeps prices 1) prices.scale worth → IsSomeAnd cost (λ c. c ≤ℤ worth) → IsSomeAnd cost (ReachesCost t keeps prices)
 reaches_by t keeps prices worth None rounded reached = absurd reached
 reaches_by t keeps prices worth (Some c) rounded reached = record { least = worth; rounded = rounded; reaches = reached }
 
@@ -144,18 +144,18 @@ module _ (t : Tables) (pivots : Option ℕ) (before after : Option Plan) (keeps 
       by_plan (Some plan) is = record { kept = subst (IsKeptAssignment t keeps) (sym is.assignment) kept; ends = subst (λ c. EndsAt t keeps c node) (sym is.exact) ends }
 
   -- .. and it is strictly cheaper than the cheapest plan before
-  replaced : (a : List ℕ) → (after ≡ before) ⊎ IsTaken t a before after → (after ≡ before) ⊎ IsLess (cost_of before) (cost_of after)
+  replaced : (a : List ℕ) → (after ≡ before) ⊎ IsTaken t a before after → (after ≡ before) ⊎ IsLess (cost_of_plan before) (cost_of_plan after)
   replaced a (inl same) = inl same
   replaced a (inr taken) = inr (by_plan after taken.plan)
     where
-      by_plan : (best : Option Plan) → IsSomeAnd best (IsPlanOf t a) → IsLess (cost_of before) (cost_of best)
+      by_plan : (best : Option Plan) → IsSomeAnd best (IsPlanOf t a) → IsLess (cost_of_plan before) (cost_of_plan best)
       by_plan None is = absurd is
-      by_plan (Some plan) is = subst (λ c. IfSome (cost_of before) (λ e. c <ℤ e)) (sym is.exact) taken.cheaper
+      by_plan (Some plan) is = subst (λ c. IfSome (cost_of_plan before) (λ e. c <ℤ e)) (sym is.exact) taken.cheaper
 
   -- a legal assignment that was offered costs no less than the cheapest plan
-  no_less : (a : List ℕ) → IsOffered t a before after → IsLegal t a → IsNoMore (Some (total_cost t a)) (cost_of after)
+  no_less : (a : List ℕ) → IsOffered t a before after → IsLegal t a → IsNoMore (Some (total_cost t a)) (cost_of_plan after)
   no_less a offered legal =
-      subst (λ c. IsNoMore (Some (total_cost t a)) c) (sym (offered.cheapest ∙ ap (lesser_bound (cost_of before)) (offered.legal legal))) (lesser_second (cost_of before) (total_cost t a))
+      subst (λ c. IsNoMore (Some (total_cost t a)) c) (sym (offered.cheapest ∙ ap (lesser_bound (cost_of_plan before)) (offered.legal legal))) (lesser_second (cost_of_plan before) (total_cost t a))
     where
       lesser_second : (best : Option ℤ) (c : ℤ) → IsNoMore (Some c) (lesser_bound best (Some c))
       lesser_second best c = (lesser_no_more best (Some c)).1
@@ -179,9 +179,9 @@ module _ (t : Tables) (pivots : Option ℕ) (before after : Option Plan) (keeps 
       one : (a : List ℕ) → IsKeptAssignment t keeps a → a ≡ sole.plan
       one a kept = sole_is_one t keeps a sole.plan sole.sole kept sole.kept
 
-      answer : (final : Option ℤ) → IsNoMore (cost_of after) final → (a : List ℕ) → IsKeptAssignment t keeps a → IsLegal t a → IsNoMore (Some (total_cost t a)) final
+      answer : (final : Option ℤ) → IsNoMore (cost_of_plan after) final → (a : List ℕ) → IsKeptAssignment t keeps a → IsLegal t a → IsNoMore (Some (total_cost t a)) final
       answer final less a kept legal =
-          no_more_on (Some (total_cost t a)) (cost_of after) final (subst (λ b. IsNoMore (Some (total_cost t b)) (cost_of after)) (sym (one a kept)) (no_less sole.plan sole.offered (subst (IsLegal t) (one a kept) legal))) less
+          no_more_on (Some (total_cost t a)) (cost_of_plan after) final (subst (λ b. IsNoMore (Some (total_cost t b)) (cost_of_plan after)) (sym (one a kept)) (no_less sole.plan sole.offered (subst (IsLegal t) (one a kept) legal))) less
 
   pub whole_leaf : (prices : Prices) → IsSearched t keeps → AreGood t prices → IsWholeOffered t keeps prices before after → IsExamined t pivots before after keeps above (state.Leaf (tree.Priced prices))
   whole_leaf prices searched good whole = record {
@@ -192,7 +192,7 @@ module _ (t : Tables) (pivots : Option ℕ) (before after : Option Plan) (keeps 
     is = inr (record { plan = whole.plan; kept = whole.kept; legal = whole.legal; worth = whole.worth; is = whole.offered.legal whole.legal });
     right = λ final less. (
       leaf_part t pivots final keeps above (tree.Priced prices) refl refl good.known (all_one (IsNodeInOrder t) (ordered.Priced prices) good.in_order)
-          (priced_sound t final keeps prices good.proper searched.some_pair (reaches_less t keeps prices (total_cost t whole.plan) final reaches (no_more_on (Some (total_cost t whole.plan)) (cost_of after) final (no_less whole.plan whole.offered whole.legal) less)))
+          (priced_sound t final keeps prices good.proper searched.some_pair (reaches_less t keeps prices (total_cost t whole.plan) final reaches (no_more_on (Some (total_cost t whole.plan)) (cost_of_plan after) final (no_less whole.plan whole.offered whole.legal) less)))
           (answers_none t final keeps (tree.Priced prices) (λ e. cc)) tt,
       searched,
     );
@@ -200,11 +200,11 @@ module _ (t : Tables) (pivots : Option ℕ) (before after : Option Plan) (keeps 
     replaced = replaced whole.plan whole.offered.taken;
   }
     where
-      reaches : Reaches t keeps prices (total_cost t whole.plan)
+      reaches : ReachesCost t keeps prices (total_cost t whole.plan)
       reaches = record { least = total_cost t whole.plan; rounded = whole.worth; reaches = omega (arith, ints) }
 
 -- the assignment that a whole fractional assignment is
-pub whole_offered : (t : Tables) (keeps : Domains) (point : BestPoint) (a : List ℕ) (before after : Option Plan) → KeepAllowed t keeps → IsBestPoint t keeps point → IsWhole t point.mixed → FliesParts t point.mixed a
+pub whole_offered : (t : Tables) (keeps : Domains) (point : BestPoint) (a : List ℕ) (before after : Option Plan) → KeepAllowed t keeps → IsBestPoint t keeps point → IsMixedWhole t point.mixed → FliesParts t point.mixed a
     → IsOffered t a before after → IsWholeOffered t keeps point.prices before after
 whole_offered t keeps point a before after allowed best whole flies offered = record {
   plan = a;

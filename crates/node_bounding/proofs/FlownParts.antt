@@ -8,7 +8,7 @@ use Rattle.fleet_model.specs.declared.tables.Tables.{Tables}
 use Rattle.fleet_model.proofs.SoleFleets.{earlier_fleet, last_fleet}
 use Rattle.dual_bound.specs.Fractions.{IsWholeLeg, IsWholePair}
 use Rattle.dual_bound.specs.declared.mixed.Mixed.{Mixed}
-use Rattle.node_bounding.specs.Causes.{ComesBefore}
+use Rattle.node_bounding.specs.Causes.{PairComesBefore}
 use Rattle.node_bounding.specs.Wholes.{FliesPart, IsFirstPartialOn, IsSplitPair}
 
 pub record FliesSoFar (t : Tables) (mixed : Mixed) (a : List ℕ) : Type 0 where
@@ -31,6 +31,6 @@ first_of_all t mixed leg choice within before here = record {
   first = record { some = here.partial.some; not_all = here.partial.not_all; first = each };
 }
   where
-    each : (l f : ℕ) → f < choices_in t l → ComesBefore l f leg choice → IsWholePair mixed l f
+    each : (l f : ℕ) → f < choices_in t l → PairComesBefore l f leg choice → IsWholePair mixed l f
     each l f known (inl earlier) = before l earlier f known
     each l f known (inr same) = rw same.0 (here.first f same.1)

@@ -13,7 +13,7 @@ use Rattle.dual_bound.specs.declared.trees.Tree.{Split, Tree, Trim}
 use Rattle.dual_bound.specs.declared.trees.Tree.TheVariants as tree
 use Rattle.dual_bound.specs.Fractions.{IsFraction, IsMixedAt, IsWholePair}
 use Rattle.cert_check.specs.Nodes.{mixed_of}
-use Rattle.cert_check.specs.Rules.{HaveAllPairs, IsKeptPair, IsSound, Keeps, Reaches}
+use Rattle.cert_check.specs.Rules.{HaveAllPairs, IsKeptPair, IsSound, Keeps, ReachesCost}
 use Rattle.cert_check.specs.declared.rules.Rule.{Rule}
 use Rattle.cert_check.specs.declared.rules.Rule.TheVariants as rule
 use Rattle.price_lift.specs.declared.best_point.BestPoint.{BestPoint}
@@ -59,7 +59,7 @@ module _ (t : Tables) (cost : Option ℤ) (keeps : Domains) where
       each rule.Mixed = tt
       each rule.Fraction = tt
 
-  pub priced_sound : (prices : Prices) → ArePrices t prices → HaveAllPairs t keeps → IsSomeAnd cost (Reaches t keeps prices) → IsSound t cost (node keeps (tree.Priced prices))
+  pub priced_sound : (prices : Prices) → ArePrices t prices → HaveAllPairs t keeps → IsSomeAnd cost (ReachesCost t keeps prices) → IsSound t cost (node keeps (tree.Priced prices))
   priced_sound prices proper pairs reaches = record { each = each }
     where
       each : (r : Rule) → Keeps t cost (node keeps (tree.Priced prices)) r

@@ -22,7 +22,7 @@ use Rattle.price_lift.specs.TooLarge.{best_excess, refusal_excess}
 use Rattle.price_lift.specs.PaidBack.{IsFirstBy, IsLiftErrorBy}
 use Rattle.dual_lift.specs.declared.error.LiftError.{LiftError}
 use Rattle.dual_lift.specs.declared.error.LiftError.TheVariants as lift
-use Rattle.node_bounding.specs.Relaxed.{IsRelaxed, IsTold}
+use Rattle.node_bounding.specs.Relaxed.{IsLiftTold, IsRelaxed}
 use Rattle.price_lift.proofs.Columns.{sides_at_least}
 use Rattle.node_bounding.specs.Runs.{HasEnded, IsLiftRefused, IsOutcomeWithin, RunEnds}
 use Rattle.node_bounding.specs.declared.relaxing.Relaxed.{Relaxed}
@@ -66,7 +66,7 @@ module _ (first : List FracRow) (columns : ℕ) (table : List FracRow) where
   turns_ray None column ends = (ends.0, ends.1, ends.2)
 
 -- what is told of a lift by the last table of a run
-pub told_relaxed : (t : Tables) (keeps : Domains) (pivots : Option ℕ) (lifted : Result Relaxed LiftError) (r : Result Relaxed NoMemory) → MatchResult lifted (IsRelaxed t keeps pivots) (IsLiftRefused t keeps pivots) → IsTold lifted r → IfOk r (IsRelaxed t keeps pivots)
+pub told_relaxed : (t : Tables) (keeps : Domains) (pivots : Option ℕ) (lifted : Result Relaxed LiftError) (r : Result Relaxed NoMemory) → MatchResult lifted (IsRelaxed t keeps pivots) (IsLiftRefused t keeps pivots) → IsLiftTold lifted r → IfOk r (IsRelaxed t keeps pivots)
 told_relaxed t keeps pivots (Ok found) r is told = subst (λ r. IfOk r (IsRelaxed t keeps pivots)) (sym told) is
 told_relaxed t keeps pivots (Err (lift.TooLarge step at)) (Ok found) is told =
     subst (IsRelaxed t keeps pivots) (sym told.stopped) (record { stopped = is; in_order = (told.step_held, told.at_held) })

@@ -13,7 +13,7 @@ use Rattle.fleet_model.specs.declared.tables.Tables.{Tables}
 use Rattle.dual_bound.specs.Bound.{lesser_bound}
 use Rattle.dual_bound.specs.Worth.{worth_of}
 use Rattle.dual_bound.specs.declared.prices.Prices.{Prices}
-use Rattle.cert_check.specs.Rules.{Reaches}
+use Rattle.cert_check.specs.Rules.{ReachesCost}
 use Rattle.node_bounding.specs.Closing.{does_reach}
 use Rattle.node_bounding.specs.Found.{FallsShort}
 use Rattle.node_bounding.specs.Subproblems.{IsNoMore}
@@ -40,7 +40,7 @@ lesser_no_more (Some x) (Some y) = by_test (int_le x y) (λ e. grind (arith, int
     by_test false p q = (q refl, omega (arith, ints))
 
 -- a rounded worth that reaches a cost reaches each that is no more
-pub reaches_less : (t : Tables) (keeps : Domains) (prices : Prices) (cost : ℤ) (final : Option ℤ) → Reaches t keeps prices cost → IsNoMore (Some cost) final → IsSomeAnd final (Reaches t keeps prices)
+pub reaches_less : (t : Tables) (keeps : Domains) (prices : Prices) (cost : ℤ) (final : Option ℤ) → ReachesCost t keeps prices cost → IsNoMore (Some cost) final → IsSomeAnd final (ReachesCost t keeps prices)
 reaches_less t keeps prices cost None reaches less = absurd less
 reaches_less t keeps prices cost (Some c) reaches less = record {
   least = reaches.least;
@@ -48,7 +48,7 @@ reaches_less t keeps prices cost (Some c) reaches less = record {
   reaches = omega (arith, ints, reaches.reaches, less);
 }
 
-pub reaches_on : (t : Tables) (keeps : Domains) (prices : Prices) (best final : Option ℤ) → IsSomeAnd best (Reaches t keeps prices) → IsNoMore best final → IsSomeAnd final (Reaches t keeps prices)
+pub reaches_on : (t : Tables) (keeps : Domains) (prices : Prices) (best final : Option ℤ) → IsSomeAnd best (ReachesCost t keeps prices) → IsNoMore best final → IsSomeAnd final (ReachesCost t keeps prices)
 reaches_on t keeps prices None final reached less = absurd reached
 reaches_on t keeps prices (Some cost) final reached less = reaches_less t keeps prices cost final reached less
 
@@ -79,7 +79,7 @@ module _ (t : Tables) (keeps : Domains) (prices : Prices) (cost : ℤ) (some : p
   rounded = (ceiling_of worth prices.scale some).1
 
   -- worth more than one cost unit less
-  pub does_reach_is : does_reach t keeps prices cost ≡ true → Reaches t keeps prices cost
+  pub does_reach_is : does_reach t keeps prices cost ≡ true → ReachesCost t keeps prices cost
   does_reach_is e =
       let more : ((cost -ℤ pos 1) *ℤ prices.scale) <ℤ worth = grind (arith, ints, e) in
       let passes : (cost -ℤ pos 1) <ℤ least = lesser_multiple prices.scale (cost -ℤ pos 1) least some (omega (arith, ints, more, rounded.enough)) in

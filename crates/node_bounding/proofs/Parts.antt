@@ -14,7 +14,7 @@ use Rattle.dual_bound.specs.declared.trees.Tree.{Split, Tree, Trim}
 use Rattle.dual_bound.specs.declared.trees.Tree.TheVariants as tree
 use Rattle.cert_check.specs.Nodes.{Node, nodes_in}
 use Rattle.cert_check.specs.Rules.{IsSound}
-use Rattle.presolve.specs.Removals.{IsRefuted, pair_of}
+use Rattle.presolve.specs.Removals.{IsPairRefuted, removed_pair}
 use Rattle.presolve.specs.declared.trims.Trim.{Trim as Trimmed}
 use Rattle.presolve.proofs.StepsLeft.{one_step}
 use Rattle.price_lift.specs.declared.best_point.BestPoint.{BestPoint}
@@ -52,7 +52,7 @@ split_part t pivots final keeps above p point first second is with_pair without 
 
 -- a trim whose part with the pair is refuted, of the other part
 module _ (t : Tables) (pivots : Option ℕ) (final : Option ℤ) (keeps : Domains) (above : Prices) (trim : Trimmed) (first second : Box Tree Global)
-    (out : KeepLeftOut t keeps) (refuted : IsRefuted t keeps trim) (is : first.value ≡ tree.Refuted trim.reason)
+    (out : KeepLeftOut t keeps) (refuted : IsPairRefuted t keeps trim) (is : first.value ≡ tree.Refuted trim.reason)
     (without : IsPart t pivots final (part keeps trim.leg trim.choice false) above second.value) where
   abbrev whole : Tree
   whole = Trim trim.leg trim.choice first second
@@ -67,7 +67,7 @@ module _ (t : Tables) (pivots : Option ℕ) (final : Option ℤ) (keeps : Domain
   trim_part = record {
     of_tables = (refuted.pair, subst (IsOfTables t) (sym is) refuted.of_tables, without.of_tables);
     in_order = all_more (IsNodeInOrder t) _ _ _ refuted.pair (subst (InWrittenOrder t) (sym is) (all_one (IsNodeInOrder t) (ordered.Refuted trim.reason) refuted.in_order)) without.in_order;
-    shallow = omega (arith, ap depth_of is, without.shallow, one_step t keeps (pair_of trim) refuted.pair refuted.by refuted.kept out);
+    shallow = omega (arith, ap depth_of is, without.shallow, one_step t keeps (removed_pair trim) refuted.pair refuted.by refuted.kept out);
     sound = at_all (IsSound t final) (trim_sound t final keeps trim.leg trim.choice first second trim.reason is refuted.kept)
         (refuted_sound t final (part keeps trim.leg trim.choice true) trim.reason refuted.proper refuted.none_bare refuted.above) without.sound;
     soles = at_all (AnswersSole t final) (answers_none t final keeps whole (λ e. cc)) (answers_none t final _ (tree.Refuted trim.reason) (λ e. cc)) without.soles;

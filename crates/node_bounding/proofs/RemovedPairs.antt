@@ -18,21 +18,21 @@ use Rattle.dual_bound.specs.declared.trees.Tree.{Tree}
 use Rattle.dual_bound.proofs.Charges.{no_rise}
 use Rattle.dual_bound.proofs.NoCharges.{none_in_order, none_proper}
 use Rattle.dual_bound.proofs.StepOrder.{zero_figure}
-use Rattle.presolve.specs.Removals.{AreRefuted, kept_after, pair_of, without}
+use Rattle.presolve.specs.Removals.{AreRefuted, kept_after, removed_pair, without}
 use Rattle.presolve.specs.declared.trims.Trim.{Trim as Removal}
 use Rattle.presolve.proofs.StepsLeft.{keep_left_out}
 use Rattle.node_bounding.specs.Causes.{zero_prices}
 use Rattle.node_bounding.specs.Relaxed.{AreGood}
 use Rattle.node_bounding.specs.Subproblems.{IsPart}
-use Rattle.node_bounding.specs.Trims.{AreBelow, AreOnTop, AreSearched, IsWithin}
+use Rattle.node_bounding.specs.Trims.{AreBelow, AreOnTop, AreSearched, IsRemovalWithin}
 use Rattle.node_bounding.proofs.Parts.{trim_part}
 use Rattle.node_bounding.proofs.Allowed.{allowed_part}
 
 -- ---- removals
-pub removals_within : (t : Tables) (keeps : Domains) (removals : List Removal) → AreRefuted t keeps removals → All IsWithin removals
-removals_within t keeps [] refuted = All-nil IsWithin
+pub removals_within : (t : Tables) (keeps : Domains) (removals : List Removal) → AreRefuted t keeps removals → All IsRemovalWithin removals
+removals_within t keeps [] refuted = All-nil IsRemovalWithin
 removals_within t keeps (removal ∷ removals) refuted =
-    All-cons IsWithin removal removals
+    All-cons IsRemovalWithin removal removals
     (record { leg = omega (arith, refuted.0.pair.leg, t.in_range.legs_fit.few); choice = omega (arith, refuted.0.pair.choice, few_choices t removal.leg) })
     (removals_within t (without keeps removal) removals refuted.1)
 
@@ -50,7 +50,7 @@ below_part t pivots final keeps above [] rest whole out refuted same is = subst 
 below_part t pivots final keeps above (removal ∷ removals) rest whole out refuted (inner, below, here) is =
     subst (IsPart t pivots final keeps above) (sym here.is)
     (trim_part t pivots final keeps above removal here.with_pair here.without out refuted.0 here.yes_is
-    (subst (IsPart t pivots final (without keeps removal) above) (sym here.no_is) (below_part t pivots final (without keeps removal) above removals rest inner (keep_left_out t keeps (pair_of removal) refuted.0.pair refuted.0.by refuted.0.kept out) refuted.1 below is)))
+    (subst (IsPart t pivots final (without keeps removal) above) (sym here.no_is) (below_part t pivots final (without keeps removal) above removals rest inner (keep_left_out t keeps (removed_pair removal) refuted.0.pair refuted.0.by refuted.0.kept out) refuted.1 below is)))
 
 -- the pairs that are kept once the removals were taken away, as the code does it
 pub kept_now : (t : Tables) (start keeps : Domains) (removals slice : List Removal) → start ≡ all_pairs t → slice ≡ removals → keeps ≡ kept_after start slice → keeps ≡ kept_after (all_pairs t) removals

@@ -25,7 +25,7 @@ use Rattle.dual_bound.specs.Mixed.{weight_in}
 use Rattle.dual_bound.specs.Worth.{worth_of}
 use Rattle.dual_bound.specs.declared.mixed.Mixed.{Mixed}
 use Rattle.dual_bound.specs.declared.prices.Prices.{Prices}
-use Rattle.dual_bound.specs.Fractions.{IsEnd, IsMixedAt, IsWhole, IsWorth, parts_in, parts_of_leg}
+use Rattle.dual_bound.specs.Fractions.{IsEndOfScale, IsMixedAt, IsMixedWhole, IsWorth, parts_in, parts_of_leg}
 use Rattle.node_bounding.specs.Wholes.{FliesParts, HasChoices}
 use Rattle.node_bounding.proofs.Orders.{ceiling_exact}
 
@@ -61,11 +61,11 @@ module _ (t : Tables) (keeps : Domains) (mixed : Mixed) (is : IsMixedAt t keeps 
       no_parts g (suc n) none = omega (arith, no_parts g n (λ k below. none k (omega arith)), none n (omega arith))
 
 -- ---- a whole one
-module _ (t : Tables) (keeps : Domains) (mixed : Mixed) (a : List ℕ) (allowed : KeepAllowed t keeps) (is : IsMixedAt t keeps mixed) (ends : IsWhole t mixed) (flies : FliesParts t mixed a) where
+module _ (t : Tables) (keeps : Domains) (mixed : Mixed) (a : List ℕ) (allowed : KeepAllowed t keeps) (is : IsMixedAt t keeps mixed) (ends : IsMixedWhole t mixed) (flies : FliesParts t mixed a) where
   all_or_none : whole.IsWhole t (parts_of_leg mixed) (parts_in mixed)
   all_or_none = record { each = λ p pair some. by_end p some (ends p.leg pair.leg p.choice pair.choice) }
     where
-      by_end : (p : Pair) → parts_in mixed p ≢ 0 → IsEnd mixed.scale (weight_in mixed p) → parts_in mixed p ≡ parts_of_leg mixed
+      by_end : (p : Pair) → parts_in mixed p ≢ 0 → IsEndOfScale mixed.scale (weight_in mixed p) → parts_in mixed p ≡ parts_of_leg mixed
       by_end p some (inl none) = absurd (some (size_of_zero (weight_in mixed p) none))
       by_end p some (inr all) = ap unsigned_abs all
 

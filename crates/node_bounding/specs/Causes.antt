@@ -36,14 +36,14 @@ IsOpenBy t keeps pivots above prices (cause.Grew made row column) = IsLeftOpen t
 IsOpenBy t keeps pivots above prices (cause.Lift step at) = IsLeftOpen t keeps pivots above prices (cause.Lift step at)
 
 -- a pair comes before another: by leg, then by choice
-abbrev pub ComesBefore : ℕ → ℕ → ℕ → ℕ → Type 0
-ComesBefore l c leg choice = (l < leg) ⊎ ((l ≡ leg) × (c < choice))
+abbrev pub PairComesBefore : ℕ → ℕ → ℕ → ℕ → Type 0
+PairComesBefore l c leg choice = (l < leg) ⊎ ((l ≡ leg) × (c < choice))
 
 -- the first pair, by leg and then by choice, that is flown in part
 pub record IsFirstPartial (t : Tables) (mixed : Mixed) (leg choice : ℕ) : Type 0 where
   pub some : pos 0 <ℤ weight_in mixed (leg_on leg choice)
   pub not_all : weight_in mixed (leg_on leg choice) <ℤ mixed.scale
-  pub first : (l c : ℕ) → c < choices_in t l → ComesBefore l c leg choice → IsWholePair mixed l c
+  pub first : (l c : ℕ) → c < choices_in t l → PairComesBefore l c leg choice → IsWholePair mixed l c
 
 -- The cause of each leaf and each split of a part of a tree, with so many pivots allowed for each subproblem, or with no budget; `above`
 -- are the prices of the nearest split.

@@ -15,7 +15,7 @@ use Rattle.dual_bound.specs.declared.trees.Tree.TheVariants as tree
 use Rattle.node_bounding.specs.Found.{IsEndOf}
 use Rattle.node_bounding.specs.Made.{IsMadeAs}
 use Rattle.node_bounding.specs.Offers.{IsOffered}
-use Rattle.node_bounding.specs.Subproblems.{IsLess, IsNoMore, IsPlan, IsRight, IsStoppedAt, cost_of, node_of}
+use Rattle.node_bounding.specs.Subproblems.{IsLess, IsNoMore, IsPlan, IsRightState, IsStoppedAt, cost_of_plan, node_of}
 use Rattle.node_bounding.specs.declared.plans.Plan.{Plan}
 use Rattle.node_bounding.specs.declared.states.State.{State}
 use Rattle.node_bounding.specs.declared.states.State.TheVariants as state
@@ -54,11 +54,11 @@ pub record IsExamined (t : Tables) (pivots : Option ℕ) (before after : Option 
   pub found : Option ℤ
   pub fresh : IsFresh made
   pub plan : IfSome after (IsPlan t)
-  pub cheapest : cost_of after ≡ lesser_bound (cost_of before) found
-  pub is : IsMadeAs t (cost_of before) keeps (node_of made) found
-  pub right : (final : Option ℤ) → IsNoMore (cost_of after) final → IsRight t pivots final keeps above made
+  pub cheapest : cost_of_plan after ≡ lesser_bound (cost_of_plan before) found
+  pub is : IsMadeAs t (cost_of_plan before) keeps (node_of made) found
+  pub right : (final : Option ℤ) → IsNoMore (cost_of_plan after) final → IsRightState t pivots final keeps above made
   pub place : (after ≡ before) ⊎ IsFoundHere t keeps (node_of made) after
-  pub replaced : (after ≡ before) ⊎ IsLess (cost_of before) (cost_of after)
+  pub replaced : (after ≡ before) ⊎ IsLess (cost_of_plan before) (cost_of_plan after)
 
 -- The same of a subproblem whose best fractional assignment is known, and prices that are worth as much: for any pivots,
 -- whatever the prices above.

@@ -14,7 +14,7 @@ use Rattle.dual_bound.specs.declared.prices.Prices.{Prices}
 use Rattle.dual_bound.specs.declared.trees.Cause.{Cause}
 use Rattle.dual_bound.specs.declared.trees.Cause.TheVariants as cause
 use Rattle.dual_bound.specs.declared.trees.Tree.{Tree}
-use Rattle.cert_check.specs.Rules.{Reaches}
+use Rattle.cert_check.specs.Rules.{ReachesCost}
 use Rattle.node_bounding.specs.Found.{FallsShort}
 use Rattle.node_bounding.specs.Worked.{IsOpenWorth, Worked, searched_in}
 
@@ -24,8 +24,8 @@ best_before found zero = None
 best_before found (suc k) = lesser_bound (best_before found k) (found k)
 
 -- the rounded worth of the prices reaches the cost of the cheapest plan so far
-pub record IsReached (t : Tables) (keeps : Domains) (prices : Prices) (best found : Option ℤ) : Type 0 where
-  pub reaches : IsSomeAnd best (Reaches t keeps prices)
+pub record IsCostReached (t : Tables) (keeps : Domains) (prices : Prices) (best found : Option ℤ) : Type 0 where
+  pub reaches : IsSomeAnd best (ReachesCost t keeps prices)
   pub none : found ≡ None
 
 -- the rounded worth of the prices is what a legal assignment of kept pairs costs, and that was found
@@ -53,7 +53,7 @@ abbrev pub IsMadeAs : Tables → Option ℤ → Domains → Node → Option ℤ 
 IsMadeAs t best keeps (node.Bare leg) found = found ≡ None
 IsMadeAs t best keeps node.Sole found = IsSoleBound t keeps found
 IsMadeAs t best keeps (node.Refuted prices) found = found ≡ None
-IsMadeAs t best keeps (node.Priced prices) found = IsReached t keeps prices best found ⊎ IsWholeFound t keeps prices found
+IsMadeAs t best keeps (node.Priced prices) found = IsCostReached t keeps prices best found ⊎ IsWholeFound t keeps prices found
 IsMadeAs t best keeps (node.Open prices why) found = CouldBeSplit t keeps prices why best × (found ≡ None)
 IsMadeAs t best keeps (node.Trim leg choice) found = ⊥
 IsMadeAs t best keeps (node.Split leg choice prices mixed) found = found ≡ None

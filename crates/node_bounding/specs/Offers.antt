@@ -4,7 +4,7 @@ use Rattle.fleet_model.specs.Kept.{Domains, IsKeptAssignment, IsSole}
 use Rattle.fleet_model.specs.Legal.{IsLegal, total_cost}
 use Rattle.fleet_model.specs.declared.tables.Tables.{Tables}
 use Rattle.dual_bound.specs.Bound.{lesser_bound}
-use Rattle.node_bounding.specs.Subproblems.{IsPlan, cost_of}
+use Rattle.node_bounding.specs.Subproblems.{IsPlan, cost_of_plan}
 use Rattle.node_bounding.specs.declared.plans.Plan.{Plan}
 
 -- a plan is this assignment
@@ -15,7 +15,7 @@ pub record IsPlanOf (t : Tables) (a : List ℕ) (plan : Plan) : Type 0 where
 -- this assignment was taken, which is strictly cheaper than the cheapest plan before, if there was one
 pub record IsTaken (t : Tables) (a : List ℕ) (before after : Option Plan) : Type 0 where
   pub plan : IsSomeAnd after (IsPlanOf t a)
-  pub cheaper : IfSome (cost_of before) (λ c. total_cost t a <ℤ c)
+  pub cheaper : IfSome (cost_of_plan before) (λ c. total_cost t a <ℤ c)
 
 -- An assignment was offered, which counts where it is legal; `found` is what it then costs. The cheapest plan is that
 -- from before, or this assignment.
@@ -24,7 +24,7 @@ pub record IsOffered (t : Tables) (a : List ℕ) (before after : Option Plan) : 
   pub legal : IsLegal t a → found ≡ Some (total_cost t a)
   pub illegal : ¬ (IsLegal t a) → found ≡ None
   pub plan : IfSome after (IsPlan t)
-  pub cheapest : cost_of after ≡ lesser_bound (cost_of before) found
+  pub cheapest : cost_of_plan after ≡ lesser_bound (cost_of_plan before) found
   pub taken : (after ≡ before) ⊎ IsTaken t a before after
 
 -- each leg keeps one choice, and that assignment was offered

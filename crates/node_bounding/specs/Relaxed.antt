@@ -34,10 +34,10 @@ pub record IsLiftStopped (step at : ℕ) (found : Relaxed) : Type 0 where
   pub at_held : IsCount at
 
 -- what a lift comes to; memory is wanting only where the lift wanted it
-abbrev pub IsTold : Result Relaxed LiftError → Result Relaxed NoMemory → Type 0
-IsTold (Ok lifted) found = found ≡ Ok lifted
-IsTold (Err (lift.TooLarge step at)) found = IsOkAnd found (IsLiftStopped step at)
-IsTold (Err lift.NoMemory) found = IsErr found
+abbrev pub IsLiftTold : Result Relaxed LiftError → Result Relaxed NoMemory → Type 0
+IsLiftTold (Ok lifted) found = found ≡ Ok lifted
+IsLiftTold (Err (lift.TooLarge step at)) found = IsOkAnd found (IsLiftStopped step at)
+IsLiftTold (Err lift.NoMemory) found = IsErr found
 
 -- a run that has spent its pivots, or whose next pivot is outgrown, stops the subproblem for that: memory isn't wanting
 abbrev pub IsEnded : Outcome → Result Relaxed LiftError → Type 0

@@ -35,9 +35,9 @@ pub record IsPlan (t : Tables) (plan : Plan) : Type 0 where
   pub exact : plan.cost ≡ total_cost t plan.assignment
 
 -- the cost of a plan that may not be there
-abbrev pub cost_of : Option Plan → Option ℤ
-cost_of None = None
-cost_of (Some plan) = Some plan.cost
+abbrev pub cost_of_plan : Option Plan → Option ℤ
+cost_of_plan None = None
+cost_of_plan (Some plan) = Some plan.cost
 
 -- a later cost is no more than an earlier one; once there is a plan, there stays one
 abbrev pub IsNoMore : Option ℤ → Option ℤ → Type 0
@@ -75,8 +75,8 @@ pub record IsPart (t : Tables) (pivots : Option ℕ) (final : Option ℤ) (keeps
   pub caused : AreCaused t pivots keeps above tree
 
 -- what is known of a subproblem
-abbrev pub IsRight : Tables → Option ℕ → Option ℤ → Domains → Prices → State → Type 0
-IsRight t pivots final keeps above (state.Leaf leaf) = IsPart t pivots final keeps above leaf × AreSearched t keeps leaf
-IsRight t pivots final keeps above (state.Stopped s) = IsPart t pivots final keeps above (tree.Open s.prices s.why) × IsSearched t keeps × IsStoppedAt t keeps s
-IsRight t pivots final keeps above (state.Waiting f) = IsFractional t keeps f
-IsRight t pivots final keeps above (state.Split f) = IsFractional t keeps f
+abbrev pub IsRightState : Tables → Option ℕ → Option ℤ → Domains → Prices → State → Type 0
+IsRightState t pivots final keeps above (state.Leaf leaf) = IsPart t pivots final keeps above leaf × AreSearched t keeps leaf
+IsRightState t pivots final keeps above (state.Stopped s) = IsPart t pivots final keeps above (tree.Open s.prices s.why) × IsSearched t keeps × IsStoppedAt t keeps s
+IsRightState t pivots final keeps above (state.Waiting f) = IsFractional t keeps f
+IsRightState t pivots final keeps above (state.Split f) = IsFractional t keeps f

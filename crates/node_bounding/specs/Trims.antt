@@ -12,7 +12,7 @@ use Rattle.presolve.specs.declared.trims.Trim.{Trim as Removal}
 use Rattle.node_bounding.specs.Runs.{IsSearched}
 
 -- a removal of a pair that there may be
-pub record IsWithin (removal : Removal) : Type 0 where
+pub record IsRemovalWithin (removal : Removal) : Type 0 where
   pub leg : removal.leg < MAX_LEGS
   pub choice : removal.choice < MAX_CHOICES
 

@@ -3,13 +3,13 @@ ghost use Rattle.std.specs.Prelude.{◌≡◌, ◌≤ℤ◌, ◌<ℤ◌, ℕ, If
 ghost use Rattle.frac_row.specs.Ratio.{IsCeiling};
 ghost use Rattle.fleet_model.specs.Kept.{kept_by};
 ghost use Rattle.fleet_model.specs.Whole.{KeepAllowed};
-ghost use Rattle.dual_bound.specs.Fractions.{IsWhole};
+ghost use Rattle.dual_bound.specs.Fractions.{IsMixedWhole};
 ghost use Rattle.dual_bound.specs.Prices.{ArePrices};
 ghost use Rattle.dual_bound.specs.Worth.{worth_of};
 ghost use Rattle.node_bounding.specs.Examined.{IsBounded, IsExamined, IsStoppedWith, IsWholeOffered};
 ghost use Rattle.node_bounding.specs.Relaxed.{AreGood, IsBestPoint};
 ghost use Rattle.node_bounding.specs.Runs.{IsSearched};
-ghost use Rattle.node_bounding.specs.Subproblems.{IsPlan, cost_of};
+ghost use Rattle.node_bounding.specs.Subproblems.{IsPlan, cost_of_plan};
 ghost use Rattle.node_bounding.specs.Wholes.{IsSplitPair};
 
 use crate::made_prices::copied;
@@ -113,7 +113,7 @@ fn offer_whole(tables: &Tables, best: &mut Option<Plan>, kept: &Kept, point: &Be
     requires plan { IfSome best.old (IsPlan tables.now) }
     requires allowed { KeepAllowed tables.now (kept_by kept.now) }
     requires best { IsBestPoint tables.now (kept_by kept.now) point.now }
-    requires whole { IsWhole tables.now point.now.mixed }
+    requires whole { IsMixedWhole tables.now point.now.mixed }
     ensures { IsWholeOffered tables.now (kept_by kept.now) point.now.prices best.old best.new }
 {
     let flown = flown_parts(tables, &point.mixed);
@@ -130,7 +130,7 @@ fn rounded_worth(tables: &Tables, kept: &Kept, prices: &Prices) -> i128
 
 /// Whether there is a plan, and a rounded worth reaches its cost.
 pub fn is_reached(worth: &i128, best: &Option<Plan>) -> bool
-    ensures { MatchBool result (IsSomeAnd (cost_of best.now) (λ c. c ≤ℤ worth.now)) (IfSome (cost_of best.now) (λ c. worth.now <ℤ c)) }
+    ensures { MatchBool result (IsSomeAnd (cost_of_plan best.now) (λ c. c ≤ℤ worth.now)) (IfSome (cost_of_plan best.now) (λ c. worth.now <ℤ c)) }
 {
     match best {
         None => false,

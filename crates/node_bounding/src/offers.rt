@@ -4,7 +4,7 @@ ghost use Rattle.fleet_model.specs.Kept.{kept_by};
 ghost use Rattle.fleet_model.specs.Legal.{IsAssignment, IsLegal};
 ghost use Rattle.plan_judge.specs.Sizes.{IsLegalAt};
 ghost use Rattle.node_bounding.specs.Offers.{IsNoSole, IsOffered, IsSoleOffered};
-ghost use Rattle.node_bounding.specs.Subproblems.{IsPlan, cost_of};
+ghost use Rattle.node_bounding.specs.Subproblems.{IsPlan, cost_of_plan};
 
 use crate::plans::Plan;
 use fleet_model::{Assignment, Kept, Tables};
@@ -57,7 +57,7 @@ fn legal_cost(tables: &Tables, plan: &Assignment) -> Option<i128>
 
 // Whether a cost is below that of the cheapest plan so far.
 fn is_cheaper(cost: &i128, best: &Option<Plan>) -> bool
-    ensures { MatchBool result (IfSome (cost_of best.now) (λ c. cost.now <ℤ c)) (IsSomeAnd (cost_of best.now) (λ c. c ≤ℤ cost.now)) }
+    ensures { MatchBool result (IfSome (cost_of_plan best.now) (λ c. cost.now <ℤ c)) (IsSomeAnd (cost_of_plan best.now) (λ c. c ≤ℤ cost.now)) }
 {
     match best {
         None => true,

@@ -1,7 +1,7 @@
 //! The linear relaxation of a subproblem.
 ghost use Rattle.std.specs.Prelude.{◌≡◌, ℕ, IfOk};
 ghost use Rattle.fleet_model.specs.Kept.{IsBare, kept_by};
-ghost use Rattle.node_bounding.specs.Relaxed.{IsRelaxed, IsTold};
+ghost use Rattle.node_bounding.specs.Relaxed.{IsLiftTold, IsRelaxed};
 
 use crate::proved_run::proved_run;
 use crate::trying::{end_of, tried};
@@ -56,7 +56,7 @@ pub(crate) fn relax<S: EndFinder<Program>>(
 
 /// What is lifted from an end, where nothing is too large for that; and else there are no prices.
 pub(crate) fn told(lifted: Result<Relaxed, LiftError>) -> Result<Relaxed, NoMemory>
-    ensures { IsTold lifted result }
+    ensures { IsLiftTold lifted result }
 {
     match lifted {
         Ok(relaxed) => Ok(relaxed),

@@ -2,7 +2,7 @@
 ghost use Rattle.std.specs.Prelude.{◌≡◌, All, IfOk};
 ghost use Rattle.fleet_model.specs.Kept.{kept_by};
 ghost use Rattle.presolve.specs.Removals.{kept_after};
-ghost use Rattle.node_bounding.specs.Trims.{AreBelow, IsBelow, IsWithin};
+ghost use Rattle.node_bounding.specs.Trims.{AreBelow, IsBelow, IsRemovalWithin};
 
 use crate::steps::without;
 use dual_bound::Tree;
@@ -13,7 +13,7 @@ use std::alloc::Global;
 
 /// Removes the pairs from the subproblem. Takes no memory.
 pub fn remove(kept: &mut Kept, removals: &[Trim])
-    requires { All IsWithin removals.now }
+    requires { All IsRemovalWithin removals.now }
     ensures { kept_by kept.new ≡ kept_after (kept_by kept.old) removals.now }
 {
     for removal in removals {

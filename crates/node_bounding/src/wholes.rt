@@ -1,7 +1,7 @@
 //! Fractional assignments: the first pair that is flown in part, and where there is none the assignment that is flown.
 ghost use Rattle.std.specs.Prelude.{◌≡◌, ◌<◌, MatchBool, MatchOption};
 ghost use Rattle.fleet_model.specs.Schedule.{IsPair, legs_in};
-ghost use Rattle.dual_bound.specs.Fractions.{AreParts, IsWhole, IsWholeLeg, IsWholePair};
+ghost use Rattle.dual_bound.specs.Fractions.{AreMixedParts, IsMixedWhole, IsWholeLeg, IsWholePair};
 ghost use Rattle.node_bounding.specs.Wholes.{FliesPart, FliesParts, HasChoices, IsFirstPartialOn, IsPartial, IsSplitPair};
 
 use dual_bound::Mixed;
@@ -9,8 +9,8 @@ use fleet_model::{Assignment, Pair, Tables};
 
 /// The first pair, by leg and then by choice, that is flown in part. Takes no memory.
 pub(crate) fn first_partial(tables: &Tables, mixed: &Mixed) -> Option<Pair>
-    requires { AreParts tables.now mixed.now }
-    ensures { MatchOption result (IsWhole tables.now mixed.now) (IsSplitPair tables.now mixed.now) }
+    requires { AreMixedParts tables.now mixed.now }
+    ensures { MatchOption result (IsMixedWhole tables.now mixed.now) (IsSplitPair tables.now mixed.now) }
 {
     for leg in 0..tables.leg_count() {
         if let Some(choice) = first_partial_on(tables, mixed, leg) {
@@ -22,7 +22,7 @@ pub(crate) fn first_partial(tables: &Tables, mixed: &Mixed) -> Option<Pair>
 
 // The first pair of a leg that is flown in part.
 fn first_partial_on(tables: &Tables, mixed: &Mixed, leg: u32) -> Option<u32>
-    requires parts { AreParts tables.now mixed.now }
+    requires parts { AreMixedParts tables.now mixed.now }
     requires leg { leg < legs_in tables.now }
     ensures { MatchOption result (IsWholeLeg tables.now mixed.now leg) (IsFirstPartialOn tables.now mixed.now leg) }
 {
@@ -36,7 +36,7 @@ fn first_partial_on(tables: &Tables, mixed: &Mixed, leg: u32) -> Option<u32>
 
 // Whether a pair is flown in part.
 fn is_partial(tables: &Tables, mixed: &Mixed, pair: Pair) -> bool
-    requires parts { AreParts tables.now mixed.now }
+    requires parts { AreMixedParts tables.now mixed.now }
     requires pair { IsPair tables.now pair }
     ensures { MatchBool result (IsPartial mixed.now pair.leg pair.choice) (IsWholePair mixed.now pair.leg pair.choice) }
 {

@@ -10,11 +10,11 @@ use Rattle.fleet_model.specs.declared.refusals.TheConstants.{DUPLICATE, NOT_TEXT
 use Rattle.fleet_model.specs.declared.tables.Tables.{Tables}
 use Rattle.fleet_tables.specs.Costs.{flight_of}
 use Rattle.table_rows.specs.Fields.{two_of}
-use Rattle.table_rows.specs.Names.{is_among, number_of}
+use Rattle.table_rows.specs.Names.{is_among, number_of_name}
 use Rattle.table_rows.specs.Rows.{Fields}
 use Rattle.table_rows.proofs.Kept.{front_each}
 use Rattle.table_rows.proofs.ReadParts.{form_ok, known_ok, not_refused, number_within, same_answer, whole_within, width_ok}
-use Rattle.optional_legs.specs.Optional.{AreOptional, IsOptional, OptionalRead, key_of, optional_read, read_beside}
+use Rattle.optional_legs.specs.Optional.{AreOptional, IsOptional, OptionalRead, optional_beside, optional_key, optional_read}
 use Rattle.optional_legs.specs.declared.optional.TheConstants.{MAX_OPTIONAL}
 use Rattle.optional_legs.specs.declared.optional.OptionalLeg.{OptionalLeg}
 
@@ -27,7 +27,7 @@ new_optional flights earlier fields optional reads =
     let flight = form_ok (name_of wide.0.0) _ optional text.1 in
     let units = form_ok (whole_of wide.0.1 (neg_ℤ MAX_COST) MAX_COST) _ optional flight.2 in
     let fresh = not_refused (is_among wide.0.0 earlier) DUPLICATE _ optional units.2 in
-    let leg = known_ok (number_of wide.0.0 flights) UNKNOWN_FLIGHT _ optional fresh.1 in
+    let leg = known_ok (number_of_name wide.0.0 flights) UNKNOWN_FLIGHT _ optional fresh.1 in
     let room = not_refused (nat_le MAX_OPTIONAL (length earlier)) TOO_MANY _ optional leg.2 in
     let made : OptionalLeg = record { flight = wide.0.0; leg = leg.0; skip = units.0 } in
     let same = same_answer made optional room.1 in
@@ -40,4 +40,4 @@ new_optional flights earlier fields optional reads =
 pub optional_keep : (t : Tables) (records : List Fields) (optional : List OptionalLeg) → OptionalRead t records optional → AreOptional t optional
 optional_keep t records optional reads = λ k d below.
     subst (λ n. IsOptional n (slice_index_or optional k d)) (length-map t.legs flight_of)
-    (front_each key_of (read_beside t) (IsOptional (length (map flight_of t.legs))) (λ e f w r. new_optional (map flight_of t.legs) e f w r) reads.rest optional reads.rows.reads k d below)
+    (front_each optional_key (optional_beside t) (IsOptional (length (map flight_of t.legs))) (λ e f w r. new_optional (map flight_of t.legs) e f w r) reads.rest optional reads.rows.reads k d below)

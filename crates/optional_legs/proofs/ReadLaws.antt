@@ -6,15 +6,15 @@ use Rattle.fleet_model.specs.declared.tables.Tables.{Tables}
 use Rattle.fleet_model.proofs.TablesSame.{tables_same}
 use Rattle.sums.specs.Places.{list_below}
 use Rattle.table_rows.proofs.OneReading.{table_bad_same, table_end_exists, table_reads_no_fault, table_reads_same}
-use Rattle.optional_legs.specs.Optional.{key_of, read_beside, optional_header}
-use Rattle.optional_legs.specs.Laws.{OneFirstFault, OneReading, OptionalOrFault, OptionalOrFaultNotBoth}
+use Rattle.optional_legs.specs.Optional.{optional_key, optional_beside, optional_header}
+use Rattle.optional_legs.specs.Laws.{OneFirstOptionalFault, OneOptionalReading, OptionalOrFault, OptionalOrFaultNotBoth}
 use Rattle.optional_legs.specs.Adding.{HaveOptional, leg_with_skip}
 use Rattle.optional_legs.specs.declared.optional.OptionalLeg.{OptionalLeg}
 use Rattle.optional_legs.proofs.TablesWith.{tables_with, they_have}
 use Rattle.optional_legs.proofs.OptionalFit.{optional_keep}
 
 pub optional_or_fault : OptionalOrFault
-optional_or_fault t bytes = elim (table_end_exists key_of (read_beside t) optional_header (records_of bytes)) [
+optional_or_fault t bytes = elim (table_end_exists optional_key (optional_beside t) optional_header (records_of bytes)) [
   | inl found ↦
       let are = optional_keep t (records_of bytes) found.0 found.1 in
       inl (record { tables = tables_with t found.0 are; reads = record { optional = found.0; read = found.1; have = they_have t found.0 are } })
@@ -22,7 +22,7 @@ optional_or_fault t bytes = elim (table_end_exists key_of (read_beside t) option
 ]
 
 pub not_both : OptionalOrFaultNotBoth
-not_both t bytes reads fault = table_reads_no_fault key_of (read_beside t) optional_header (records_of bytes) reads.reads.optional fault.row fault.kind reads.reads.read fault.bad
+not_both t bytes reads fault = table_reads_no_fault optional_key (optional_beside t) optional_header (records_of bytes) reads.reads.optional fault.row fault.kind reads.reads.read fault.bad
 
 -- with the same optional legs the tables are the same
 have_same : (t u v : Tables) (optional other : List OptionalLeg) → optional ≡ other → HaveOptional t optional u → HaveOptional t other v → u ≡ v
@@ -31,9 +31,9 @@ have_same t u v optional other same a b =
     tables_same u v (a.stations ∙ sym b.stations) (a.fleets ∙ sym b.fleets) legs (a.costs ∙ sym b.costs) (a.throughs ∙ sym b.throughs) (a.settings ∙ sym b.settings)
     (a.windows ∙ sym b.windows) (a.asked ∙ sym b.asked)
 
-pub one_reading : OneReading
+pub one_reading : OneOptionalReading
 one_reading t u v bytes a b =
-    have_same t u v a.optional b.optional (table_reads_same key_of (read_beside t) optional_header (records_of bytes) a.optional b.optional a.read b.read) a.have b.have
+    have_same t u v a.optional b.optional (table_reads_same optional_key (optional_beside t) optional_header (records_of bytes) a.optional b.optional a.read b.read) a.have b.have
 
-pub one_first_fault : OneFirstFault
-one_first_fault t bytes row other kind other_kind bad found = table_bad_same key_of (read_beside t) optional_header (records_of bytes) row other kind other_kind bad found
+pub one_first_fault : OneFirstOptionalFault
+one_first_fault t bytes row other kind other_kind bad found = table_bad_same optional_key (optional_beside t) optional_header (records_of bytes) row other kind other_kind bad found

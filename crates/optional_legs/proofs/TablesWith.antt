@@ -9,11 +9,11 @@ use Rattle.sums.proofs.Sums.{sum_below-agree}
 use Rattle.fleet_model.specs.Costs.{cost_in}
 use Rattle.fleet_model.specs.Limits.{AreCosts, AreTables, AreThroughs, IsCostUpTo, IsLeg}
 use Rattle.fleet_model.specs.Schedule.{fleets_in, legs_in, no_leg}
-use Rattle.fleet_model.specs.Windows.{at_time, departures_below, departures_of, times_of, triples_in}
+use Rattle.fleet_model.specs.Windows.{at_time, departures_below, departures_of_legs, times_of, triples_in}
 use Rattle.fleet_model.specs.declared.limits.TheConstants.{MAX_TRIPLES}
 use Rattle.fleet_model.specs.declared.parts.Leg.{Leg}
 use Rattle.fleet_model.specs.declared.tables.Tables.{Tables}
-use Rattle.optional_legs.specs.Adding.{HaveOptional, leg_with, leg_with_skip, skip_in}
+use Rattle.optional_legs.specs.Adding.{HaveOptional, leg_with_skip, skip_in, skippable_leg}
 use Rattle.optional_legs.specs.Optional.{AreOptional, IsOptional}
 use Rattle.optional_legs.specs.declared.optional.OptionalLeg.{OptionalLeg}
 
@@ -63,7 +63,7 @@ module _ (t : Tables) (optional : List OptionalLeg) (are : AreOptional t optiona
   same_times : (l : ℕ) → l < legs_in t → times_of legs l ≡ times_of t.legs l
   same_times l below = ap (λ (leg : Leg). length leg.shifts) (leg_at l no_leg below)
 
-  departures_are : t.departures ≡ departures_of legs
+  departures_are : t.departures ≡ departures_of_legs legs
   departures_are =
       t.in_range.departures_fit ∙ sym (same_departures legs t.legs (legs_in t) same_times) ∙ ap (departures_below legs) (sym as_many)
 
@@ -127,5 +127,5 @@ module _ (t : Tables) (optional : List OptionalLeg) (are : AreOptional t optiona
 
 -- legs of which it was said what it costs to leave them out
 pub given : (t : Tables) (optional : List OptionalLeg) (old now : List Leg) → old ≡ t.legs
-    → now ≡ list_below (λ l. leg_with (slice_index_or old l no_leg) (skip_in optional l)) (length old) → now ≡ list_below (leg_with_skip t optional) (legs_in t)
-given t optional old now is by_old = by_old ∙ ap (λ (ls : List Leg). list_below (λ l. leg_with (slice_index_or ls l no_leg) (skip_in optional l)) (length ls)) is
+    → now ≡ list_below (λ l. skippable_leg (slice_index_or old l no_leg) (skip_in optional l)) (length old) → now ≡ list_below (leg_with_skip t optional) (legs_in t)
+given t optional old now is by_old = by_old ∙ ap (λ (ls : List Leg). list_below (λ l. skippable_leg (slice_index_or ls l no_leg) (skip_in optional l)) (length ls)) is

@@ -14,8 +14,8 @@ skip_in [] l = None
 skip_in (first ∷ rest) l = if first.leg == l then Some first.skip else skip_in rest l
 
 -- a leg that may be left out at this cost, or must be flown
-abbrev pub leg_with : Leg → Option ℤ → Leg
-leg_with leg skip = record {
+abbrev pub skippable_leg : Leg → Option ℤ → Leg
+skippable_leg leg skip = record {
   flight = leg.flight;
   from = leg.from;
   dep = leg.dep;
@@ -26,7 +26,7 @@ leg_with leg skip = record {
 }
 
 abbrev pub leg_with_skip : Tables → List OptionalLeg → ℕ → Leg
-leg_with_skip t optional l = leg_with (leg_of t l) (skip_in optional l)
+leg_with_skip t optional l = skippable_leg (leg_of t l) (skip_in optional l)
 
 -- tables as others are, but that these legs may be left out, and no other
 pub record HaveOptional (t : Tables) (optional : List OptionalLeg) (u : Tables) : Type 0 where

@@ -12,20 +12,20 @@ pub record ReadAsOptional (t : Tables) (bytes : List ℕ) : Type 0 where
   pub reads : ReadsOptional t bytes tables
 
 -- the file has a first fault beside the tables
-pub record HasFirstFault (t : Tables) (bytes : List ℕ) : Type 0 where
+pub record HasFirstOptionalFault (t : Tables) (bytes : List ℕ) : Type 0 where
   pub row : ℕ
   pub kind : ℕ
   pub bad : OptionalBad t (records_of bytes) row kind
 
 abbrev pub OptionalOrFault : Type 0
-OptionalOrFault = (t : Tables) (bytes : List ℕ) → ReadAsOptional t bytes ⊎ HasFirstFault t bytes
+OptionalOrFault = (t : Tables) (bytes : List ℕ) → ReadAsOptional t bytes ⊎ HasFirstOptionalFault t bytes
 
 abbrev pub OptionalOrFaultNotBoth : Type 0
-OptionalOrFaultNotBoth = (t : Tables) (bytes : List ℕ) → ReadAsOptional t bytes → ¬ (HasFirstFault t bytes)
+OptionalOrFaultNotBoth = (t : Tables) (bytes : List ℕ) → ReadAsOptional t bytes → ¬ (HasFirstOptionalFault t bytes)
 
-abbrev pub OneReading : Type 0
-OneReading = (t u v : Tables) (bytes : List ℕ) → ReadsOptional t bytes u → ReadsOptional t bytes v → u ≡ v
+abbrev pub OneOptionalReading : Type 0
+OneOptionalReading = (t u v : Tables) (bytes : List ℕ) → ReadsOptional t bytes u → ReadsOptional t bytes v → u ≡ v
 
-abbrev pub OneFirstFault : Type 0
-OneFirstFault = (t : Tables) (bytes : List ℕ) (row other kind other_kind : ℕ) → OptionalBad t (records_of bytes) row kind → OptionalBad t (records_of bytes) other other_kind
+abbrev pub OneFirstOptionalFault : Type 0
+OneFirstOptionalFault = (t : Tables) (bytes : List ℕ) (row other kind other_kind : ℕ) → OptionalBad t (records_of bytes) row kind → OptionalBad t (records_of bytes) other other_kind
     → (row ≡ other) × (kind ≡ other_kind)

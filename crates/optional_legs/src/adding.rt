@@ -4,7 +4,7 @@ ghost use Rattle.csv_fields.specs.Record.{records_of};
 ghost use Rattle.fleet_model.specs.Windows.{no_leg};
 ghost use Rattle.fleet_model.specs.declared.limits.TheConstants.{MAX_LEGS};
 ghost use Rattle.fleet_model.specs.declared.refusals.TableFile.TheVariants as file;
-ghost use Rattle.optional_legs.specs.Adding.{HaveOptional, ReadsOptional, leg_with, skip_in};
+ghost use Rattle.optional_legs.specs.Adding.{HaveOptional, ReadsOptional, skip_in, skippable_leg};
 ghost use Rattle.optional_legs.specs.Optional.{AreOptional, OptionalBad};
 ghost use Rattle.sums.specs.Places.{list_below};
 ghost use Rattle.table_rows.specs.Outcome.{IsFirstFault};
@@ -48,7 +48,7 @@ fn with_optional(tables: Tables, optional: &[OptionalLeg]) -> Tables
 // Says of each leg what it costs to leave it out.
 fn give_skips(legs: &mut Vec<Leg>, optional: &[OptionalLeg])
     requires { length legs.old.items ≤ MAX_LEGS }
-    ensures { legs.new.items ≡ list_below (λ l. leg_with (slice_index_or legs.old.items l no_leg) (skip_in optional.now l)) (length legs.old.items) }
+    ensures { legs.new.items ≡ list_below (λ l. skippable_leg (slice_index_or legs.old.items l no_leg) (skip_in optional.now l)) (length legs.old.items) }
 {
     for place in 0..legs.len() {
         give(&mut legs[place], skip_in(optional, place as u32));
@@ -57,7 +57,7 @@ fn give_skips(legs: &mut Vec<Leg>, optional: &[OptionalLeg])
 
 // Says of a leg what it costs to leave it out.
 fn give(leg: &mut Leg, skip: Option<i128>)
-    ensures { leg.new ≡ leg_with leg.old skip }
+    ensures { leg.new ≡ skippable_leg leg.old skip }
 {
     leg.skip = skip;
 }

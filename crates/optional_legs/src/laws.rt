@@ -2,7 +2,7 @@
 //! contract is the statement, and it does nothing.
 ghost use Rattle.std.specs.Prelude.{◌≡◌};
 ghost use Rattle.optional_legs.specs.declared.optional.TheConstants.{MAX_OPTIONAL};
-ghost use Rattle.optional_legs.specs.Laws.{OneFirstFault, OneReading, OptionalOrFault, OptionalOrFaultNotBoth};
+ghost use Rattle.optional_legs.specs.Laws.{OneFirstOptionalFault, OneOptionalReading, OptionalOrFault, OptionalOrFaultNotBoth};
 
 /// A file reads as optional legs of the tables, or it has a first fault.
 pub fn optional_or_fault()
@@ -16,12 +16,12 @@ pub fn optional_or_fault_not_both()
 
 /// With the optional legs of a file there is one set of tables at most.
 pub fn one_reading()
-    ensures { OneReading }
+    ensures { OneOptionalReading }
 {}
 
 /// A file has one first fault at most.
 pub fn one_first_fault()
-    ensures { OneFirstFault }
+    ensures { OneFirstOptionalFault }
 {}
 
 /// The most records of the table in numbers.

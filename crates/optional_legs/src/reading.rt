@@ -4,7 +4,7 @@ ghost use Rattle.csv_fields.specs.Record.{records_of};
 ghost use Rattle.fleet_model.specs.declared.limits.TheConstants.{MAX_LEGS};
 ghost use Rattle.fleet_model.specs.declared.refusals.TableFile.TheVariants as file;
 ghost use Rattle.fleet_tables.specs.Costs.{flight_of};
-ghost use Rattle.optional_legs.specs.Optional.{AreOptional, OptionalBad, OptionalRead, key_of, optional_read};
+ghost use Rattle.optional_legs.specs.Optional.{AreOptional, OptionalBad, OptionalRead, optional_key, optional_read};
 ghost use Rattle.table_rows.specs.Outcome.{IsFirstFault};
 
 use crate::optional::{MAX_OPTIONAL, OptionalLeg};
@@ -57,7 +57,7 @@ impl OptionalReader {
 impl RowReader for OptionalReader {
     type Entry = OptionalLeg;
 
-    ghost key = { key_of };
+    ghost key = { optional_key };
 
     ghost keys = { λ reader. reader.optional };
 

@@ -12,7 +12,7 @@ use Rattle.fleet_model.specs.Sizes.{aircraft_by}
 use Rattle.fleet_model.specs.declared.sizes.Sizes.TheVariants as sizes
 use Rattle.fleet_model.specs.Use.{used_of}
 use Rattle.fleet_model.proofs.OtherSizes.{aircraft_elsewhere, aircraft_there, allowed_same, arrived_same, assignment_same, balanced_same, cost_same, days_same, departed_same, fleets_same, legs_same, parked_same, parking_same, period_same, room_same, stations_same, total_cost_same, used_same}
-use Rattle.plan_judge.specs.Sizes.{FirstTooManyBy, IsLegalBy, IsVerdictBy, IsWithinBy}
+use Rattle.plan_judge.specs.Sizes.{FirstTooManyBy, IsLegalBySizes, IsVerdictBy, IsWithinBy}
 use Rattle.plan_judge.specs.Verdicts.{Balances, FirstCrowded, FirstNotAllowed, FirstTooMany, FirstUnbalanced, HasRoomOn, IsVerdict}
 use Rattle.plan_judge.specs.declared.verdicts.Verdict.{Verdict}
 use Rattle.plan_judge.specs.declared.verdicts.Verdict.TheVariants as verdict
@@ -99,7 +99,7 @@ module _ (t : Tables) (fleet count : ℕ) (known : fleet < fleets_in t) (u : Tab
       room : (s d : ℕ) → HasRoomOn t a s d → HasRoomOn u a s d
       room s d was limit limited = subst (λ n. n ≤ limit) (sym (parked_same t fleet count u is (weights_of a) s d)) (was limit (sym (parking_same t fleet count u is s) ∙ limited))
 
-  legal_there : IsLegalBy t (sizes.Other fleet count) a → IsLegal u a
+  legal_there : IsLegalBySizes t (sizes.Other fleet count) a → IsLegal u a
   legal_there was = record {
     assignment = assignment_same t fleet count u is a was.assignment;
     allowed = allowed_same t fleet count u is a was.allowed;

@@ -28,7 +28,7 @@ abbrev pub IsFirstTooManyBy : Tables → Sizes → List ℕ → Overuse → Type
 IsFirstTooManyBy t by a found = FirstTooManyBy t by a found.fleet found.used found.has
 
 -- an assignment that is legal
-pub record IsLegalBy (t : Tables) (by : Sizes) (a : List ℕ) : Type 0 where
+pub record IsLegalBySizes (t : Tables) (by : Sizes) (a : List ℕ) : Type 0 where
   pub assignment : IsAssignment t a
   pub allowed : IsAllowed t a
   pub balanced : IsBalanced t (weights_of a)
@@ -41,15 +41,15 @@ IsVerdictBy t by a (verdict.NotAllowed leg) = FirstNotAllowed t a leg
 IsVerdictBy t by a (verdict.Unbalanced fleet station came left) = IsAllowed t a × FirstUnbalanced t a fleet station came left
 IsVerdictBy t by a (verdict.TooMany fleet used has) = IsAllowed t a × IsBalanced t (weights_of a) × FirstTooManyBy t by a fleet used has
 IsVerdictBy t by a (verdict.Crowded station day stands cap) = IsAllowed t a × IsBalanced t (weights_of a) × IsWithinBy t by a × FirstCrowded t a station day stands cap
-IsVerdictBy t by a (verdict.Legal cost) = IsLegalBy t by a × (cost ≡ total_cost t a)
+IsVerdictBy t by a (verdict.Legal cost) = IsLegalBySizes t by a × (cost ≡ total_cost t a)
 
 -- the cost of which a verdict tells
-abbrev pub cost_in : Verdict → Option ℤ
-cost_in (verdict.NotAllowed leg) = None
-cost_in (verdict.Unbalanced fleet station came left) = None
-cost_in (verdict.TooMany fleet used has) = None
-cost_in (verdict.Crowded station day stands cap) = None
-cost_in (verdict.Legal cost) = Some cost
+abbrev pub cost_judged : Verdict → Option ℤ
+cost_judged (verdict.NotAllowed leg) = None
+cost_judged (verdict.Unbalanced fleet station came left) = None
+cost_judged (verdict.TooMany fleet used has) = None
+cost_judged (verdict.Crowded station day stands cap) = None
+cost_judged (verdict.Legal cost) = Some cost
 
 -- an assignment is legal, and costs this
 pub record IsLegalAt (t : Tables) (plan : List ℕ) (cost : ℤ) : Type 0 where

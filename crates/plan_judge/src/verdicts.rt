@@ -5,7 +5,7 @@ ghost use Rattle.fleet_model.specs.Legal.{IsAssignment, IsLegal, total_cost};
 ghost use Rattle.fleet_model.specs.OtherSizes.{IsOtherSize};
 ghost use Rattle.fleet_model.specs.Schedule.{fleets_in};
 ghost use Rattle.fleet_model.specs.Sizes.{AreSizes, HoldsBy};
-ghost use Rattle.plan_judge.specs.Sizes.{IsLegalAt, IsVerdictBy, cost_in};
+ghost use Rattle.plan_judge.specs.Sizes.{IsLegalAt, IsVerdictBy, cost_judged};
 ghost use Rattle.plan_judge.specs.Verdicts.{IsVerdict};
 
 use crate::balance::first_unbalanced;
@@ -84,7 +84,7 @@ pub fn legal_cost(tables: &Tables, sizes: Sizes, plan: &Assignment) -> Option<i1
 
 // The cost of which a verdict tells.
 fn cost_in(verdict: Verdict) -> Option<i128>
-    ensures { result ≡ cost_in verdict }
+    ensures { result ≡ cost_judged verdict }
 {
     match verdict {
         Verdict::Legal { cost } => Some(cost),

@@ -5,17 +5,17 @@ use Rattle.fleet_model.specs.declared.tables.Tables.{Tables}
 use Rattle.fleet_model.specs.Legal.{IsLegal}
 use Rattle.fleet_model.specs.Schedule.{fleets_in, legs_in}
 use Rattle.fleet_model.specs.Plain.{IsPlain}
-use Rattle.ground_turns.specs.Maps.{IsHeld}
+use Rattle.ground_turns.specs.Maps.{IsHeldByMap}
 use Rattle.ground_turns.specs.Throughs.{IsThroughSet, value_of_set}
 use Rattle.ground_turns.proofs.SomeMap.{some_fits}
-use Rattle.through_flights.specs.Choice.{AreListed, ReachTurns, sum_of}
+use Rattle.through_flights.specs.Choice.{AreThroughsListed, ReachTurns, sum_of}
 use Rattle.through_flights.proofs.NoneMore.{none_more}
 use Rattle.plan_rotations.specs.Rotations.{AreWorthMost}
 
 -- what was chosen, with the numbers that show it
 pub record AreChosen (t : Tables) (a : List ℕ) (f : ℕ) (pairs : List Connection) (value : ℤ) (u v : List ℤ) : Type 0 where
   pub through_set : IsThroughSet t a f pairs
-  pub listed : AreListed t pairs
+  pub listed : AreThroughsListed t pairs
   pub value_is : value ≡ value_of_set t pairs
   pub reach : ReachTurns t a f u v
   pub sums : (sum_of u (legs_in t) +ℤ sum_of v (legs_in t)) ≡ value
@@ -27,5 +27,5 @@ worth_most t a f pairs value u v chosen = record {
   listed = chosen.listed;
 }
 
-pub held_without : (t : Tables) (a : List ℕ) (f : ℕ) → IsPlain t → IsLegal t a → f < fleets_in t → IsHeld t a f []
+pub held_without : (t : Tables) (a : List ℕ) (f : ℕ) → IsPlain t → IsLegal t a → f < fleets_in t → IsHeldByMap t a f []
 held_without t a f plain legal known = some_fits t a f plain legal.balanced known

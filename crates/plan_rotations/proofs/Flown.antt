@@ -5,7 +5,7 @@ use Rattle.fleet_model.specs.declared.tables.Tables.{Tables}
 use Rattle.euler_rotation.specs.Answers.{IsRotation}
 use Rattle.euler_rotation.specs.declared.rotation.Rotation.{Rotation}
 use Rattle.euler_rotation.specs.declared.rotation.Rotation.TheVariants as rotation
-use Rattle.euler_rotation.specs.FleetRotations.{AreFlown, AreKept, AreRotations, IsFleetRotation, IsFlown, IsKept, IsOfLegs, rotation_of}
+use Rattle.euler_rotation.specs.FleetRotations.{AreFlown, AreKept, AreRotations, IsFleetRotation, IsKept, IsOfLegs, IsRotationFlown, rotation_of}
 use Rattle.euler_rotation.specs.declared.fleet_rotation.FleetRotation.{FleetRotation}
 use Rattle.plan_rotations.specs.Rotations.{ArePlanRotations, IsMadeRotation, IsRotationWith, are_some, is_given_up}
 use Rattle.plan_rotations.proofs.Listed.{apart_listed, order_listed, prefix_listed, tour_listed}
@@ -19,7 +19,7 @@ of_legs t a f pairs days visits rotation.None is = tt
 of_legs t a f pairs days visits (rotation.Spent order prefix) is =
     (order_listed t a f order is.visited.each_leg, prefix_listed t a f pairs days order is.visited.each_leg visits prefix is.visited.more is.visited.last)
 
-flown : (t : Tables) (a : List ℕ) (f : ℕ) (pairs : List Connection) (days visits : ℕ) (answer : Rotation) → IsRotation t a f pairs days visits answer → IsFlown t a f answer
+flown : (t : Tables) (a : List ℕ) (f : ℕ) (pairs : List Connection) (days visits : ℕ) (answer : Rotation) → IsRotation t a f pairs days visits answer → IsRotationFlown t a f answer
 flown t a f pairs days visits rotation.Unused is = tt
 flown t a f pairs days visits (rotation.TooFewNights have used) is = tt
 flown t a f pairs days visits (rotation.Apart legs) is = tt
@@ -70,7 +70,7 @@ module _ (t : Tables) (a : List ℕ) (days visits : ℕ) where
     each = λ f lt.
         let made = is.each f (omega (arith, lt, is.each_fleet)) in
         let all_of = rotation_of all f in
-        last_is t a f days visits (IsFlown t a f) (are_some all_of.pairs && is_given_up all_of.first) all_of.first all_of.second (flown t a f [] days visits)
+        last_is t a f days visits (IsRotationFlown t a f) (are_some all_of.pairs && is_given_up all_of.first) all_of.first all_of.second (flown t a f [] days visits)
         (flown t a f all_of.pairs days visits all_of.first made.first.right) made.second;
   }
 

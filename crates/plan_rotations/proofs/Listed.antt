@@ -9,10 +9,10 @@ use Rattle.fleet_model.specs.declared.parts.Connection.{Connection}
 use Rattle.fleet_model.specs.declared.tables.Tables.{Tables}
 use Rattle.fleet_model.specs.Schedule.{legs_in}
 use Rattle.ground_turns.specs.Maps.{IsTour}
-use Rattle.lines_of_flying.specs.Lines.{AreLegs}
+use Rattle.lines_of_flying.specs.Lines.{AreLegsOfTables}
 use Rattle.sums.proofs.Terms.{few_apart}
 use Rattle.cycle_join.specs.Joins.{IsApart}
-use Rattle.euler_rotation.specs.Prefixes.{may_follow, numbered, preorder, preorder_from}
+use Rattle.euler_rotation.specs.Prefixes.{may_follow, numbered_entries, preorder, preorder_from}
 use Rattle.euler_rotation.specs.Tours.{IsOrder, times_in}
 use Rattle.euler_rotation.proofs.TourTurns.{own_leg, tour_order}
 use Rattle.euler_rotation.specs.FleetRotations.{AreListed}
@@ -46,7 +46,7 @@ tour_listed t a f tour is = order_listed t a f tour (tour_order t a f tour is)
 
 -- ---- prefixes
 record IsShort (t : Tables) (most : ℕ) (legs : List ℕ) : Type 0 where
-  pub known : AreLegs t legs
+  pub known : AreLegsOfTables t legs
   pub short : length legs ≤ most
 
 all_both : (P : List ℕ → Type 0) (xs ys : List (List ℕ)) → All P xs → All P ys → All P (xs ++ ys)
@@ -75,7 +75,7 @@ all_passed P g test n each (x ∷ xs) known =
     (λ e. step false e rest)
 
 module _ (t : Tables) (a : List ℕ) (f : ℕ) (pairs : List Connection) (days : ℕ) (order : List ℕ) (is : IsOrder t a f order) where
-  longer : (front : List ℕ) (last : ℕ) → AreLegs t front → last < legs_in t → AreLegs t (front ++ last ∷ [])
+  longer : (front : List ℕ) (last : ℕ) → AreLegsOfTables t front → last < legs_in t → AreLegsOfTables t (front ++ last ∷ [])
   longer front last known lt = record { each = each }
     where
       each : (k : ℕ) → k < length (front ++ last ∷ []) → slice_index (front ++ last ∷ []) k < legs_in t
@@ -86,7 +86,7 @@ module _ (t : Tables) (a : List ℕ) (f : ℕ) (pairs : List Connection) (days :
             subst (λ l. l < legs_in t) (sym (get_or_push front last 0 k here)) lt
       ]
 
-  entries_short : (n : ℕ) (front : List ℕ) (last : ℕ) → length front + n ≤ length order → AreLegs t front → last < legs_in t
+  entries_short : (n : ℕ) (front : List ℕ) (last : ℕ) → length front + n ≤ length order → AreLegsOfTables t front → last < legs_in t
       → All (IsShort t (length order)) (preorder_from t a f pairs days order n front last)
   entries_short zero front last few known lt = λ k d within. absurd (omega (arith, within))
   entries_short (suc n) front last few known lt =
@@ -105,7 +105,7 @@ module _ (t : Tables) (a : List ℕ) (f : ℕ) (pairs : List Connection) (days :
         subst (λ n. All (IsShort t (length order)) (preorder_from t a f pairs days order n [] (slice_index order 0))) (sym empty) (λ k d lt. absurd (omega (arith, lt))))
   ]
 
-  pub prefix_listed : (visits : ℕ) (prefix : List ℕ) → visits < length (preorder t a f pairs days order) → prefix ≡ numbered (preorder t a f pairs days order) visits → AreListed t prefix
+  pub prefix_listed : (visits : ℕ) (prefix : List ℕ) → visits < length (preorder t a f pairs days order) → prefix ≡ numbered_entries (preorder t a f pairs days order) visits → AreListed t prefix
   prefix_listed zero prefix more last = subst (AreListed t) (sym last) (record { known = record { each = λ k lt. absurd (omega (arith, lt)) }; few = omega arith })
   prefix_listed (suc k) prefix more last =
       let entry = preorder_short k [] (omega (arith, more)) in

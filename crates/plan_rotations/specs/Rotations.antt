@@ -4,8 +4,8 @@ use Rattle.fleet_model.specs.declared.parts.Connection.{Connection}
 use Rattle.fleet_model.specs.declared.tables.Tables.{Tables}
 use Rattle.fleet_model.specs.Schedule.{fleets_in}
 use Rattle.ground_turns.specs.Throughs.{IsThroughSet, value_of_set}
-use Rattle.through_flights.specs.Choice.{AreListed}
-use Rattle.euler_rotation.specs.Answers.{IsComplete, IsRotation}
+use Rattle.through_flights.specs.Choice.{AreThroughsListed}
+use Rattle.euler_rotation.specs.Answers.{IsRotation, IsRotationComplete}
 use Rattle.euler_rotation.specs.declared.rotation.Rotation.{Rotation}
 use Rattle.euler_rotation.specs.declared.rotation.Rotation.TheVariants as rotation
 use Rattle.euler_rotation.specs.FleetRotations.{rotation_of}
@@ -15,12 +15,12 @@ use Rattle.euler_rotation.specs.declared.fleet_rotation.FleetRotation.{FleetRota
 pub record AreWorthMost (t : Tables) (a : List ℕ) (f : ℕ) (pairs : List Connection) : Type 0 where
   pub through_set : IsThroughSet t a f pairs
   pub most : (other : List Connection) → IsThroughSet t a f other → value_of_set t other ≤ℤ value_of_set t pairs
-  pub listed : AreListed t pairs
+  pub listed : AreThroughsListed t pairs
 
 -- what becomes of the rotation with given pairs
 pub record IsRotationWith (t : Tables) (a : List ℕ) (f : ℕ) (pairs : List Connection) (days visits : ℕ) (answer : Rotation) : Type 0 where
   pub right : IsRotation t a f pairs days visits answer
-  pub complete : IsComplete t a f pairs days visits answer
+  pub complete : IsRotationComplete t a f pairs days visits answer
 
 -- the pairs stand in the way, or may: no tour holds them, no kept one, or the search was given up
 abbrev pub is_given_up : Rotation → Bool

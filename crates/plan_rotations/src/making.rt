@@ -2,7 +2,7 @@ ghost use Rattle.std.specs.Prelude.{◌≡◌, ◌<◌, ◌≤◌, ◌&&◌, len
 ghost use Rattle.fleet_model.specs.Legal.{IsLegal};
 ghost use Rattle.fleet_model.specs.Schedule.{fleets_in};
 ghost use Rattle.fleet_model.specs.Plain.{IsPlain};
-ghost use Rattle.ground_turns.specs.Maps.{IsHeld};
+ghost use Rattle.ground_turns.specs.Maps.{IsHeldByMap};
 ghost use Rattle.euler_rotation.specs.FleetRotations.{AreFlown, AreKept, AreRotations, rotation_of};
 ghost use Rattle.plan_rotations.specs.Rotations.{ArePlanRotations, AreWorthMost, IsMadeIf, IsMadeRotation, IsRotationWith, are_some, is_given_up};
 
@@ -141,7 +141,7 @@ fn rotated(
 ) -> Result<Rotation, NoMemory>
     requires plan { IsLegal tables.now plan.now }
     requires fleet { fleet < fleets_in tables.now }
-    requires held { IsHeld tables.now plan.now fleet pairs.now }
+    requires held { IsHeldByMap tables.now plan.now fleet pairs.now }
     requires some_days { 0 < days }
     requires few_days { days ≤ 30 }
     ensures { IfOk result (IsRotationWith tables.now plan.now fleet pairs.now days visits) }

@@ -18,10 +18,10 @@ use Rattle.fleet_model.specs.declared.tables.Tables.{Tables}
 use Rattle.fleet_model.proofs.Departures.{block_chosen, block_fleet, block_slot, in_block, slot_within, some_times}
 use Rattle.fleet_model.proofs.FewChoices.{few_choices}
 use Rattle.fleet_model.proofs.LeftOut.{last_choice}
-use Rattle.table_rows.specs.Names.{number_of}
+use Rattle.table_rows.specs.Names.{number_of_name}
 use Rattle.table_rows.proofs.FrontReading.{bytes_eq-self}
 use Rattle.plan_text.specs.Reading.{choice_with, has_minutes, has_texts, slot_with}
-use Rattle.plan_text.specs.Text.{fleet_text, minutes_by, shift_text}
+use Rattle.plan_text.specs.Text.{fleet_text, shift_minutes, shift_text}
 use Rattle.plan_text.proofs.FleetNames.{named, numbered}
 
 -- ---- the first number that passes a test
@@ -55,13 +55,13 @@ one_passes p n m before passes within =
 pub flown_name : (t : Tables) (p : Pair) → fleet_by t p < fleets_in t → fleet_text t p ≡ (fleet_of t (fleet_by t p)).name
 flown_name t p flown = ap (λ b. if b then (fleet_of t (fleet_by t p)).name else codes "-") (lt-ltb (fleet_by t p) (fleets_in t) flown)
 
-pub flown_minutes : (t : Tables) (p : Pair) → fleet_by t p < fleets_in t → minutes_by t p ≡ (shift_by t p).minutes
+pub flown_minutes : (t : Tables) (p : Pair) → fleet_by t p < fleets_in t → shift_minutes t p ≡ (shift_by t p).minutes
 flown_minutes t p flown = ap (λ b. if b then (shift_by t p).minutes else pos 0) (lt-ltb (fleet_by t p) (fleets_in t) flown)
 
 pub out_name : (t : Tables) (p : Pair) → fleets_in t ≤ fleet_by t p → fleet_text t p ≡ codes "-"
 out_name t p out = ap (λ b. if b then (fleet_of t (fleet_by t p)).name else codes "-") (le-ltb (fleet_by t p) (fleets_in t) out)
 
-pub out_minutes : (t : Tables) (p : Pair) → fleets_in t ≤ fleet_by t p → minutes_by t p ≡ pos 0
+pub out_minutes : (t : Tables) (p : Pair) → fleets_in t ≤ fleet_by t p → shift_minutes t p ≡ pos 0
 out_minutes t p out = ap (λ b. if b then (shift_by t p).minutes else pos 0) (le-ltb (fleet_by t p) (fleets_in t) out)
 
 -- no name is -
@@ -77,7 +77,7 @@ pub record IsSmall (z : ℤ) : Type 0 where
   pub least : neg_ℤ (pos 720) ≤ℤ z
   pub most : z ≤ℤ pos 720
 
-pub small_minutes : (t : Tables) (l c : ℕ) → l < legs_in t → IsSmall (minutes_by t (leg_on l c))
+pub small_minutes : (t : Tables) (l c : ℕ) → l < legs_in t → IsSmall (shift_minutes t (leg_on l c))
 small_minutes t l c leg = elim (cases_lt (fleet_by t (leg_on l c)) (fleets_in t)) [
   | inl flown ↦ (let shift = shift_fits t l c leg in rw (flown_minutes t (leg_on l c) flown) (record { least = shift.no_earlier; most = shift.no_later }))
   | inr out ↦ rw (out_minutes t (leg_on l c) out) (record { least = omega (arith, ints); most = omega (arith, ints) })
@@ -108,9 +108,9 @@ module _ (t : Tables) (l : ℕ) (leg : l < legs_in t) where
       → shift_text t (leg_on l b) ≡ shift_text t (leg_on l c) → b ≡ c
   both_flown b c flown other fleets shifts =
       let names = sym (flown_name t (leg_on l b) flown) ∙ fleets ∙ flown_name t (leg_on l c) other in
-      let numbers = sym (numbered t (by b) flown) ∙ ap (λ name. number_of name (fleet_names t)) names ∙ numbered t (by c) other in
+      let numbers = sym (numbered t (by b) flown) ∙ ap (λ name. number_of_name name (fleet_names t)) names ∙ numbered t (by c) other in
       let fleet : by b ≡ by c = some_is (by b) (by c) numbers in
-      let texts = one_number (minutes_by t (leg_on l b)) (minutes_by t (leg_on l c)) (small_minutes t l b leg) (small_minutes t l c leg) shifts in
+      let texts = one_number (shift_minutes t (leg_on l b)) (shift_minutes t (leg_on l c)) (small_minutes t l b leg) (small_minutes t l c leg) shifts in
       let minutes = sym (flown_minutes t (leg_on l b) flown) ∙ texts ∙ flown_minutes t (leg_on l c) other in
       let slot : slot_by t (leg_on l b) ≡ slot_by t (leg_on l c) =
       one_slot (leg_of t l).shifts (slot_by t (leg_on l b)) (slot_by t (leg_on l c)) (t.in_range.legs_fit.each l no_leg leg).shifts.rise
@@ -219,7 +219,7 @@ module _ (t : Tables) (l : ℕ) (leg : l < legs_in t) (shift : List ℕ) where
 
 -- ---- a leg that a fleet flies
 module _ (t : Tables) (l : ℕ) (leg : l < legs_in t) (fleet shift : List ℕ) where
-  pub flown_found : (f s : ℕ) → number_of fleet (fleet_names t) ≡ Some f → slot_with (leg_of t l).shifts shift ≡ Some s → Some (f * shifts_in t l + s) ≡ choice_with t l fleet shift
+  pub flown_found : (f s : ℕ) → number_of_name fleet (fleet_names t) ≡ Some f → slot_with (leg_of t l).shifts shift ≡ Some s → Some (f * shifts_in t l + s) ≡ choice_with t l fleet shift
   unfolding slot_with
   flown_found f s number slot =
       let name = named t fleet f number in
@@ -240,7 +240,7 @@ module _ (t : Tables) (l : ℕ) (leg : l < legs_in t) (fleet shift : List ℕ) w
   untested k true found = absurd (none_some (sym found))
   untested k false found = refl
 
-  pub flown_at_none : (f : ℕ) → number_of fleet (fleet_names t) ≡ Some f → slot_with (leg_of t l).shifts shift ≡ None → None ≡ choice_with t l fleet shift
+  pub flown_at_none : (f : ℕ) → number_of_name fleet (fleet_names t) ≡ Some f → slot_with (leg_of t l).shifts shift ≡ None → None ≡ choice_with t l fleet shift
   unfolding slot_with
   flown_at_none f number slot =
       sym (no_choice t l leg fleet shift (λ c texts. elim (cases_lt (fleet_by t (leg_on l c)) (fleets_in t)) [
@@ -254,17 +254,17 @@ module _ (t : Tables) (l : ℕ) (leg : l < legs_in t) (fleet shift : List ℕ) w
             no_dash (fleet_of t f).name (t.in_range.fleets_fit.each f no_fleet name.within).name (sym name.same ∙ texts.fleet_same ∙ out_name t (leg_on l c) out)
       ]))
 
-  pub flown_by_none : number_of fleet (fleet_names t) ≡ None → (fleet ≡ codes "-" → ⊥) → None ≡ choice_with t l fleet shift
+  pub flown_by_none : number_of_name fleet (fleet_names t) ≡ None → (fleet ≡ codes "-" → ⊥) → None ≡ choice_with t l fleet shift
   flown_by_none number other =
       sym (no_choice t l leg fleet shift (λ c texts. elim (cases_lt (fleet_by t (leg_on l c)) (fleets_in t)) [
         | inl flown ↦
             let name = texts.fleet_same ∙ flown_name t (leg_on l c) flown in
-            none_some (sym number ∙ ap (λ n. number_of n (fleet_names t)) name ∙ numbered t (fleet_by t (leg_on l c)) flown)
+            none_some (sym number ∙ ap (λ n. number_of_name n (fleet_names t)) name ∙ numbered t (fleet_by t (leg_on l c)) flown)
         | inr out ↦ other (texts.fleet_same ∙ out_name t (leg_on l c) out)
       ]))
 
   -- its number is a small one
-  pub small_choice : (f s : ℕ) → number_of fleet (fleet_names t) ≡ Some f → slot_with (leg_of t l).shifts shift ≡ Some s → f * shifts_in t l + s < 2 ^ 32
+  pub small_choice : (f s : ℕ) → number_of_name fleet (fleet_names t) ≡ Some f → slot_with (leg_of t l).shifts shift ≡ Some s → f * shifts_in t l + s < 2 ^ 32
   unfolding slot_with
   small_choice f s number slot =
       let name = named t fleet f number in

@@ -20,7 +20,7 @@ use Rattle.fleet_model.specs.declared.parts.Pair.{Pair}
 use Rattle.fleet_model.specs.declared.shifts.Shift.{Shift}
 use Rattle.fleet_model.specs.declared.tables.Tables.{Tables}
 use Rattle.fleet_model.proofs.Departures.{slot_within}
-use Rattle.plan_text.specs.Text.{fleet_text, minutes_by, pair_record, record_of, shift_text}
+use Rattle.plan_text.specs.Text.{fleet_text, pair_record, record_of, shift_minutes, shift_text}
 use Rattle.plan_text.proofs.ChoiceTexts.{IsSmall, flown_minutes, flown_name, out_minutes, out_name, small_minutes, zero_text}
 use Rattle.plan_text.proofs.NameText.{name_is_plain, name_is_text}
 
@@ -50,7 +50,7 @@ number_is_text (pos n) small = is_utf8-from_IsUtf8 (decimal n) (IsUtf8-from_asci
 number_is_text (negsuc n) small = is_utf8-from_IsUtf8 (45 ∷ decimal (suc n)) (IsUtf8-from_ascii (45 ∷ decimal (suc n)) (IsAscii-signed (negsuc n) (omega (arith, ints, small.least))))
 
 pub shift_is_text : (t : Tables) (l c : ℕ) → l < legs_in t → is_utf8 (shift_text t (leg_on l c)) ≡ true
-shift_is_text t l c leg = number_is_text (minutes_by t (leg_on l c)) (small_minutes t l c leg)
+shift_is_text t l c leg = number_is_text (shift_minutes t (leg_on l c)) (small_minutes t l c leg)
 
 digit_there : (n : ℕ) → n < 2 ^ 64 → (k d : ℕ) → k < length (decimal n) → IsAsciiDigit (slice_index_or (decimal n) k d)
 digit_there n small k d within = let numeral = (decimal_is_IsNumeral n small).0 in rw (get_or_default (decimal n) k d 0 within) (digit_at (decimal n) k numeral.1 within)
@@ -66,7 +66,7 @@ number_is_plain (pos n) small = decimal_is_plain n (omega (arith, ints, small.mo
 number_is_plain (negsuc n) small = decimal_is_plain (suc n) (omega (arith, ints, small.least))
 
 pub shift_is_plain : (t : Tables) (l c : ℕ) → l < legs_in t → list_any (needs_byte default_writer) (shift_text t (leg_on l c)) ≡ false
-shift_is_plain t l c leg = number_is_plain (minutes_by t (leg_on l c)) (small_minutes t l c leg)
+shift_is_plain t l c leg = number_is_plain (shift_minutes t (leg_on l c)) (small_minutes t l c leg)
 
 -- where each leg has its own time alone, the shift is 0
 own_minutes : (t : Tables) (l c : ℕ) → l < legs_in t → t.windows ≡ false → (shift_by t (leg_on l c)).minutes ≡ pos 0

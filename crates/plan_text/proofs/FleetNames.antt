@@ -8,7 +8,7 @@ use Rattle.std.proofs.lemmas.List.Sums.{passes_at_first, position_or_len_is}
 use Rattle.std.proofs.lemmas.Slice.Eq.{bytes_eq-Decides}
 use Rattle.fleet_model.specs.Schedule.{fleet_names, fleet_of, fleets_in, no_fleet}
 use Rattle.fleet_model.specs.declared.tables.Tables.{Tables}
-use Rattle.table_rows.specs.Names.{number_of}
+use Rattle.table_rows.specs.Names.{number_of_name}
 use Rattle.table_rows.proofs.FrontReading.{bytes_eq-self}
 use Rattle.table_rows.proofs.Numbered.{bytes_eq-differ}
 
@@ -21,7 +21,7 @@ pub record IsNamed (t : Tables) (name : List ℕ) (f : ℕ) : Type 0 where
   pub within : f < fleets_in t
   pub same : name ≡ (fleet_of t f).name
 
-pub named : (t : Tables) (name : List ℕ) (f : ℕ) → number_of name (fleet_names t) ≡ Some f → IsNamed t name f
+pub named : (t : Tables) (name : List ℕ) (f : ℕ) → number_of_name name (fleet_names t) ≡ Some f → IsNamed t name f
 named t name f found =
     let place = position_or_len (bytes_eq name) (fleet_names t) in
     elim (cases_Bool (nat_lt place (length (fleet_names t)))) [
@@ -35,7 +35,7 @@ named t name f found =
     ]
 
 -- the number of a fleet by its name, which no other has
-pub numbered : (t : Tables) (f : ℕ) → f < fleets_in t → number_of (fleet_of t f).name (fleet_names t) ≡ Some f
+pub numbered : (t : Tables) (f : ℕ) → f < fleets_in t → number_of_name (fleet_of t f).name (fleet_names t) ≡ Some f
 numbered t f within =
     let name = (fleet_of t f).name in
     let inside : f < length (fleet_names t) = omega (arith, length-map t.fleets (λ fleet. fleet.name)) in

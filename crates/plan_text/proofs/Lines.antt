@@ -15,7 +15,7 @@ use Rattle.fleet_model.specs.declared.tables.Tables.{Tables}
 use Rattle.table_rows.specs.Rows.{Fields}
 use Rattle.plan_text.specs.CsvText.{csv_text}
 use Rattle.plan_text.specs.Reading.{PlanReads}
-use Rattle.plan_text.specs.Text.{fleet_text, leg_record, leg_records, lines_of, plan_header, plan_records, plan_text, record_line, record_of, shift_text}
+use Rattle.plan_text.specs.Text.{fleet_text, leg_record, leg_records, plan_header, plan_records, plan_text, record_line, record_lines, record_of, shift_text}
 use Rattle.plan_text.proofs.FieldTexts.{fleet_is_plain, shift_is_plain}
 use Rattle.plan_text.proofs.NameText.{name_is_plain}
 
@@ -63,27 +63,27 @@ abbrev records_past : Tables → List ℕ → ℕ → ℕ → List Fields
 records_past t a first n = map (leg_record t a) (range_with_len first n)
 
 lines_back : (t : Tables) (a : List ℕ) → IsAssignment t a → (n first turns : ℕ) → first + n ≤ legs_in t → n ≤ turns
-    → records_from default_config turns st.StartRecord (lines_of (records_past t a first n)) ≡ records_past t a first n
+    → records_from default_config turns st.StartRecord (record_lines (records_past t a first n)) ≡ records_past t a first n
 unfolding records_from next_record
 lines_back t a is zero first zero within enough = refl
 lines_back t a is zero first (suc turns) within enough = refl
 lines_back t a is (suc n) first zero within enough = absurd (omega arith)
 lines_back t a is (suc n) first (suc turns) within enough =
-    rw (leg_back t a first (lines_of (records_past t a (first + 1) n)) (omega arith))
+    rw (leg_back t a first (record_lines (records_past t a (first + 1) n)) (omega arith))
     (ap (λ rows. leg_record t a first ∷ rows) (lines_back t a is n (first + 1) turns (omega arith) (omega arith)))
 
-lines_length : (t : Tables) (a : List ℕ) (n first : ℕ) → n ≤ length (lines_of (records_past t a first n))
+lines_length : (t : Tables) (a : List ℕ) (n first : ℕ) → n ≤ length (record_lines (records_past t a first n))
 lines_length t a zero first = omega arith
 lines_length t a (suc n) first =
     let more = lines_length t a n (first + 1) in
-    omega (arith, length-append (record_line (leg_record t a first)) (lines_of (records_past t a (first + 1) n)), line_length (leg_record t a first), more)
+    omega (arith, length-append (record_line (leg_record t a first)) (record_lines (records_past t a (first + 1) n)), line_length (leg_record t a first), more)
 
 text_back : (t : Tables) (a : List ℕ) (turns : ℕ) → IsAssignment t a → legs_in t < turns
-    → records_from default_config turns st.StartRecord (lines_of (plan_records t a)) ≡ plan_records t a
+    → records_from default_config turns st.StartRecord (record_lines (plan_records t a)) ≡ plan_records t a
 unfolding records_from
 text_back t a zero is enough = absurd (omega arith)
 text_back t a (suc turns) is enough =
-    rw (header_back t (lines_of (leg_records t a (legs_in t))))
+    rw (header_back t (record_lines (leg_records t a (legs_in t))))
     (ap (λ rows. plan_header t ∷ rows) (lines_back t a is (legs_in t) 0 turns (omega arith) (omega arith)))
 
 -- no mark of a byte order begins the header
@@ -99,13 +99,13 @@ reads_what_was_written t a is = record {
   assignment = is;
   same =
       let long = lines_length t a (legs_in t) 0 in
-      let turns = length (lines_of (plan_records t a)) + 1 in
-      rw (unmarked t.windows (lines_of (leg_records t a (legs_in t))))
-      (text_back t a turns is (omega (arith, length-append (record_line (plan_header t)) (lines_of (leg_records t a (legs_in t))), long)));
+      let turns = length (record_lines (plan_records t a)) + 1 in
+      rw (unmarked t.windows (record_lines (leg_records t a (legs_in t))))
+      (text_back t a turns is (omega (arith, length-append (record_line (plan_header t)) (record_lines (leg_records t a (legs_in t))), long)));
 }
 
 legs_as_csv : (t : Tables) (a : List ℕ) → IsAssignment t a → (n first : ℕ) → first + n ≤ legs_in t
-    → lines_of (records_past t a first n) ≡ flat_map (row_text default_writer) (records_past t a first n)
+    → record_lines (records_past t a first n) ≡ flat_map (row_text default_writer) (records_past t a first n)
 legs_as_csv t a is zero first within = refl
 legs_as_csv t a is (suc n) first within =
     rw (leg_is_text t a first (omega arith)) (ap (λ rest. row_text default_writer (leg_record t a first) ++ rest) (legs_as_csv t a is n (first + 1) (omega arith)))
@@ -113,7 +113,7 @@ legs_as_csv t a is (suc n) first within =
 pub is_written_as_csv : (t : Tables) (a : List ℕ) → IsAssignment t a → plan_text t a ≡ flat_map (row_text default_writer) (plan_records t a)
 unfolding plan_text
 is_written_as_csv t a is =
-    ap (λ line. line ++ lines_of (leg_records t a (legs_in t))) (header_is_text t)
+    ap (λ line. line ++ record_lines (leg_records t a (legs_in t))) (header_is_text t)
     ∙ ap (λ rest. row_text default_writer (plan_header t) ++ rest) (legs_as_csv t a is (legs_in t) 0 (omega arith))
 
 -- the same, in the words of what a writer has written

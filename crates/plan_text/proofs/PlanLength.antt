@@ -9,7 +9,7 @@ use Rattle.fleet_model.specs.Counts.{choice_at, pair_at}
 use Rattle.fleet_model.specs.Schedule.{fleet_by, fleets_in, leg_of, legs_in, no_fleet, no_leg}
 use Rattle.fleet_model.specs.declared.parts.Pair.{Pair}
 use Rattle.fleet_model.specs.declared.tables.Tables.{Tables}
-use Rattle.plan_text.specs.Text.{fleet_text, leg_record, leg_records, lines_of, minutes_by, plan_header, plan_text, record_line, record_of, shift_text}
+use Rattle.plan_text.specs.Text.{fleet_text, leg_record, leg_records, plan_header, plan_text, record_line, record_lines, record_of, shift_minutes, shift_text}
 use Rattle.plan_text.proofs.ChoiceTexts.{IsSmall, flown_name, out_name, small_minutes}
 
 fleet_length : (t : Tables) (p : Pair) → length (fleet_text t p) ≤ 8
@@ -31,7 +31,7 @@ line_length false flight fleet shift first second third = omega (arith, length-a
 leg_length : (t : Tables) (a : List ℕ) (l : ℕ) → l < legs_in t → length (record_line (leg_record t a l)) ≤ 23
 leg_length t a l leg =
     line_length t.windows (leg_of t l).flight (fleet_text t (pair_at a l)) (shift_text t (pair_at a l)) (t.in_range.legs_fit.each l no_leg leg).flight.1
-    (fleet_length t (pair_at a l)) (number_length (minutes_by t (pair_at a l)) (small_minutes t l (choice_at a l) leg))
+    (fleet_length t (pair_at a l)) (number_length (shift_minutes t (pair_at a l)) (small_minutes t l (choice_at a l) leg))
 
 legs_length : (t : Tables) (a : List ℕ) (first n : ℕ) → first + n ≤ legs_in t → length (flat_map record_line (map (leg_record t a) (range_with_len first n))) ≤ 23 * n
 legs_length t a first zero within = omega arith
@@ -50,4 +50,4 @@ header_length false = omega arith
 pub plan_length : (t : Tables) (a : List ℕ) → length (plan_text t a) ≤ 19 + 23 * legs_in t
 unfolding plan_text
 plan_length t a =
-    omega (arith, length-append (record_line (plan_header t)) (lines_of (leg_records t a (legs_in t))), header_length t.windows, legs_length t a 0 (legs_in t) (omega arith))
+    omega (arith, length-append (record_line (plan_header t)) (record_lines (leg_records t a (legs_in t))), header_length t.windows, legs_length t a 0 (legs_in t) (omega arith))

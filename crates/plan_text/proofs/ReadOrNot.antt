@@ -8,7 +8,7 @@ use Rattle.fleet_model.specs.Counts.{choice_at}
 use Rattle.fleet_model.specs.Legal.{IsAssignment}
 use Rattle.fleet_model.specs.Schedule.{legs_in}
 use Rattle.fleet_model.specs.declared.tables.Tables.{Tables}
-use Rattle.table_rows.specs.Rows.{Fields, IsUnder, LacksHeader, row_at}
+use Rattle.table_rows.specs.Rows.{Fields, IsUnder, LacksHeader, record_at}
 use Rattle.plan_text.specs.Reading.{IsFirstPlanFault, IsFirstRowFault, PlanBad, PlanReads, ReadsOrNot, PlanRowsBad, fault_at, choice_read}
 use Rattle.plan_text.specs.declared.faults.PlanError.{PlanError}
 use Rattle.plan_text.specs.declared.faults.PlanError.TheVariants as plan
@@ -47,16 +47,16 @@ FrontOrBad : Tables → List Fields → ℕ → Type 0
 FrontOrBad t rows place = ((a : List ℕ) × ReadSoFar t rows place a) ⊎ ((row : ℕ) × (kind : ℕ) × PlanRowsBad t rows row kind)
 
 one_more : (t : Tables) (rows : List Fields) (place : ℕ) (a : List ℕ) → ReadSoFar t rows place a → place < length rows
-    → (o : Result ℕ ℕ) → choice_read t place (row_at rows place) ≡ o → FrontOrBad t rows (place + 1)
+    → (o : Result ℕ ℕ) → choice_read t place (record_at rows place) ≡ o → FrontOrBad t rows (place + 1)
 unfolding FrontOrBad
-one_more t rows place a so_far within (Ok c) read = inl (_, so_far_push t rows place a _ (row_at rows place) c so_far within refl read refl)
-one_more t rows place a so_far within (Err kind) read = inr (place + 2, kind, so_far_bad t rows place a (row_at rows place) (place + 2) kind so_far within refl read refl)
+one_more t rows place a so_far within (Ok c) read = inl (_, so_far_push t rows place a _ (record_at rows place) c so_far within refl read refl)
+one_more t rows place a so_far within (Err kind) read = inr (place + 2, kind, so_far_bad t rows place a (record_at rows place) (place + 2) kind so_far within refl read refl)
 
 front : (t : Tables) (rows : List Fields) (place : ℕ) → place ≤ length rows → FrontOrBad t rows place
 unfolding FrontOrBad
 front t rows zero within = inl ([], so_far_none t rows [] refl)
 front t rows (suc place) within = elim (front t rows place (omega arith)) [
-  | inl some ↦ rw (← add-one) (one_more t rows place some.0 some.1 (omega arith) (choice_read t place (row_at rows place)) refl)
+  | inl some ↦ rw (← add-one) (one_more t rows place some.0 some.1 (omega arith) (choice_read t place (record_at rows place)) refl)
   | inr bad ↦ inr bad
 ]
 
@@ -104,7 +104,7 @@ one_plan t records a b reads others =
     (let leg : k < legs_in t = omega (arith, reads.assignment.each_leg) in
     let there : k < length b = omega arith in
     let records_same : leg_record t a k ≡ leg_record t b k =
-    sym (leg_record_at t a k [] leg) ∙ ap (λ rows. row_at rows k) same ∙ leg_record_at t b k [] leg in
+    sym (leg_record_at t a k [] leg) ∙ ap (λ rows. record_at rows k) same ∙ leg_record_at t b k [] leg in
     let left = pair_reads t k (choice_at a k) leg (reads.assignment.known k leg) in
     let right = pair_reads t k (choice_at b k) leg (others.assignment.known k leg) in
     let choices : choice_at a k ≡ choice_at b k = (let ok = sym left ∙ ap (choice_read t k) records_same ∙ right in cc ok) in

@@ -10,10 +10,10 @@ use Rattle.fleet_model.specs.Legal.{IsAssignment}
 use Rattle.fleet_model.specs.Schedule.{legs_in}
 use Rattle.fleet_model.specs.declared.tables.Tables.{Tables}
 use Rattle.table_rows.specs.Outcome.{IsFaultOf}
-use Rattle.table_rows.specs.Rows.{Fields, row_at}
+use Rattle.table_rows.specs.Rows.{Fields, record_at}
 use Rattle.table_rows.specs.declared.faults.RecordError.{RecordError}
 use Rattle.table_rows.specs.declared.faults.RecordError.TheVariants as refused
-use Rattle.plan_text.specs.Reading.{IsFirstRowFault, PlanRowsBad, choice_read, fault_at, refusal_at}
+use Rattle.plan_text.specs.Reading.{IsFirstRowFault, PlanRowsBad, choice_read, fault_at, plan_refusal_at}
 use Rattle.plan_text.specs.declared.faults.PlanError.{PlanError}
 use Rattle.plan_text.specs.declared.faults.TheConstants.{WRONG_COUNT}
 use Rattle.plan_text.specs.Text.{leg_record, leg_records}
@@ -24,7 +24,7 @@ pub record ReadSoFar (t : Tables) (rows : List Fields) (place : ℕ) (a : List �
   pub count : place ≡ length a
   pub few : place ≤ legs_in t
   pub present : place ≤ length rows
-  pub each : (l : ℕ) → l < place → choice_read t l (row_at rows l) ≡ Ok (choice_at a l)
+  pub each : (l : ℕ) → l < place → choice_read t l (record_at rows l) ≡ Ok (choice_at a l)
 
 -- all records were read
 pub record AreRead (t : Tables) (rows : List Fields) (a : List ℕ) : Type 0 where
@@ -35,7 +35,7 @@ pub so_far_none : (t : Tables) (rows : List Fields) (a : List ℕ) → a ≡ [] 
 so_far_none t rows a none = rw none (record { count = refl; few = omega arith; present = omega arith; each = λ l below. absurd (omega arith) })
 
 pub so_far_push : (t : Tables) (rows : List Fields) (place : ℕ) (a grown : List ℕ) (fields : Fields) (c : ℕ) → ReadSoFar t rows place a → place < length rows
-    → fields ≡ row_at rows place → choice_read t place fields ≡ Ok c → grown ≡ a ++ c ∷ [] → ReadSoFar t rows (place + 1) grown
+    → fields ≡ record_at rows place → choice_read t place fields ≡ Ok c → grown ≡ a ++ c ∷ [] → ReadSoFar t rows (place + 1) grown
 so_far_push t rows place a grown fields c so_far within row read added = rw added (record {
   count = omega (arith, length-append {A = ℕ}, so_far.count);
   few = omega (arith, (read_at t place fields c read).leg);
@@ -55,7 +55,7 @@ before_place t rows place a so_far l below =
     rw (slice_get-get_or rows l [] there, so_far.each l below) refl
 
 pub so_far_bad : (t : Tables) (rows : List Fields) (place : ℕ) (a : List ℕ) (fields : Fields) (row kind : ℕ) → ReadSoFar t rows place a → place < length rows
-    → fields ≡ row_at rows place → choice_read t place fields ≡ Err kind → row ≡ place + 2 → PlanRowsBad t rows row kind
+    → fields ≡ record_at rows place → choice_read t place fields ≡ Err kind → row ≡ place + 2 → PlanRowsBad t rows row kind
 so_far_bad t rows place a fields row kind so_far within is fault number = record {
   place = place;
   before = before_place t rows place a so_far;
@@ -64,7 +64,7 @@ so_far_bad t rows place a fields row kind so_far within is fault number = record
 }
 
 pub so_far_error : (t : Tables) (rows : List Fields) (place : ℕ) (a : List ℕ) (fields : Fields) (error : RecordError) (answer : PlanError) → ReadSoFar t rows place a → place < length rows
-    → fields ≡ row_at rows place → IsFaultOf (choice_read t place fields) error → answer ≡ refusal_at place error → IsFirstRowFault t rows answer
+    → fields ≡ record_at rows place → IsFaultOf (choice_read t place fields) error → answer ≡ plan_refusal_at place error → IsFirstRowFault t rows answer
 so_far_error t rows place a fields (refused.Bad kind) answer so_far within is fault told = rw told (so_far_bad t rows place a fields (place + 2) kind so_far within is fault refl)
 so_far_error t rows place a fields refused.NoMemory answer so_far within is fault told = rw told tt
 
@@ -85,11 +85,11 @@ so_far_all t rows place a so_far end enough =
     record {
       assignment = record {
         each_leg = omega (arith, so_far.count);
-        known = λ l leg. (read_at t l (row_at rows l) (choice_at a l) (so_far.each l (omega arith))).choice;
+        known = λ l leg. (read_at t l (record_at rows l) (choice_at a l) (so_far.each l (omega arith))).choice;
       };
       same = same_lists rows (leg_records t a (legs_in t)) (omega (arith, length-map-range_with_len (leg_record t a) 0 (legs_in t)))
           (λ k d within.
           (let leg : k < legs_in t = omega arith in
-          let read = read_at t k (row_at rows k) (choice_at a k) (so_far.each k (omega arith)) in
+          let read = read_at t k (record_at rows k) (choice_at a k) (so_far.each k (omega arith)) in
           get_or_default rows k d [] within ∙ read.same ∙ sym (leg_record_at t a k d leg)));
     }

@@ -16,8 +16,8 @@ abbrev pub TextWriter : Type 0
 TextWriter = Writer (Vec ℕ Global)
 
 -- what it has written
-abbrev pub text_in : TextWriter → List ℕ
-text_in writer = (writer_under writer).items ++ writer_pending writer
+abbrev pub written_text : TextWriter → List ℕ
+written_text writer = (writer_under writer).items ++ writer_pending writer
 
 -- it writes as by default, and stands between two records
 pub record IsBetweenRecords (writer : TextWriter) : Type 0 where
@@ -28,4 +28,4 @@ pub record IsBetweenRecords (writer : TextWriter) : Type 0 where
 -- it has written these records
 pub record HasWritten (old new : TextWriter) (records : List Fields) : Type 0 where
   pub between : IsBetweenRecords new
-  pub text : text_in new ≡ text_in old ++ csv_text records
+  pub text : written_text new ≡ written_text old ++ csv_text records

@@ -95,9 +95,9 @@ IsFirstRowFault t rows (plan.Fault fault) = PlanRowsBad t rows fault.row fault.k
 IsFirstRowFault t rows plan.NoMemory = ⊤
 
 -- the refusal for a fault of the record at a place below the header, counted from 0
-abbrev pub refusal_at : ℕ → RecordError → PlanError
-refusal_at place (refused.Bad kind) = plan.Fault (record { row = place + 2; kind = kind })
-refusal_at place refused.NoMemory = plan.NoMemory
+abbrev pub plan_refusal_at : ℕ → RecordError → PlanError
+plan_refusal_at place (refused.Bad kind) = plan.Fault (record { row = place + 2; kind = kind })
+plan_refusal_at place refused.NoMemory = plan.NoMemory
 
 -- any records are those of one plan or have one first fault, and not both
 pub record ReadsOrNot (t : Tables) (records : List Fields) : Type 0 where

@@ -24,11 +24,11 @@ abbrev pub fleet_text : Tables → Pair → List ℕ
 fleet_text t p = if nat_lt (fleet_by t p) (fleets_in t) then (fleet_of t (fleet_by t p)).name else codes "-"
 
 -- by how many minutes a pair is flown later than at its leg's own time, and 0 where it leaves the leg out
-abbrev pub minutes_by : Tables → Pair → ℤ
-minutes_by t p = if nat_lt (fleet_by t p) (fleets_in t) then (shift_by t p).minutes else pos 0
+abbrev pub shift_minutes : Tables → Pair → ℤ
+shift_minutes t p = if nat_lt (fleet_by t p) (fleets_in t) then (shift_by t p).minutes else pos 0
 
 abbrev pub shift_text : Tables → Pair → List ℕ
-shift_text t p = signed_decimal (minutes_by t p)
+shift_text t p = signed_decimal (shift_minutes t p)
 
 -- the record of a leg with one of its choices
 abbrev pub pair_record : Tables → ℕ → ℕ → Fields
@@ -51,9 +51,9 @@ abbrev pub record_line : Fields → List ℕ
 record_line fields = join_with_byte comma fields ++ line_feed ∷ []
 
 -- the lines of records
-abbrev pub lines_of : List Fields → List ℕ
-lines_of = flat_map record_line
+abbrev pub record_lines : List Fields → List ℕ
+record_lines = flat_map record_line
 
 -- the text of a plan
 unfoldable pub plan_text : Tables → List ℕ → List ℕ
-plan_text t a = lines_of (plan_records t a)
+plan_text t a = record_lines (plan_records t a)

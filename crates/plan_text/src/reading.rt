@@ -2,7 +2,7 @@ ghost use Rattle.std.specs.Prelude.{◌≡◌, ◌⊎◌, ◌+◌, ◌^◌, ◌<
 ghost use Rattle.csv_fields.specs.Record.{records_of};
 ghost use Rattle.fleet_model.specs.Legal.{IsAssignment};
 ghost use Rattle.fleet_model.specs.Schedule.{fleet_names, legs_in};
-ghost use Rattle.plan_text.specs.Reading.{IsFirstPlanFault, IsFirstRowFault, PlanReads, choice_read, refusal_at, texts_in};
+ghost use Rattle.plan_text.specs.Reading.{IsFirstPlanFault, IsFirstRowFault, PlanReads, choice_read, plan_refusal_at, texts_in};
 ghost use Rattle.plan_text.specs.Text.{leg_records, record_of};
 ghost use Rattle.plan_text.specs.declared.faults.PlanError.TheVariants as plan;
 ghost use Rattle.table_rows.specs.Outcome.{IsFaultOf};
@@ -85,7 +85,7 @@ fn choices_of(
 /// The fault of the record at a place below the header, counted from 0, or want of memory.
 fn fault_at(place: usize, error: RecordError) -> PlanError
     requires { place + 2 < 2 ^ 64 }
-    ensures { result ≡ refusal_at place error }
+    ensures { result ≡ plan_refusal_at place error }
 {
     match error {
         RecordError::Bad { kind } => PlanError::Fault(PlanFault {

@@ -10,7 +10,7 @@ use Rattle.fleet_model.specs.declared.tables.Tables.{Tables}
 use Rattle.fleet_model.proofs.FewChoices.{few_choices}
 use Rattle.presolve.specs.Cells.{AreCells, AreMore, cell_of}
 use Rattle.presolve.specs.Choices.{all_busy_alone}
-use Rattle.presolve.specs.Rules.{busy_alone, departures, flies, flown_on, landings}
+use Rattle.presolve.specs.Rules.{busy_alone, departures, flies, kept_flown_on, landings}
 use Rattle.presolve.specs.declared.cells.TheConstants.{CELL_WIDTH}
 use Rattle.presolve.proofs.AloneLaws.{few_below, not_alone}
 use Rattle.presolve.proofs.CellLaws.{few_minutes, few_stations, fewer_places, more_there, same_there}
@@ -34,10 +34,10 @@ module _ (t : Tables) (keeps : Domains) (place : ℕ → ℕ) (leg : ℕ) where
   few_counted_there cells are f s known there = omega (arith, are.each f s known there, few_counted t keeps place f s leg)
 
   pub one_leg_more : (station : ℕ) (cells new : List ℕ) → station ≡ place leg → AreCounted cells leg
-      → AreMore (λ f s. if station == s then flown_on t keeps f leg else 0) (fleets_in t) (stations_in t) cells new → AreCounted new (leg + 1)
+      → AreMore (λ f s. if station == s then kept_flown_on t keeps f leg else 0) (fleets_in t) (stations_in t) cells new → AreCounted new (leg + 1)
   one_leg_more station cells new there are grown =
-      more_there cells new (λ f s. sum_below (counted t keeps place f s) leg) (λ f s. sum_below (counted t keeps place f s) (leg + 1)) (λ f s. if station == s then flown_on t keeps f leg else 0) (fleets_in t) (stations_in t) are grown
-      (λ f s known. next (counted t keeps place f s) leg ∙ ap (λ k. sum_below (counted t keeps place f s) leg + (if k == s then flown_on t keeps f leg else 0)) (sym there))
+      more_there cells new (λ f s. sum_below (counted t keeps place f s) leg) (λ f s. sum_below (counted t keeps place f s) (leg + 1)) (λ f s. if station == s then kept_flown_on t keeps f leg else 0) (fleets_in t) (stations_in t) are grown
+      (λ f s known. next (counted t keeps place f s) leg ∙ ap (λ k. sum_below (counted t keeps place f s) leg + (if k == s then kept_flown_on t keeps f leg else 0)) (sym there))
 
 pub all_landings : (t : Tables) (keeps : Domains) (leg : ℕ) (cells : List ℕ) → leg ≡ legs_in t → AreCounted t keeps (λ l. (leg_of t l).to) leg cells leg → AreCells cells (landings t keeps) (fleets_in t) (stations_in t)
 unfolding landings
@@ -81,8 +81,8 @@ module _ (t : Tables) (keeps : Domains) (leg station : ℕ) where
   }
 
   pub all_choices : (n : ℕ) (old new : List ℕ) → n ≡ choices_in t leg → AreMore (added n) (fleets_in t) (stations_in t) old new
-      → AreMore (λ f s. if station == s then flown_on t keeps f leg else 0) (fleets_in t) (stations_in t) old new
-  unfolding flown_on
+      → AreMore (λ f s. if station == s then kept_flown_on t keeps f leg else 0) (fleets_in t) (stations_in t) old new
+  unfolding kept_flown_on
   all_choices n old new all more = record {
     width = more.width;
     each = λ f s known there. more.each f s known there ∙ ap (λ k. cell_of old f s + (if station == s then count_below (flies t keeps f leg) k else 0)) all;

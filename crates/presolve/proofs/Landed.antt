@@ -14,34 +14,34 @@ use Rattle.fleet_model.specs.declared.parts.Pair.{Pair}
 use Rattle.fleet_model.specs.declared.tables.Tables.{Tables}
 use Rattle.fleet_model.proofs.FewChoices.{few_choices}
 use Rattle.dual_bound.specs.Bound.{part}
-use Rattle.presolve.specs.Rules.{departures, flies, flown_on, landings}
+use Rattle.presolve.specs.Rules.{departures, flies, kept_flown_on, landings}
 use Rattle.presolve.proofs.KeptParts.{is_removed, on_other_choices, on_others}
 
 -- kept pairs of a fleet, counted where their legs have a place
 abbrev pub counted : Tables → Domains → (ℕ → ℕ) → ℕ → ℕ → ℕ → ℕ
-counted t keeps place f s l = if place l == s then flown_on t keeps f l else 0
+counted t keeps place f s l = if place l == s then kept_flown_on t keeps f l else 0
 
-few_flown : (t : Tables) (keeps : Domains) (f l : ℕ) → flown_on t keeps f l ≤ MAX_CHOICES
-unfolding flown_on
+few_flown : (t : Tables) (keeps : Domains) (f l : ℕ) → kept_flown_on t keeps f l ≤ MAX_CHOICES
+unfolding kept_flown_on
 few_flown t keeps f l = omega (arith, count_below-le (flies t keeps f l) (choices_in t l), few_choices t l)
 
 -- so many legs count no more than all their choices
 pub few_counted : (t : Tables) (keeps : Domains) (place : ℕ → ℕ) (f s n : ℕ) → sum_below (counted t keeps place f s) n ≤ n * MAX_CHOICES
-few_counted t keeps place f s n = sum_below-bound (counted t keeps place f s) MAX_CHOICES n (record { each = λ l below. if_below (place l == s) (flown_on t keeps f l) MAX_CHOICES (few_flown t keeps f l) })
+few_counted t keeps place f s n = sum_below-bound (counted t keeps place f s) MAX_CHOICES n (record { each = λ l below. if_below (place l == s) (kept_flown_on t keeps f l) MAX_CHOICES (few_flown t keeps f l) })
 
 module _ (t : Tables) (keeps : Domains) (p : Pair) where
   abbrev after : Domains
   after = part keeps p.leg p.choice false
 
   -- of another leg as many are kept
-  other_leg : (f l : ℕ) → l ≢ p.leg → flown_on t keeps f l ≡ flown_on t after f l
-  unfolding flown_on
+  other_leg : (f l : ℕ) → l ≢ p.leg → kept_flown_on t keeps f l ≡ kept_flown_on t after f l
+  unfolding kept_flown_on
   other_leg f l other = sum_below-agree (λ c. if flies t keeps f l c then 1 else 0) (λ c. if flies t after f l c then 1 else 0) (choices_in t l)
       (record { each = λ c below. ap (λ b. if b && (fleet_by t (leg_on l c) == f) then 1 else 0) (sym (on_others keeps p.leg p.choice false (leg_on l c) other)) })
 
   -- of its own leg its fleet has one fewer
-  own_fewer : IsPair t p → keeps p ≡ true → flown_on t keeps (fleet_by t p) p.leg ≡ flown_on t after (fleet_by t p) p.leg + 1
-  unfolding flown_on
+  own_fewer : IsPair t p → keeps p ≡ true → kept_flown_on t keeps (fleet_by t p) p.leg ≡ kept_flown_on t after (fleet_by t p) p.leg + 1
+  unfolding kept_flown_on
   own_fewer pair kept =
       count_below-fewer (flies t keeps (fleet_by t p) p.leg) (flies t after (fleet_by t p) p.leg) (choices_in t p.leg) p.choice pair.choice
       (both_true (keeps p) (fleet_by t p == fleet_by t p) kept (same_number (fleet_by t p)))
@@ -58,8 +58,8 @@ module _ (t : Tables) (keeps : Domains) (p : Pair) where
       fails true false d e = e
       fails false true d e = sym e
 
-  own_same : (f : ℕ) → f ≢ fleet_by t p → flown_on t keeps f p.leg ≡ flown_on t after f p.leg
-  unfolding flown_on
+  own_same : (f : ℕ) → f ≢ fleet_by t p → kept_flown_on t keeps f p.leg ≡ kept_flown_on t after f p.leg
+  unfolding kept_flown_on
   own_same f other = sum_below-agree (λ c. if flies t keeps f p.leg c then 1 else 0) (λ c. if flies t after f p.leg c then 1 else 0) (choices_in t p.leg)
       (record { each = λ c below. ap (λ b. if b then 1 else 0) (each c (c == p.choice) refl) })
     where

@@ -16,7 +16,7 @@ use Rattle.dual_bound.specs.declared.prices.Prices.{Prices}
 use Rattle.dual_bound.specs.declared.prices.PriceStep.{PriceStep}
 use Rattle.dual_bound.proofs.NoCharges.{none_in_order}
 use Rattle.dual_bound.proofs.StepOrder.{one_figure, zero_figure}
-use Rattle.presolve.specs.Reasons.{reason_rent, reason_steps, steps_at, steps_until}
+use Rattle.presolve.specs.Reasons.{reason_rent, reason_steps, steps_until, steps_until_minute}
 use Rattle.presolve.specs.declared.rule.Rule.{Rule}
 use Rattle.presolve.specs.declared.rule.Rule.TheVariants as rule
 
@@ -93,13 +93,13 @@ module _ (t : Tables) (fleet minute : ℕ) where
   unfolding last_step steps_until
   behind_all zero s later = refl
   behind_all (suc n) s later =
-      subst (λ o. MayFollow fleet o (suc n)) (sym (last_append None (steps_until t fleet minute n) (steps_at t fleet minute n))) (behind_there (last_step None (steps_until t fleet minute n)) n (nat_lt minute (last_of t))) s later
+      subst (λ o. MayFollow fleet o (suc n)) (sym (last_append None (steps_until t fleet minute n) (steps_until_minute t fleet minute n))) (behind_there (last_step None (steps_until t fleet minute n)) n (nat_lt minute (last_of t))) s later
 
   all_follow : (n : ℕ) → StepsFollow None (steps_until t fleet minute n)
   unfolding steps_until
   all_follow zero = tt
   all_follow (suc n) =
-      follow_append None (steps_until t fleet minute n) (steps_at t fleet minute n) (all_follow n) (there_follow (last_step None (steps_until t fleet minute n)) n (nat_lt minute (last_of t)) (behind_all n))
+      follow_append None (steps_until t fleet minute n) (steps_until_minute t fleet minute n) (all_follow n) (there_follow (last_step None (steps_until t fleet minute n)) n (nat_lt minute (last_of t)) (behind_all n))
 
 -- ---- no lone step of 0
 -- no step says 0 at the first minute
@@ -123,7 +123,7 @@ none_alone (x ∷ xs) none = (whatever (x.minute == 0) (int_eq x.value (pos 0)) 
 none_zero : (t : Tables) (fleet minute n : ℕ) → NoneZero (steps_until t fleet minute n)
 unfolding steps_until
 none_zero t fleet minute zero = tt
-none_zero t fleet minute (suc n) = none_append (steps_until t fleet minute n) (steps_at t fleet minute n) (none_zero t fleet minute n) (there (nat_lt minute (last_of t)))
+none_zero t fleet minute (suc n) = none_append (steps_until t fleet minute n) (steps_until_minute t fleet minute n) (none_zero t fleet minute n) (there (nat_lt minute (last_of t)))
   where
     no_minute : (b : Bool) → b ≡ false → (b && true) ≡ false
     no_minute false e = refl
@@ -138,7 +138,7 @@ each_in_order : (t : Tables) (fleet minute n : ℕ) → fleet < fleets_in t → 
 unfolding steps_until
 each_in_order t fleet minute zero known within = All-nil (IsStepInOrder t)
 each_in_order t fleet minute (suc n) known within =
-    All-append (IsStepInOrder t) (steps_until t fleet minute n) (steps_at t fleet minute n) (each_in_order t fleet minute n known (omega arith)) (there (nat_lt minute (last_of t)) (λ e. grind (arith, nat_tests)))
+    All-append (IsStepInOrder t) (steps_until t fleet minute n) (steps_until_minute t fleet minute n) (each_in_order t fleet minute n known (omega arith)) (there (nat_lt minute (last_of t)) (λ e. grind (arith, nat_tests)))
   where
     first : IsStepInOrder t (step_of fleet n 0 (pos 1))
     first = record { fleet = known; station = omega arith; minute = omega arith; value = one_figure }

@@ -8,11 +8,11 @@ use Rattle.fleet_model.specs.Times.{departure}
 use Rattle.fleet_model.specs.declared.parts.Pair.{Pair}
 use Rattle.fleet_model.specs.declared.tables.Tables.{Tables}
 use Rattle.dual_bound.specs.OfTables.{IsChargeOf, IsStepOf}
-use Rattle.dual_bound.specs.Prices.{has_come, price_after}
+use Rattle.dual_bound.specs.Prices.{price_after, step_has_come}
 use Rattle.dual_bound.specs.declared.prices.Prices.{Prices}
 use Rattle.dual_bound.specs.declared.prices.PriceStep.{PriceStep}
 use Rattle.dual_bound.proofs.PriceLists.{price_after-append}
-use Rattle.presolve.specs.Reasons.{IsReason, reason_price, reason_rent, reason_steps, steps_at, steps_until}
+use Rattle.presolve.specs.Reasons.{IsReason, reason_price, reason_rent, reason_steps, steps_until, steps_until_minute}
 use Rattle.presolve.specs.declared.rule.Rule.{Rule}
 use Rattle.presolve.specs.declared.rule.Rule.TheVariants as rule
 use Rattle.presolve.proofs.ReasonOrder.{reason_in_order}
@@ -27,13 +27,13 @@ price_one fleet station z f s m = grind (arith, nat_tests)
 
 -- a step and perhaps another
 price_two : (b : Bool) (v : ℤ) (x y : PriceStep) (f s m : ℕ)
-    → price_after v (x ∷ (if b then y ∷ [] else [])) f s m ≡ (if b && has_come y f s m then y.value else (if has_come x f s m then x.value else v))
+    → price_after v (x ∷ (if b then y ∷ [] else [])) f s m ≡ (if b && step_has_come y f s m then y.value else (if step_has_come x f s m then x.value else v))
 unfolding price_after
 price_two true v x y f s m = refl
 price_two false v x y f s m = refl
 
 price_there : (t : Tables) (v : ℤ) (fleet minute station f s m : ℕ) → m < period_of t
-    → price_after v (steps_at t fleet minute station) f s m ≡ (if (f == fleet) && (s == station) then (if nat_le m minute then pos 1 else pos 0) else v)
+    → price_after v (steps_until_minute t fleet minute station) f s m ≡ (if (f == fleet) && (s == station) then (if nat_le m minute then pos 1 else pos 0) else v)
 price_there t v fleet minute station f s m within =
     price_two (nat_lt minute (last_of t)) v _ _ f s m ∙ grind (arith, nat_tests)
 
@@ -43,8 +43,8 @@ price_until : (t : Tables) (fleet minute n f s m : ℕ) → m < period_of t
 unfolding price_after steps_until
 price_until t fleet minute zero f s m within = grind (arith, nat_tests)
 price_until t fleet minute (suc n) f s m within =
-    price_after-append (pos 0) (steps_until t fleet minute n) (steps_at t fleet minute n) f s m
-    ∙ ap (λ v. price_after v (steps_at t fleet minute n) f s m) (price_until t fleet minute n f s m within)
+    price_after-append (pos 0) (steps_until t fleet minute n) (steps_until_minute t fleet minute n) f s m
+    ∙ ap (λ v. price_after v (steps_until_minute t fleet minute n) f s m) (price_until t fleet minute n f s m within)
     ∙ price_there t _ fleet minute n f s m within
     ∙ grind (arith, nat_tests)
 
@@ -53,7 +53,7 @@ of_all : (t : Tables) (fleet minute n : ℕ) → fleet < fleets_in t → n ≤ s
 unfolding steps_until
 of_all t fleet minute zero known within = All-nil (IsStepOf t)
 of_all t fleet minute (suc n) known within =
-    All-append (IsStepOf t) (steps_until t fleet minute n) (steps_at t fleet minute n) (of_all t fleet minute n known (omega arith)) (there (nat_lt minute (last_of t)))
+    All-append (IsStepOf t) (steps_until t fleet minute n) (steps_until_minute t fleet minute n) (of_all t fleet minute n known (omega arith)) (there (nat_lt minute (last_of t)))
   where
     of_step : (m : ℕ) (z : ℤ) → IsStepOf t (record { fleet = fleet; station = n; minute = m; value = z })
     of_step m z = record { fleet = known; station = omega arith }

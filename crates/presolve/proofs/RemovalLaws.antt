@@ -11,7 +11,7 @@ use Rattle.dual_bound.specs.Bound.{part}
 use Rattle.dual_bound.specs.Worth.{worth_of}
 use Rattle.dual_bound.specs.declared.prices.Prices.{Prices}
 use Rattle.presolve.specs.Reasons.{IsReason}
-use Rattle.presolve.specs.Removals.{AreRefuted, AreRemovals, IsDone, IsNext, IsRefuted, kept_after, pair_of, without}
+use Rattle.presolve.specs.Removals.{AreRefuted, AreRemovals, IsDone, IsNextRemoval, IsPairRefuted, kept_after, removed_pair, without}
 use Rattle.presolve.specs.Rules.{departures, landings, removed_by, rule_of, surely_busy}
 use Rattle.presolve.specs.declared.trims.Trim.{Trim}
 use Rattle.presolve.specs.declared.rule.Rule.{Rule}
@@ -72,32 +72,32 @@ rule_refutes t keeps p why prices pair e reason =
     let found = is_removable t keeps p why e in
     by_rule t keeps p why prices pair found.flown found.kept reason (passes _ _ _ why found.meets)
 
-next_is_refuted : (t : Tables) (keeps : Domains) (place : Pair) (trim : Trim) → IsNext t keeps place trim → IsRefuted t keeps trim
+next_is_refuted : (t : Tables) (keeps : Domains) (place : Pair) (trim : Trim) → IsNextRemoval t keeps place trim → IsPairRefuted t keeps trim
 next_is_refuted t keeps place trim next = record {
   pair = next.pair;
-  by = (is_removable t keeps (pair_of trim) next.why next.first_rule).flown;
-  kept = (is_removable t keeps (pair_of trim) next.why next.first_rule).kept;
-  none_bare = flown_none_bare t keeps (pair_of trim) next.pair (is_removable t keeps (pair_of trim) next.why next.first_rule).kept next.none_bare;
-  proper = reason_is_proper t next.why (pair_of trim) trim.reason next.reason;
+  by = (is_removable t keeps (removed_pair trim) next.why next.first_rule).flown;
+  kept = (is_removable t keeps (removed_pair trim) next.why next.first_rule).kept;
+  none_bare = flown_none_bare t keeps (removed_pair trim) next.pair (is_removable t keeps (removed_pair trim) next.why next.first_rule).kept next.none_bare;
+  proper = reason_is_proper t next.why (removed_pair trim) trim.reason next.reason;
   of_tables = next.reason.of_tables;
   in_order = next.reason.in_order;
-  above = rule_refutes t keeps (pair_of trim) next.why trim.reason next.pair next.first_rule next.reason;
+  above = rule_refutes t keeps (removed_pair trim) next.why trim.reason next.pair next.first_rule next.reason;
 }
 
 -- the reasons of removals refute
 pub are_refuted : (t : Tables) (keeps : Domains) (place : Pair) (trims : List Trim) → AreRemovals t keeps place trims → AreRefuted t keeps trims
 are_refuted t keeps place [] removals = tt
-are_refuted t keeps place (trim ∷ trims) removals = (next_is_refuted t keeps place trim removals.0, are_refuted t (without keeps trim) (pair_of trim) trims removals.1)
+are_refuted t keeps place (trim ∷ trims) removals = (next_is_refuted t keeps place trim removals.0, are_refuted t (without keeps trim) (removed_pair trim) trims removals.1)
 
 -- nothing is left to remove behind them
 pub are_done : (t : Tables) (keeps : Domains) (place : Pair) (trims : List Trim) → AreRemovals t keeps place trims → IsDone t (kept_after keeps trims)
 are_done t keeps place [] removals = removals
-are_done t keeps place (trim ∷ trims) removals = are_done t (without keeps trim) (pair_of trim) trims removals.1
+are_done t keeps place (trim ∷ trims) removals = are_done t (without keeps trim) (removed_pair trim) trims removals.1
 
 -- each takes one kept pair away
 pub are_fewer : (t : Tables) (keeps : Domains) (place : Pair) (trims : List Trim) → AreRemovals t keeps place trims → length trims + pairs_kept t (kept_after keeps trims) ≡ pairs_kept t keeps
 are_fewer t keeps place [] removals = omega arith
 are_fewer t keeps place (trim ∷ trims) removals =
     let next = removals.0 in
-    let fewer = one_fewer t keeps (pair_of trim) next.pair (is_removable t keeps (pair_of trim) next.why next.first_rule).kept in
-    omega (arith, fewer, are_fewer t (without keeps trim) (pair_of trim) trims removals.1)
+    let fewer = one_fewer t keeps (removed_pair trim) next.pair (is_removable t keeps (removed_pair trim) next.why next.first_rule).kept in
+    omega (arith, fewer, are_fewer t (without keeps trim) (removed_pair trim) trims removals.1)

@@ -6,7 +6,7 @@ use Rattle.fleet_model.specs.declared.tables.Tables.{Tables}
 use Rattle.dual_bound.specs.Bound.{part}
 use Rattle.dual_bound.specs.declared.prices.Prices.{Prices}
 use Rattle.presolve.specs.Reasons.{IsReason}
-use Rattle.presolve.specs.Removals.{AreRemovals, IsDone, IsNext, first_place}
+use Rattle.presolve.specs.Removals.{AreRemovals, IsDone, IsNextRemoval, first_place}
 use Rattle.presolve.specs.Search.{IsNextPair}
 use Rattle.presolve.specs.declared.trims.Trim.{Trim}
 use Rattle.presolve.specs.declared.search.Removable.{Removable}
@@ -19,7 +19,7 @@ trim_of found prices = record { leg = found.pair.leg; choice = found.pair.choice
 
 -- a pair that is next, with its reason, is the next removal
 is_next : (t : Tables) (keeps : Domains) (place : Pair) (found : Removable) (prices : Prices) → IsNextPair t keeps place found → IsReason t found.rule found.pair prices
-    → IsNext t keeps place (trim_of found prices)
+    → IsNextRemoval t keeps place (trim_of found prices)
 is_next t keeps place found prices next reason = record {
   none_bare = next.none_bare;
   pair = next.pair;

@@ -21,7 +21,7 @@ use Rattle.dual_bound.specs.Bound.{part}
 use Rattle.dual_bound.specs.Worth.{leg_worth, worth_of}
 use Rattle.dual_bound.specs.declared.prices.Prices.{Prices}
 use Rattle.presolve.specs.Reasons.{IsReason, reason_rent}
-use Rattle.presolve.specs.Rules.{departures, flies, flown_on, landings}
+use Rattle.presolve.specs.Rules.{departures, flies, kept_flown_on, landings}
 use Rattle.presolve.specs.declared.rule.Rule.{Rule}
 use Rattle.presolve.specs.declared.rule.Rule.TheVariants as rule
 use Rattle.presolve.proofs.KeptParts.{is_flown, is_own_choice, was_kept}
@@ -31,11 +31,11 @@ use Rattle.presolve.proofs.ReasonWorth.{NoneAddsLess, above_zero, leg_low, leg_o
 -- no kept pair of the fleet has its place there
 not_there : (t : Tables) (keeps : Domains) (place : ℕ → ℕ) (f s l c : ℕ) → sum_below (counted t keeps place f s) (legs_in t) ≡ 0 → l < legs_in t → c < choices_in t l
     → keeps (leg_on l c) ≡ true → fleet_by t (leg_on l c) ≡ f → (place l == s) ≡ false
-unfolding flown_on
+unfolding kept_flown_on
 not_there t keeps place f s l c none within known kept by = never_passes (place l == s)
     (λ e. let some = count_below-some (flies t keeps f l) (choices_in t l) c known (both_true (keeps (leg_on l c)) (fleet_by t (leg_on l c) == f) kept (equal_number (fleet_by t (leg_on l c)) f by)) in
     let term = term_le (counted t keeps place f s) l (legs_in t) within in
-    omega (arith, some, term, none, counts (place l == s) (flown_on t keeps f l) e))
+    omega (arith, some, term, none, counts (place l == s) (kept_flown_on t keeps f l) e))
   where
     counts : (b : Bool) (n : ℕ) → b ≡ true → (if b then n else 0) ≡ n
     counts true n e = refl

@@ -13,7 +13,7 @@ use Rattle.fleet_model.specs.declared.tables.Tables.{Tables}
 use Rattle.fleet_model.proofs.LeftOut.{all_keep_left_out, steps_are_few}
 use Rattle.dual_bound.specs.Bound.{part}
 use Rattle.presolve.specs.Laws.{RemovalsAreFew}
-use Rattle.presolve.specs.Removals.{AreRemovals, first_place, kept_after, pair_of, without}
+use Rattle.presolve.specs.Removals.{AreRemovals, first_place, kept_after, removed_pair, without}
 use Rattle.presolve.specs.declared.trims.Trim.{Trim}
 use Rattle.presolve.proofs.KeptParts.{on_other_choices, on_others, other_leg_same, own_leg_fewer}
 use Rattle.presolve.proofs.RemovalLaws.{is_removable}
@@ -61,11 +61,11 @@ steps_taken : (t : Tables) (keeps : Domains) (place : Pair) (trims : List Trim) 
 steps_taken t keeps place [] out removals = omega arith
 steps_taken t keeps place (trim ∷ trims) out removals =
     let next = removals.0 in
-    let its = is_removable t keeps (pair_of trim) next.why next.first_rule in
+    let its = is_removable t keeps (removed_pair trim) next.why next.first_rule in
     omega (
       arith,
-      one_step t keeps (pair_of trim) next.pair its.flown its.kept out,
-      steps_taken t (without keeps trim) (pair_of trim) trims (keep_left_out t keeps (pair_of trim) next.pair its.flown its.kept out) removals.1,
+      one_step t keeps (removed_pair trim) next.pair its.flown its.kept out,
+      steps_taken t (without keeps trim) (removed_pair trim) trims (keep_left_out t keeps (removed_pair trim) next.pair its.flown its.kept out) removals.1,
     )
 
 pub removals_are_few : RemovalsAreFew

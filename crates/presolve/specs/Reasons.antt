@@ -36,15 +36,15 @@ pub record IsReason (t : Tables) (why : Rule) (p : Pair) (prices : Prices) : Typ
   pub in_order : ArePricesInOrder t prices
 
 -- the steps at a station of a price that is 1 until a minute
-abbrev pub steps_at : Tables → ℕ → ℕ → ℕ → List PriceStep
-steps_at t f m s =
+abbrev pub steps_until_minute : Tables → ℕ → ℕ → ℕ → List PriceStep
+steps_until_minute t f m s =
     record { fleet = f; station = s; minute = 0; value = pos 1 }
     ∷ (if nat_lt m (last_of t) then record { fleet = f; station = s; minute = m + 1; value = pos 0 } ∷ [] else [])
 
 -- the same at the stations below a number
 unfoldable pub steps_until : Tables → ℕ → ℕ → ℕ → List PriceStep
 steps_until t f m zero = []
-steps_until t f m (suc s) = steps_until t f m s ++ steps_at t f m s
+steps_until t f m (suc s) = steps_until t f m s ++ steps_until_minute t f m s
 
 -- the steps of a rule's prices
 abbrev pub reason_steps : Tables → Rule → Pair → List PriceStep

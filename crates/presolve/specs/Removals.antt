@@ -27,8 +27,8 @@ abbrev pub first_place : Pair
 first_place = leg_on 0 0
 
 -- the pair that is removed
-abbrev pub pair_of : Trim → Pair
-pair_of trim = leg_on trim.leg trim.choice
+abbrev pub removed_pair : Trim → Pair
+removed_pair trim = leg_on trim.leg trim.choice
 
 -- the pairs that are kept after it
 abbrev pub without : Domains → Trim → Domains
@@ -44,19 +44,19 @@ pub record IsDone (t : Tables) (keeps : Domains) : Type 0 where
 
 -- The next removal, going on from a place: the first kept pair that meets a rule, with the reason by its first rule.
 -- Each leg keeps a pair before it.
-pub record IsNext (t : Tables) (keeps : Domains) (place : Pair) (trim : Trim) : Type 0 where
+pub record IsNextRemoval (t : Tables) (keeps : Domains) (place : Pair) (trim : Trim) : Type 0 where
   pub none_bare : NoneBare t keeps
-  pub pair : IsPair t (pair_of trim)
+  pub pair : IsPair t (removed_pair trim)
   pub why : Rule
-  pub first_rule : removed_by t keeps (pair_of trim) ≡ Some why
-  pub reason : IsReason t why (pair_of trim) trim.reason
-  pub first_pair : (p : Pair) → IsPair t p → IsTrue (is_sooner place p (pair_of trim)) → removed_by t keeps p ≡ None
+  pub first_rule : removed_by t keeps (removed_pair trim) ≡ Some why
+  pub reason : IsReason t why (removed_pair trim) trim.reason
+  pub first_pair : (p : Pair) → IsPair t p → IsTrue (is_sooner place p (removed_pair trim)) → removed_by t keeps p ≡ None
 
 -- The removals, going on from a place. A pass goes over the pairs by leg, then choice; what comes behind the last pair
 -- is the next pass, and one that removes none is the last.
 abbrev pub AreRemovals : Tables → Domains → Pair → List Trim → Type 0
 AreRemovals t keeps place [] = IsDone t keeps
-AreRemovals t keeps place (trim ∷ trims) = IsNext t keeps place trim × AreRemovals t (without keeps trim) (pair_of trim) trims
+AreRemovals t keeps place (trim ∷ trims) = IsNextRemoval t keeps place trim × AreRemovals t (without keeps trim) (removed_pair trim) trims
 
 -- the pairs that are kept after removals
 abbrev pub kept_after : Domains → List Trim → Domains
@@ -65,10 +65,10 @@ kept_after keeps (trim ∷ trims) = kept_after (without keeps trim) trims
 
 -- A removal's reason refutes the part in which the pair is flown: a fleet flies it, it is kept, each leg keeps a pair there, and by
 -- proper prices that part is worth more than 0, no cost put in.
-pub record IsRefuted (t : Tables) (keeps : Domains) (trim : Trim) : Type 0 where
-  pub pair : IsPair t (pair_of trim)
-  pub by : fleet_by t (pair_of trim) < fleets_in t
-  pub kept : IsTrue (keeps (pair_of trim))
+pub record IsPairRefuted (t : Tables) (keeps : Domains) (trim : Trim) : Type 0 where
+  pub pair : IsPair t (removed_pair trim)
+  pub by : fleet_by t (removed_pair trim) < fleets_in t
+  pub kept : IsTrue (keeps (removed_pair trim))
   pub none_bare : NoneBare t (part keeps trim.leg trim.choice true)
   pub proper : ArePrices t trim.reason
   pub of_tables : ArePricesOf t trim.reason
@@ -78,4 +78,4 @@ pub record IsRefuted (t : Tables) (keeps : Domains) (trim : Trim) : Type 0 where
 -- and so does each, among the pairs that are kept by then
 abbrev pub AreRefuted : Tables → Domains → List Trim → Type 0
 AreRefuted t keeps [] = ⊤
-AreRefuted t keeps (trim ∷ trims) = IsRefuted t keeps trim × AreRefuted t (without keeps trim) trims
+AreRefuted t keeps (trim ∷ trims) = IsPairRefuted t keeps trim × AreRefuted t (without keeps trim) trims

@@ -14,16 +14,16 @@ abbrev pub flies : Tables → Domains → ℕ → ℕ → ℕ → Bool
 flies t keeps f l c = keeps (leg_on l c) && (fleet_by t (leg_on l c) == f)
 
 -- how many kept pairs of a leg are of a fleet
-unfoldable pub flown_on : Tables → Domains → ℕ → ℕ → ℕ
-flown_on t keeps f l = count_below (flies t keeps f l) (choices_in t l)
+unfoldable pub kept_flown_on : Tables → Domains → ℕ → ℕ → ℕ
+kept_flown_on t keeps f l = count_below (flies t keeps f l) (choices_in t l)
 
 -- .. where the leg lands at a station
 abbrev pub landing : Tables → Domains → ℕ → ℕ → ℕ → ℕ
-landing t keeps f s l = if (leg_of t l).to == s then flown_on t keeps f l else 0
+landing t keeps f s l = if (leg_of t l).to == s then kept_flown_on t keeps f l else 0
 
 -- .. and where it departs from a station
 abbrev pub departing : Tables → Domains → ℕ → ℕ → ℕ → ℕ
-departing t keeps f s l = if (leg_of t l).from == s then flown_on t keeps f l else 0
+departing t keeps f s l = if (leg_of t l).from == s then kept_flown_on t keeps f l else 0
 
 -- how many kept pairs of a fleet land at a station
 unfoldable pub landings : Tables → Domains → ℕ → ℕ → ℕ

@@ -4,7 +4,7 @@ ghost use Rattle.fleet_model.specs.Kept.{kept_by, kept_on};
 ghost use Rattle.fleet_model.specs.Schedule.{IsPair, fleets_in, legs_in, stations_in};
 ghost use Rattle.fleet_model.specs.declared.limits.TheConstants.{MAX_CHOICES, MAX_LEGS};
 ghost use Rattle.presolve.specs.Cells.{AreCells, AreMore, cell_of};
-ghost use Rattle.presolve.specs.Rules.{departures, flies, flown_on, landings};
+ghost use Rattle.presolve.specs.Rules.{departures, flies, kept_flown_on, landings};
 ghost use Rattle.presolve.specs.declared.cells.TheConstants.{CELL_WIDTH};
 
 use crate::cells::{add_one, zeros};
@@ -60,7 +60,7 @@ fn add_leg(cells: &mut Vec<u32>, tables: &Tables, kept: &Kept, leg: u32, station
     requires leg { leg < legs_in tables.now }
     requires station { station < stations_in tables.now }
     requires small { (f s : ℕ) → f < fleets_in tables.now → s < stations_in tables.now → cell_of cells.old.items f s ≤ leg * MAX_CHOICES }
-    ensures { AreMore (λ f s. if station == s then flown_on tables.now (kept_by kept.now) f leg else 0) (fleets_in tables.now) (stations_in tables.now) cells.old.items cells.new.items }
+    ensures { AreMore (λ f s. if station == s then kept_flown_on tables.now (kept_by kept.now) f leg else 0) (fleets_in tables.now) (stations_in tables.now) cells.old.items cells.new.items }
 {
     for choice in 0..tables.choice_count(leg) {
         add_pair(cells, tables, kept, Pair { leg, choice }, station);

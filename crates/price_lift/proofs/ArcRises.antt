@@ -11,7 +11,7 @@ use Rattle.fleet_model.proofs.PeriodMinutes.{days_are_period}
 use Rattle.fleet_model.specs.declared.limits.TheConstants.{MAX_STATIONS}
 use Rattle.fleet_model.specs.Period.{minutes_of}
 use Rattle.fleet_model.specs.declared.tables.Tables.{Tables}
-use Rattle.lp_rows.specs.Layout.{Starts, all_nodes, node_at, node_of_number}
+use Rattle.lp_rows.specs.Layout.{Starts, all_nodes, node_of_number, node_of_place}
 use Rattle.lp_rows.specs.Points.{node_count}
 use Rattle.lp_rows.specs.declared.kinds.Node.{Node}
 use Rattle.lp_rows.proofs.Counted.{nodes_are}
@@ -101,7 +101,7 @@ module _ (t : Tables) (starts : Starts) (moment : ArcMoments) (prices : Prices) 
   is_at i below =
       let at = number_at there entry total i below in
       let n = node_number t starts at.0 (omega (arith, at.1, nodes_are t starts)) in
-      let node : node_of_number t starts at.0 ≡ node_at n.fleet n.station n.place = ap (λ k. get_or (all_nodes t starts) k (node_at 0 0 0)) n.is ∙ node_there t starts n.fleet n.station n.place (node_at 0 0 0) n.known n.within n.below in
+      let node : node_of_number t starts at.0 ≡ node_of_place n.fleet n.station n.place = ap (λ k. get_or (all_nodes t starts) k (node_of_place 0 0 0)) n.is ∙ node_there t starts n.fleet n.station n.place (node_of_place 0 0 0) n.known n.within n.below in
       let goes = up prices (starts n.fleet n.station) n.fleet n.station n.place (moment n.fleet n.station n.place) (sym (ap there_at node) ∙ at.2) in
       let stand = stands there entry total at.0 no_rise at.1 at.2 in
       record {
@@ -141,7 +141,7 @@ module _ (t : Tables) (starts : Starts) (moment : ArcMoments) (prices : Prices) 
   has_rise f s k m known within below went some =
       let number = before t starts f s + k in
       let inside : number < total = omega (arith, nodes_are t starts, node_within t starts f s k known within below) in
-      let node = node_there t starts f s k (node_at 0 0 0) known within below in
+      let node = node_there t starts f s k (node_of_place 0 0 0) known within below in
       let here : there number ≡ true = ap there_at node ∙ up_there prices (starts f s) f s k m (moment f s k) went some in
       let stand = stands there entry total number no_rise inside here in
       let same : rise_in all (rank there entry number) ≡ arc_rise t prices (starts f s) f s k m = stand.1 ∙ ap entry_at node ∙ ap (λ o. arc_rise t prices (starts f s) f s k (unwrap_or o 0)) went in

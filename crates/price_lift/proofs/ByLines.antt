@@ -11,11 +11,11 @@ use Rattle.fleet_model.specs.Schedule.{fleets_in, legs_in, stations_in}
 use Rattle.lp_rows.specs.declared.kinds.Line.TheVariants.{Balance, Count, Cover, Parking}
 use Rattle.lp_rows.specs.declared.kinds.Node.{Node}
 use Rattle.lp_rows.specs.declared.kinds.Park.{Park}
-use Rattle.lp_rows.specs.Entries.{IsPark, is_in}
-use Rattle.lp_rows.specs.Layout.{IsNetwork, Starts, all_nodes, node_at, line_at, node_of_number, park_of_number}
+use Rattle.lp_rows.specs.Entries.{IsPark, is_in_node}
+use Rattle.lp_rows.specs.Layout.{IsNetwork, Starts, all_nodes, node_of_place, line_at, node_of_number, park_of_number}
 use Rattle.lp_rows.specs.Points.{node_count, park_count}
 use Rattle.lp_rows.proofs.Counted.{nodes_are}
-use Rattle.price_lift.specs.Duals.{value_in}
+use Rattle.price_lift.specs.Duals.{dual_value_in}
 use Rattle.price_lift.specs.Prices.{AreByLines}
 use Rattle.price_lift.specs.Steps.{prices_by}
 use Rattle.lp_rows.proofs.LinePlaces.{balance_there, before, count_there, cover_there, node_number, node_there, none_behind, parking_there}
@@ -78,9 +78,9 @@ module _ (t : Tables) (starts : Starts) where
       in_nodes : (k : ℕ) → k < node_count t starts → line ≡ legs_in t + k → IsOfNode line n
       in_nodes k below is =
           let number = node_number t starts k below in
-          let same : n ≡ node_at number.fleet number.station number.place =
-          same_node n (node_at number.fleet number.station number.place) (sym e ∙ ap (line_at t starts) is ∙ balance_there t starts k below
-          ∙ ap (λ j. Balance (node_of_number t starts j)) number.is ∙ ap Balance (node_there t starts number.fleet number.station number.place (node_at 0 0 0) number.known number.within number.below)) in
+          let same : n ≡ node_of_place number.fleet number.station number.place =
+          same_node n (node_of_place number.fleet number.station number.place) (sym e ∙ ap (line_at t starts) is ∙ balance_there t starts k below
+          ∙ ap (λ j. Balance (node_of_number t starts j)) number.is ∙ ap Balance (node_there t starts number.fleet number.station number.place (node_of_place 0 0 0) number.known number.within number.below)) in
           subst (IsOfNode line) (sym same) (record { fleet = number.known; station = number.within; place = number.below; is = is ∙ ap (λ j. legs_in t + j) number.is })
 
       in_parks : (k : ℕ) → line ≡ legs_in t + (node_count t starts + (fleets_in t + k)) → IsOfNode line n
@@ -155,13 +155,13 @@ module _ (t : Tables) (starts : Starts) where
       ]
 
 -- ---- prices by the numbers
-value_there : (t : Tables) (duals : FracRow) (line k : ℕ) → line ≡ legs_in t + k → value_in t duals line ≡ number_of duals k
+value_there : (t : Tables) (duals : FracRow) (line k : ℕ) → line ≡ legs_in t + k → dual_value_in t duals line ≡ number_of duals k
 value_there t duals line k is = ap (number_of duals) (omega arith)
 
 no_length : (xs : List ℕ) → xs ≡ [] → length xs ≡ 0
 no_length xs e = ap length e
 
-pub are_by_lines : (t : Tables) (keeps : Domains) (starts : Starts) (duals : FracRow) → IsNetwork t keeps starts → AreByLines t starts (value_in t duals) (prices_by t starts duals)
+pub are_by_lines : (t : Tables) (keeps : Domains) (starts : Starts) (duals : FracRow) → IsNetwork t keeps starts → AreByLines t starts (dual_value_in t duals) (prices_by t starts duals)
 are_by_lines t keeps starts duals network = record {
   balance = λ line minute n e within.
       let at = of_node t starts line n e in
@@ -186,7 +186,7 @@ are_by_lines t keeps starts duals network = record {
     in_place k = omega (arith, nodes_are t starts)
 
 -- by one network, and so by each
-pub by_each_network : (t : Tables) (keeps : Domains) (starts other : Starts) (duals : FracRow) → IsNetwork t keeps starts → IsNetwork t keeps other → AreByLines t other (value_in t duals) (prices_by t starts duals)
+pub by_each_network : (t : Tables) (keeps : Domains) (starts other : Starts) (duals : FracRow) → IsNetwork t keeps starts → IsNetwork t keeps other → AreByLines t other (dual_value_in t duals) (prices_by t starts duals)
 by_each_network t keeps starts other duals network second =
     let by = are_by_lines t keeps starts duals network in
     let lines = same_lines t keeps other starts second network in
@@ -194,7 +194,7 @@ by_each_network t keeps starts other duals network second =
       balance = λ line minute n e within.
           let at = of_node t other line n e in
           by.balance line minute n (sym (ap (λ ls. get_or ls line (Cover 0)) lines) ∙ e)
-          (ap (λ xs. is_in t xs n.place minute) (same_starts t keeps starts other network second n.fleet n.station at.fleet at.station) ∙ within);
+          (ap (λ xs. is_in_node t xs n.place minute) (same_starts t keeps starts other network second n.fleet n.station at.fleet at.station) ∙ within);
       nowhere = λ f s minute known within none. by.nowhere f s minute known within (same_starts t keeps starts other network second f s known within ∙ none);
       count = λ line f e. by.count line f (sym (ap (λ ls. get_or ls line (Cover 0)) lines) ∙ e);
       parking = λ line p e. by.parking line p (sym (ap (λ ls. get_or ls line (Cover 0)) lines) ∙ e);

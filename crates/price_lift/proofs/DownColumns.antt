@@ -16,8 +16,8 @@ use Rattle.lp_rows.specs.declared.kinds.Park.{Park}
 use Rattle.lp_rows.specs.declared.kinds.Column.TheVariants.{Flight, Ground, Room, Slack}
 use Rattle.lp_rows.specs.declared.kinds.Line.{Line}
 use Rattle.lp_rows.specs.declared.kinds.Line.TheVariants.{Balance, Count, Cover, Parking}
-use Rattle.lp_rows.specs.Entries.{IsNode, IsPark, balance_entry, comes_to_node, count_entry, cover_entry, entry_of, gets_arc, is_in, leaves_node, one_if, passes_day_end, passes_start, place_after, right_side_of, same_node, same_park}
-use Rattle.lp_rows.specs.Layout.{Starts, node_at, line_at, park_of_number}
+use Rattle.lp_rows.specs.Entries.{IsNode, IsPark, balance_entry, comes_to_node, count_entry, cover_entry, entry_of, gets_arc, is_in_node, leaves_node, one_if, passes_day_end, passes_start, place_after, right_side_of, same_node, same_park}
+use Rattle.lp_rows.specs.Layout.{Starts, node_of_place, line_at, park_of_number}
 use Rattle.lp_rows.specs.Points.{node_count, park_count, priced_count}
 use Rattle.lp_rows.proofs.ListSums.{all_zero}
 use Rattle.lp_rows.proofs.MetColumns.{turned}
@@ -79,13 +79,13 @@ module _ (t : Tables) (starts : Starts) (y : ℕ → ℤ) where
   down e = sum_below_ℤ (λ i. y i *ℤ e (line_at t starts i)) (legs_in t + priced_count t starts)
 
   pub by_kinds : (e : Line → ℤ) → down e
-      ≡ sum_below_ℤ (λ l. y l *ℤ e (Cover l)) (legs_in t) +ℤ (over_nodes (λ f s k. of_node f s k *ℤ e (Balance (node_at f s k)))
+      ≡ sum_below_ℤ (λ l. y l *ℤ e (Cover l)) (legs_in t) +ℤ (over_nodes (λ f s k. of_node f s k *ℤ e (Balance (node_of_place f s k)))
       +ℤ (sum_below_ℤ (λ f. of_fleet f *ℤ e (Count f)) (fleets_in t) +ℤ sum_below_ℤ (λ k. of_park k *ℤ e (Parking (park_of_number t k))) (park_count t)))
   by_kinds e =
       let covers = sum_below_ℤ-same (λ l. y l *ℤ e (line_at t starts l)) (λ l. y l *ℤ e (Cover l)) (legs_in t) (λ l below. ap (λ k. y l *ℤ e k) (cover_there t starts l below)) in
-      let balances = over_nodes-same (λ f s k. of_node f s k *ℤ e (line_at t starts (legs_in t + (before t starts f s + k)))) (λ f s k. of_node f s k *ℤ e (Balance (node_at f s k)))
+      let balances = over_nodes-same (λ f s k. of_node f s k *ℤ e (line_at t starts (legs_in t + (before t starts f s + k)))) (λ f s k. of_node f s k *ℤ e (Balance (node_of_place f s k)))
       (λ f s k known within below. ap (λ j. of_node f s k *ℤ e j)
-      (balance_there t starts (before t starts f s + k) (node_within t starts f s k known within below) ∙ ap Balance (node_there t starts f s k (node_at 0 0 0) known within below))) in
+      (balance_there t starts (before t starts f s + k) (node_within t starts f s k known within below) ∙ ap Balance (node_there t starts f s k (node_of_place 0 0 0) known within below))) in
       let counts = sum_below_ℤ-same (λ f. of_fleet f *ℤ e (line_at t starts (legs_in t + (node_count t starts + f)))) (λ f. of_fleet f *ℤ e (Count f)) (fleets_in t) (λ f known. ap (λ k. of_fleet f *ℤ e k) (count_there t starts f known)) in
       let parkings = sum_below_ℤ-same (λ k. of_park k *ℤ e (line_at t starts (legs_in t + (node_count t starts + (fleets_in t + k))))) (λ k. of_park k *ℤ e (Parking (park_of_number t k))) (park_count t)
       (λ k below. ap (λ line. of_park k *ℤ e line) (parking_there t starts k below)) in
@@ -100,23 +100,23 @@ module _ (t : Tables) (starts : Starts) (y : ℕ → ℤ) where
   no_covers : (e : Line → ℤ) → ((l : ℕ) → e (Cover l) ≡ pos 0) → sum_below_ℤ (λ l. y l *ℤ e (Cover l)) (legs_in t) ≡ pos 0
   no_covers e none = all_zero (λ l. y l *ℤ e (Cover l)) (legs_in t) (λ l below. ap (λ z. y l *ℤ z) (none l) ∙ *ℤ-zero (y l))
 
-  no_balances : (e : Line → ℤ) → ((n : Node) → e (Balance n) ≡ pos 0) → over_nodes (λ f s k. of_node f s k *ℤ e (Balance (node_at f s k))) ≡ pos 0
-  no_balances e none = over_nodes-zero (λ f s k. of_node f s k *ℤ e (Balance (node_at f s k))) (λ f s k known. ap (λ z. of_node f s k *ℤ z) (none (node_at f s k)) ∙ *ℤ-zero (of_node f s k))
+  no_balances : (e : Line → ℤ) → ((n : Node) → e (Balance n) ≡ pos 0) → over_nodes (λ f s k. of_node f s k *ℤ e (Balance (node_of_place f s k))) ≡ pos 0
+  no_balances e none = over_nodes-zero (λ f s k. of_node f s k *ℤ e (Balance (node_of_place f s k))) (λ f s k known. ap (λ z. of_node f s k *ℤ z) (none (node_of_place f s k)) ∙ *ℤ-zero (of_node f s k))
 
   -- ---- a pair
   -- the numbers of nodes of a fleet at a station that a minute lies in
   abbrev pub at_minute : ℕ → ℕ → ℕ → ℤ
-  at_minute f s m = sum_below_ℤ (λ k. where_true (is_in t (starts f s) k m) (of_node f s k)) (length (starts f s))
+  at_minute f s m = sum_below_ℤ (λ k. where_true (is_in_node t (starts f s) k m) (of_node f s k)) (length (starts f s))
 
-  pick : (test : ℕ → ℕ → ℕ → Bool) (a b m : ℕ) → a < fleets_in t → b < stations_in t → ((f s k : ℕ) → test f s k ≡ ((f == a) && ((b == s) && is_in t (starts f s) k m)))
+  pick : (test : ℕ → ℕ → ℕ → Bool) (a b m : ℕ) → a < fleets_in t → b < stations_in t → ((f s k : ℕ) → test f s k ≡ ((f == a) && ((b == s) && is_in_node t (starts f s) k m)))
       → over_nodes (λ f s k. of_node f s k *ℤ one_if (test f s k)) ≡ at_minute a b m
   pick test a b m here there is =
-      over_nodes-same (λ f s k. of_node f s k *ℤ one_if (test f s k)) (λ f s k. where_true (a == f) (where_true (b == s) (where_true (is_in t (starts f s) k m) (of_node f s k))))
+      over_nodes-same (λ f s k. of_node f s k *ℤ one_if (test f s k)) (λ f s k. where_true (a == f) (where_true (b == s) (where_true (is_in_node t (starts f s) k m) (of_node f s k))))
       (λ f s k known within below.
       times_one_if (test f s k) (of_node f s k)
-      ∙ ap (λ c. where_true c (of_node f s k)) (is f s k ∙ ap (λ c. c && ((b == s) && is_in t (starts f s) k m)) (turned f a))
-      ∙ three_tests (a == f) (b == s) (is_in t (starts f s) k m) (of_node f s k))
-      ∙ pick_nodes (fleets_in t) (stations_in t) a b (λ f s. length (starts f s)) (λ f s k. where_true (is_in t (starts f s) k m) (of_node f s k)) here there
+      ∙ ap (λ c. where_true c (of_node f s k)) (is f s k ∙ ap (λ c. c && ((b == s) && is_in_node t (starts f s) k m)) (turned f a))
+      ∙ three_tests (a == f) (b == s) (is_in_node t (starts f s) k m) (of_node f s k))
+      ∙ pick_nodes (fleets_in t) (stations_in t) a b (λ f s. length (starts f s)) (λ f s k. where_true (is_in_node t (starts f s) k m) (of_node f s k)) here there
 
   flight_covers : (p : Pair) → IsPair t p → sum_below_ℤ (λ l. y l *ℤ cover_entry l (Flight p)) (legs_in t) ≡ y p.leg
   flight_covers p pair =
@@ -128,11 +128,11 @@ module _ (t : Tables) (starts : Starts) (y : ℕ → ℤ) where
   flight_parkings p = no_parkings (λ line. entry_of t starts line (Flight p)) (λ q. refl)
 
   module _ (p : Pair) (flown : IsFlown t p) (from : (leg_of t p.leg).from < stations_in t) (to : (leg_of t p.leg).to < stations_in t) where
-    flight_balances : over_nodes (λ f s k. of_node f s k *ℤ balance_entry t starts (node_at f s k) (Flight p))
+    flight_balances : over_nodes (λ f s k. of_node f s k *ℤ balance_entry t starts (node_of_place f s k) (Flight p))
         ≡ at_minute (fleet_by t p) (leg_of t p.leg).to (ready_minute t p) -ℤ at_minute (fleet_by t p) (leg_of t p.leg).from (departure t p)
     flight_balances =
-        let come = λ (f s k : ℕ). comes_to_node t starts (node_at f s k) p in
-        let leave = λ (f s k : ℕ). leaves_node t starts (node_at f s k) p in
+        let come = λ (f s k : ℕ). comes_to_node t starts (node_of_place f s k) p in
+        let leave = λ (f s k : ℕ). leaves_node t starts (node_of_place f s k) p in
         over_nodes-same (λ f s k. of_node f s k *ℤ (one_if (come f s k) -ℤ one_if (leave f s k))) (λ f s k. (of_node f s k *ℤ one_if (come f s k)) -ℤ (of_node f s k *ℤ one_if (leave f s k)))
         (λ f s k known within below. *ℤ--ℤ (of_node f s k) (one_if (come f s k)) (one_if (leave f s k)))
         ∙ over_nodes--ℤ (λ f s k. of_node f s k *ℤ one_if (come f s k)) (λ f s k. of_node f s k *ℤ one_if (leave f s k))
@@ -154,9 +154,9 @@ module _ (t : Tables) (starts : Starts) (y : ℕ → ℤ) where
     other_fleet : (f : ℕ) → f < fleets_in t → (f == fleet_by t p) ≡ false
     other_fleet f known = grind (arith, nat_tests)
 
-    not_balanced : (f s k : ℕ) → f < fleets_in t → of_node f s k *ℤ balance_entry t starts (node_at f s k) (Flight p) ≡ pos 0
+    not_balanced : (f s k : ℕ) → f < fleets_in t → of_node f s k *ℤ balance_entry t starts (node_of_place f s k) (Flight p) ≡ pos 0
     not_balanced f s k known =
-        ap (λ b. of_node f s k *ℤ (one_if (b && (((leg_of t p.leg).to == s) && is_in t (starts f s) k (ready_minute t p))) -ℤ one_if (b && (((leg_of t p.leg).from == s) && is_in t (starts f s) k (departure t p))))) (other_fleet f known)
+        ap (λ b. of_node f s k *ℤ (one_if (b && (((leg_of t p.leg).to == s) && is_in_node t (starts f s) k (ready_minute t p))) -ℤ one_if (b && (((leg_of t p.leg).from == s) && is_in_node t (starts f s) k (departure t p))))) (other_fleet f known)
         ∙ *ℤ-zero (of_node f s k)
 
     not_counted : (f : ℕ) → f < fleets_in t → of_fleet f *ℤ count_entry t starts f (Flight p) ≡ pos 0
@@ -164,7 +164,7 @@ module _ (t : Tables) (starts : Starts) (y : ℕ → ℤ) where
 
     pub down_left_out : down (λ line. entry_of t starts line (Flight p)) ≡ y p.leg
     down_left_out =
-        let balances = over_nodes-zero (λ f s k. of_node f s k *ℤ balance_entry t starts (node_at f s k) (Flight p)) not_balanced in
+        let balances = over_nodes-zero (λ f s k. of_node f s k *ℤ balance_entry t starts (node_of_place f s k) (Flight p)) not_balanced in
         let counts = all_zero (λ f. of_fleet f *ℤ count_entry t starts f (Flight p)) (fleets_in t) not_counted in
         by_kinds (λ line. entry_of t starts line (Flight p)) ∙ omega (arith, ints, flight_covers p pair, balances, counts, flight_parkings p)
 
@@ -196,10 +196,10 @@ module _ (t : Tables) (starts : Starts) (y : ℕ → ℤ) where
         ∙ pick_nodes (fleets_in t) (stations_in t) a.fleet a.station (λ f s. length (starts f s)) (λ f s k. where_true (place (length (starts f s)) == k) (of_node f s k)) is_node.fleet is_node.station
         ∙ sum_below_ℤ-one (place (length (starts a.fleet a.station))) (of_node a.fleet a.station) (length (starts a.fleet a.station)) short
 
-    ground_balances : over_nodes (λ f s k. of_node f s k *ℤ balance_entry t starts (node_at f s k) (Ground a)) ≡ of_node a.fleet a.station next -ℤ of_node a.fleet a.station a.place
+    ground_balances : over_nodes (λ f s k. of_node f s k *ℤ balance_entry t starts (node_of_place f s k) (Ground a)) ≡ of_node a.fleet a.station next -ℤ of_node a.fleet a.station a.place
     ground_balances =
-        let get = λ (f s k : ℕ). gets_arc starts (node_at f s k) a in
-        let same = λ (f s k : ℕ). same_node (node_at f s k) a in
+        let get = λ (f s k : ℕ). gets_arc starts (node_of_place f s k) a in
+        let same = λ (f s k : ℕ). same_node (node_of_place f s k) a in
         over_nodes-same (λ f s k. of_node f s k *ℤ (one_if (get f s k) -ℤ one_if (same f s k))) (λ f s k. (of_node f s k *ℤ one_if (get f s k)) -ℤ (of_node f s k *ℤ one_if (same f s k)))
         (λ f s k known within below. *ℤ--ℤ (of_node f s k) (one_if (get f s k)) (one_if (same f s k)))
         ∙ over_nodes--ℤ (λ f s k. of_node f s k *ℤ one_if (get f s k)) (λ f s k. of_node f s k *ℤ one_if (same f s k))

@@ -17,7 +17,7 @@ use Rattle.dual_bound.specs.Worth.{worth_of}
 use Rattle.dual_bound.specs.declared.prices.Prices.{Prices}
 use Rattle.island_prices.specs.declared.rises.Rise.{Rise}
 use Rattle.price_lift.specs.ArcRises.{outline_rises, rises_by}
-use Rattle.price_lift.specs.Duals.{value_in}
+use Rattle.price_lift.specs.Duals.{dual_value_in}
 use Rattle.price_lift.specs.Lifted.{AreLiftedPrices, AreNodePrices}
 use Rattle.price_lift.specs.PaidBack.{moments_by, paid_back, payback_excess, payback_excess_by}
 use Rattle.price_lift.specs.Prices.{AreByLines}
@@ -51,8 +51,8 @@ module _ (t : Tables) (keeps : Domains) (rows : Rows) (lines : AreLinesOf t keep
     in_order = prices_in_order t keeps duals prices row (record { starts = starts; network = network; is = by });
   }
     where
-      by_lines : (other : Starts) → IsNetwork t keeps other → AreByLines t other (value_in t (reduced duals)) prices
-      by_lines other second = subst (AreByLines t other (value_in t (reduced duals))) (sym by) (by_each_network t keeps starts other (reduced duals) network second)
+      by_lines : (other : Starts) → IsNetwork t keeps other → AreByLines t other (dual_value_in t (reduced duals)) prices
+      by_lines other second = subst (AreByLines t other (dual_value_in t (reduced duals))) (sym by) (by_each_network t keeps starts other (reduced duals) network second)
 
   -- ---- paid back
   module _ (starts : Starts) (network : IsNetwork t keeps starts) (few : (f s : ℕ) → f < fleets_in t → s < stations_in t → length (starts f s) ≤ period_of t)

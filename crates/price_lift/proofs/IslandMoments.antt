@@ -13,7 +13,7 @@ use Rattle.node_aggregate.proofs.Starts.{starts_rise}
 use Rattle.island_cut.specs.IslandLaws.{IsIdle}
 use Rattle.island_cut.specs.Islands.{has_islands, is_idle}
 use Rattle.island_cut.proofs.IslandProofs.{islands_tested}
-use Rattle.node_aggregate.specs.Waits.{is_among, is_quiet}
+use Rattle.node_aggregate.specs.Waits.{is_quiet, lies_between}
 use Rattle.node_aggregate.proofs.AllowedPairs.{allowed_tested}
 use Rattle.node_aggregate.proofs.EmptyArcs.{IsMoment, moment_is}
 use Rattle.node_aggregate.proofs.QuietMinutes.{departs_elsewhere, ready_elsewhere}
@@ -65,7 +65,7 @@ module _ (t : Tables) (keeps : Domains) (starts : Starts) (network : IsNetwork t
     in_period = λ f s k m known within below went. (moment_there f s k m went).minute;
     in_node = λ f s k m known within below several went begun. elim (moment_there f s k m went).waits [
       | inl waits ↦
-          let parts = parts_true (is_among (get_or (starts f s) k 0) (end_in t (starts f s) k) m) (is_quiet t keeps f s (m + 1) (end_in t (starts f s) k)) waits in
+          let parts = parts_true (lies_between (get_or (starts f s) k 0) (end_in t (starts f s) k) m) (is_quiet t keeps f s (m + 1) (end_in t (starts f s) k)) waits in
           ((among_ends (get_or (starts f s) k 0) (end_in t (starts f s) k) m parts.0).1, quiet_so t keeps f s (m + 1) (end_in t (starts f s) k) parts.1)
       | inr waits ↦
           let parts = parts_true (k + 1 == length (starts f s)) (is_quiet t keeps f s 0 m) waits in
@@ -73,7 +73,7 @@ module _ (t : Tables) (keeps : Domains) (starts : Starts) (network : IsNetwork t
     ];
     round = λ f s k m known within below several went early. elim (moment_there f s k m went).waits [
       | inl waits ↦
-          let parts = parts_true (is_among (get_or (starts f s) k 0) (end_in t (starts f s) k) m) (is_quiet t keeps f s (m + 1) (end_in t (starts f s) k)) waits in
+          let parts = parts_true (lies_between (get_or (starts f s) k 0) (end_in t (starts f s) k) m) (is_quiet t keeps f s (m + 1) (end_in t (starts f s) k)) waits in
           absurd (omega (arith, early, (among_ends (get_or (starts f s) k 0) (end_in t (starts f s) k) m parts.0).0))
       | inr waits ↦
           let parts = parts_true (k + 1 == length (starts f s)) (is_quiet t keeps f s 0 m) waits in

@@ -28,8 +28,8 @@ use Rattle.lp_rows.specs.declared.kinds.Node.{Node}
 use Rattle.lp_rows.specs.declared.kinds.Park.{Park}
 use Rattle.lp_rows.specs.declared.kinds.Column.TheVariants.{Flight, Ground, Room, Slack}
 use Rattle.lp_rows.specs.declared.kinds.Line.TheVariants.{Balance}
-use Rattle.lp_rows.specs.Entries.{IsNode, IsPark, column_cost, entry_of, is_in, place_after, right_side_of}
-use Rattle.lp_rows.specs.Layout.{IsNetwork, Starts, arc_stays, moment_at, node_at, parking_days}
+use Rattle.lp_rows.specs.Entries.{IsNode, IsPark, column_cost, entry_of, is_in_node, place_after, right_side_of}
+use Rattle.lp_rows.specs.Layout.{IsNetwork, Starts, arc_stays, moment_at, node_of_place, parking_days}
 use Rattle.lp_rows.specs.Points.{node_count, priced_count}
 use Rattle.lp_rows.proofs.Places.{IsKept}
 use Rattle.dual_bound.specs.Prices.{AreWithin, IsCharge, charge_of, max_price, price_of, rent_of}
@@ -86,8 +86,8 @@ module _ (t : Tables) (keeps : Domains) (starts : Starts) (network : IsNetwork t
   -- the price through a node
   price_is : (f s m p : ℕ) → f < fleets_in t → s < stations_in t → m ≤ last_of t → IsAtPlace (starts f s) m p → price_of prices f s m ≡ value (legs_in t + (before t starts f s + p))
   price_is f s m p known within period at =
-      by.balance (legs_in t + (before t starts f s + p)) m (node_at f s p)
-      (balance_there t starts (before t starts f s + p) (node_within t starts f s p known within at.within) ∙ ap Balance (node_there t starts f s p (node_at 0 0 0) known within at.within))
+      by.balance (legs_in t + (before t starts f s + p)) m (node_of_place f s p)
+      (balance_there t starts (before t starts f s + p) (node_within t starts f s p known within at.within) ∙ ap Balance (node_there t starts f s p (node_of_place 0 0 0) known within at.within))
       (in_node t (starts f s) m p period at)
 
   node_is : (f s k : ℕ) → f < fleets_in t → s < stations_in t → k < length (starts f s) → of_node t starts y f s k ≡ h *ℤ value (legs_in t + (before t starts f s + k))
@@ -96,10 +96,10 @@ module _ (t : Tables) (keeps : Domains) (starts : Starts) (network : IsNetwork t
   minute_is : (f s m : ℕ) → f < fleets_in t → s < stations_in t → m ≤ last_of t → 0 < length (starts f s) → at_minute t starts y f s m ≡ h *ℤ price_of prices f s m
   minute_is f s m known within period some =
       let p = some_place (starts f s) m (rise f s known within) some in
-      sum_below_ℤ-same (λ k. where_true (is_in t (starts f s) k m) (of_node t starts y f s k)) (λ k. where_true (p.0 == k) (of_node t starts y f s k)) (length (starts f s))
-      (λ k below. ap (λ b. where_true b (of_node t starts y f s k)) (same_tests (is_in t (starts f s) k m) (p.0 == k)
+      sum_below_ℤ-same (λ k. where_true (is_in_node t (starts f s) k m) (of_node t starts y f s k)) (λ k. where_true (p.0 == k) (of_node t starts y f s k)) (length (starts f s))
+      (λ k below. ap (λ b. where_true b (of_node t starts y f s k)) (same_tests (is_in_node t (starts f s) k m) (p.0 == k)
       (λ e. equal_number p.0 k (one_place (starts f s) m p.0 k p.1 (at_place t (starts f s) m k (rise f s known within) below e)))
-      (λ e. subst (λ j. is_in t (starts f s) j m ≡ true) (eqb-true p.0 k e) (in_node t (starts f s) m p.0 period p.1))))
+      (λ e. subst (λ j. is_in_node t (starts f s) j m ≡ true) (eqb-true p.0 k e) (in_node t (starts f s) m p.0 period p.1))))
       ∙ sum_below_ℤ-one p.0 (of_node t starts y f s) (length (starts f s)) p.1.within
       ∙ node_is f s p.0 known within p.1.within
       ∙ ap (λ z. h *ℤ z) (sym (price_is f s m p.0 known within period p.1))
@@ -182,17 +182,17 @@ module _ (t : Tables) (keeps : Domains) (starts : Starts) (network : IsNetwork t
     abbrev charge_at : ℕ → ℕ → ℕ → ℤ
     charge_at f s j = charge_after prices s (end_in t (starts f s) j)
 
-    arc_falls : (f s j : ℕ) → f < fleets_in t → s < stations_in t → j < length (starts f s) → moment_at t keeps starts (node_at f s j) ≡ None
+    arc_falls : (f s j : ℕ) → f < fleets_in t → s < stations_in t → j < length (starts f s) → moment_at t keeps starts (node_of_place f s j) ≡ None
         → ((of_node t starts y f s (place_after (length (starts f s)) j) -ℤ of_node t starts y f s j) +ℤ where_true (length (starts f s) == j + 1) (of_fleet t starts y f)) ≤ℤ (h *ℤ charge_at f s j)
     arc_falls f s j known within below none =
-        let node : IsNode t starts (node_at f s j) = record { fleet = known; station = within; place = below } in
-        let charge = passed_charge t starts prices value by h y scaled (node_at f s j) within (end_within t keeps f s (starts f s) (network.each f s known within) j) in
-        omega (arith, ints, dual (Ground (node_at f s j)) (node, stays none), down_ground t starts y (node_at f s j) node, times_zero h prices.scale k, charge)
+        let node : IsNode t starts (node_of_place f s j) = record { fleet = known; station = within; place = below } in
+        let charge = passed_charge t starts prices value by h y scaled (node_of_place f s j) within (end_within t keeps f s (starts f s) (network.each f s known within) j) in
+        omega (arith, ints, dual (Ground (node_of_place f s j)) (node, stays none), down_ground t starts y (node_of_place f s j) node, times_zero h prices.scale k, charge)
       where
-        stays : moment_at t keeps starts (node_at f s j) ≡ None → arc_stays t keeps starts (node_at f s j) ≡ true
-        stays none = staying t keeps starts (node_at f s j) none
+        stays : moment_at t keeps starts (node_of_place f s j) ≡ None → arc_stays t keeps starts (node_of_place f s j) ≡ true
+        stays none = staying t keeps starts (node_of_place f s j) none
 
-    falls_next : (f s j : ℕ) → f < fleets_in t → s < stations_in t → j + 1 < length (starts f s) → moment_at t keeps starts (node_at f s j) ≡ None
+    falls_next : (f s j : ℕ) → f < fleets_in t → s < stations_in t → j + 1 < length (starts f s) → moment_at t keeps starts (node_of_place f s j) ≡ None
         → value (legs_in t + (before t starts f s + (j + 1))) ≤ℤ (value (legs_in t + (before t starts f s + j)) +ℤ charge_at f s j)
     falls_next f s j known within below none =
         let law = arc_falls f s j known within (omega arith) none in
@@ -209,7 +209,7 @@ module _ (t : Tables) (keeps : Domains) (starts : Starts) (network : IsNetwork t
         not_last : (n j : ℕ) → j + 1 < n → n ≢ j + 1
         not_last n j less = omega arith
 
-    over_end : (f s last : ℕ) → f < fleets_in t → s < stations_in t → last + 1 ≡ length (starts f s) → moment_at t keeps starts (node_at f s last) ≡ None
+    over_end : (f s last : ℕ) → f < fleets_in t → s < stations_in t → last + 1 ≡ length (starts f s) → moment_at t keeps starts (node_of_place f s last) ≡ None
         → value (legs_in t + (before t starts f s + 0)) ≤ℤ (value (legs_in t + (before t starts f s + last)) +ℤ rent_of prices f +ℤ charge_at f s last)
     over_end f s last known within ends none =
         let law = arc_falls f s last known within (omega arith) none in
@@ -242,7 +242,7 @@ module _ (t : Tables) (keeps : Domains) (starts : Starts) (network : IsNetwork t
       nowhere = λ f s m known within none. by.nowhere f s m known within (empty_is (starts f s) none);
     }
 
-    pub rise_by_charges : DoRiseByCharges t prices starts (λ f s j. moment_at t keeps starts (node_at f s j))
+    pub rise_by_charges : DoRiseByCharges t prices starts (λ f s j. moment_at t keeps starts (node_of_place f s j))
     rise_by_charges = record {
       each = λ f s j known within below none. elim (cases_lt (j + 1) (length (starts f s))) [
         | inl more ↦ omega (

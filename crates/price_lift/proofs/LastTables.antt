@@ -29,7 +29,7 @@ use Rattle.lp_rows.proofs.Places.{IsKept}
 use Rattle.dual_bound.specs.Prices.{max_price, max_scale}
 use Rattle.dual_bound.specs.Worth.{worth_of}
 use Rattle.dual_bound.specs.declared.prices.Prices.{Prices}
-use Rattle.price_lift.specs.Duals.{priced_lines, value_in}
+use Rattle.price_lift.specs.Duals.{dual_value_in, priced_lines}
 use Rattle.price_lift.specs.Prices.{AreByLines}
 use Rattle.dual_lift.specs.TooLarge.{lowest_value_excess}
 use Rattle.dual_lift.proofs.BasicPoints.{HaveColumns}
@@ -116,7 +116,7 @@ module _ (t : Tables) (duals : FracRow) (some : pos 0 <ℤ duals.den) (fits : pr
   pub values_small : (k : ℕ) → k < width_of duals → unsigned_abs (number_of (reduced duals) k) ≤ max_price
   values_small k below = ltb-false max_price (unsigned_abs (number_of (reduced duals) k)) (not_excess _ _ _ (nothing_at (lowest_value_excess max_price (legs_in t) duals) (width_of duals) k (second_none _ _ fits) below))
 
-  pub value_times : (line k : ℕ) → line ≡ legs_in t + k → divisor *ℤ value_in t (reduced duals) line ≡ number_of duals k
+  pub value_times : (line k : ℕ) → line ≡ legs_in t + k → divisor *ℤ dual_value_in t (reduced duals) line ≡ number_of duals k
   value_times line k is = ap (λ j. divisor *ℤ number_of (reduced duals) j) (omega arith) ∙ number_times duals k
 
 -- ---- dual values of the lines
@@ -124,7 +124,7 @@ module _ (t : Tables) (duals : FracRow) (some : pos 0 <ℤ duals.den) (fits : pr
 module _ (t : Tables) (keeps : Domains) (rows : Rows) (lines : AreLinesOf t keeps rows) (counted : ℕ) (y : ℕ → ℤ) (duals : FracRow) (values : AreDualValues rows counted duals.den y)
     (fits : prices_excess (legs_in t) duals ≡ None) (wide : width_of duals ≡ priced_count t lines.starts)
     (are : (k : ℕ) → k < priced_count t lines.starts → number_of duals k ≡ y (legs_in t + k))
-    (prices : Prices) (scale_is : prices.scale ≡ (reduced duals).den) (by_lines : AreByLines t lines.starts (value_in t (reduced duals)) prices) where
+    (prices : Prices) (scale_is : prices.scale ≡ (reduced duals).den) (by_lines : AreByLines t lines.starts (dual_value_in t (reduced duals)) prices) where
   abbrev net : Starts
   net = lines.starts
 
@@ -134,7 +134,7 @@ module _ (t : Tables) (keeps : Domains) (rows : Rows) (lines : AreLinesOf t keep
   above : pos 0 <ℤ h
   above = divisor_above t duals values.some fits
 
-  scaled : (j : ℕ) → j < priced_count t net → y (legs_in t + j) ≡ h *ℤ value_in t (reduced duals) (legs_in t + j)
+  scaled : (j : ℕ) → j < priced_count t net → y (legs_in t + j) ≡ h *ℤ dual_value_in t (reduced duals) (legs_in t + j)
   scaled j below = sym (are j below) ∙ sym (value_times t duals values.some fits (legs_in t + j) j refl)
 
   -- with the scale times the divisor
@@ -155,25 +155,25 @@ module _ (t : Tables) (keeps : Domains) (rows : Rows) (lines : AreLinesOf t keep
       subst (λ z. down t net y (λ line. entry_of t net line c) ≤ℤ z) (ap (λ z. (pos counted *ℤ duals.den) *ℤ z) paid ∙ factor (column_cost t c))
       (subst (λ z. z ≤ℤ ((pos counted *ℤ duals.den) *ℤ get_or rows.costs number.0 (pos 0))) at (values.under number.0 real))
 
-  small : (j : ℕ) → j < priced_count t net → unsigned_abs (value_in t (reduced duals) (legs_in t + j)) ≤ max_price
+  small : (j : ℕ) → j < priced_count t net → unsigned_abs (dual_value_in t (reduced duals) (legs_in t + j)) ≤ max_price
   small j below = subst (λ z. unsigned_abs z ≤ max_price) (sym (at (legs_in t + j) j refl)) (values_small t duals values.some fits j (omega (arith, below, wide)))
     where
-      at : (line j : ℕ) → line ≡ legs_in t + j → value_in t (reduced duals) line ≡ number_of (reduced duals) j
+      at : (line j : ℕ) → line ≡ legs_in t + j → dual_value_in t (reduced duals) line ≡ number_of (reduced duals) j
       at line j is = ap (number_of (reduced duals)) (omega arith)
 
   pub low : ArePricesLow t keeps net prices
   low = record {
     network = lines.lines.network;
     scale = record { some = subst (λ z. pos 1 ≤ℤ z) (sym scale_is) (scale_low t duals values.some fits); within = subst (λ z. z ≤ℤ pos max_scale) (sym scale_is) (scale_high t duals values.some fits) };
-    limits = are_within t keeps net lines.lines.network prices (value_in t (reduced duals)) by_lines h above y scaled counted weighs small;
-    through = through_nodes t keeps net lines.lines.network prices (value_in t (reduced duals)) by_lines h above y scaled counted weighs;
-    stay = rise_by_charges t keeps net lines.lines.network prices (value_in t (reduced duals)) by_lines h above y scaled counted weighs;
+    limits = are_within t keeps net lines.lines.network prices (dual_value_in t (reduced duals)) by_lines h above y scaled counted weighs small;
+    through = through_nodes t keeps net lines.lines.network prices (dual_value_in t (reduced duals)) by_lines h above y scaled counted weighs;
+    stay = rise_by_charges t keeps net lines.lines.network prices (dual_value_in t (reduced duals)) by_lines h above y scaled counted weighs;
   }
 
   pub reaches : ((l : ℕ) → ¬ (IsBare t keeps l)) → weighed rows y rows.columns ≤ℤ (divisor t duals values.some fits *ℤ worth_of t keeps prices counted)
   reaches each =
       subst (λ z. z ≤ℤ (h *ℤ worth_of t keeps prices counted)) (sym (weighed_sides t keeps net rows lines.lines lines.counted y))
-      (worth_reaches t keeps net lines.lines.network prices (value_in t (reduced duals)) by_lines h above y scaled counted weighs each)
+      (worth_reaches t keeps net lines.lines.network prices (dual_value_in t (reduced duals)) by_lines h above y scaled counted weighs each)
 
   -- where the right sides weigh more than 0, so is the worth
   pub refutes : WeighMore rows y → ((l : ℕ) → ¬ (IsBare t keeps l)) → pos 0 <ℤ worth_of t keeps prices counted

@@ -33,7 +33,7 @@ use Rattle.dual_bound.specs.Worth.{worth_of}
 use Rattle.dual_bound.specs.WrittenOrder.{IsMixedInOrder}
 use Rattle.dual_bound.specs.declared.mixed.Mixed.{Mixed}
 use Rattle.dual_bound.specs.declared.prices.Prices.{Prices}
-use Rattle.price_lift.specs.Duals.{value_in}
+use Rattle.price_lift.specs.Duals.{dual_value_in}
 use Rattle.price_lift.specs.LastTables.{IsLastBy, IsPointBy, prices_excess_by}
 use Rattle.price_lift.specs.Lifted.{AreNodePrices}
 use Rattle.price_lift.specs.Parts.{IsBasicMixed, weights_at}
@@ -174,7 +174,7 @@ module _ (t : Tables) (keeps : Domains) (table : List FracRow) (basis : List ℕ
         (meets t keeps is.last.rows is.last.lines table basis is.last.reached is.point).meets (divides t keeps is.last.rows is.last.lines table basis is.last.reached is.point) mixed kept_basic.parts scale_is within parts_there list_is
 
     pub worth_is : prices_excess (legs_in t) (duals_by table reading (legs_in t)) ≡ None → (prices : Prices) → prices.scale ≡ (reduced (duals_by table reading (legs_in t))).den
-        → AreByLines t is.last.lines.starts (value_in t (reduced (duals_by table reading (legs_in t)))) prices → (paid : Prices) → paid.scale ≡ prices.scale → ArePrices t paid
+        → AreByLines t is.last.lines.starts (dual_value_in t (reduced (duals_by table reading (legs_in t)))) prices → (paid : Prices) → paid.scale ≡ prices.scale → ArePrices t paid
         → worth_of t keeps prices 1 ≤ℤ worth_of t keeps paid 1 → IsWorth t keeps paid mixed
     worth_is fits prices same_scale by_lines paid paid_scale proper grows =
         plans.is_worth t keeps is.last.rows is.last.lines factor scale (some_dens t keeps is.last.rows is.last.lines table basis is.last.reached is.point) (scale_above t keeps is.last.rows is.last.lines table basis is.last.reached is.point) at part

@@ -7,7 +7,7 @@ use Rattle.fleet_model.specs.Kept.{Domains}
 use Rattle.fleet_model.specs.Schedule.{last_of}
 use Rattle.node_aggregate.specs.Nodes.{AreNodesAt, end_in}
 use Rattle.node_aggregate.proofs.Starts.{end_last, end_next, next_later}
-use Rattle.lp_rows.specs.Entries.{is_in}
+use Rattle.lp_rows.specs.Entries.{is_in_node}
 
 -- each start is later than those before, and the first is 0
 pub record Rise (starts : List ℕ) : Type 0 where
@@ -63,7 +63,7 @@ test_parts a m b h = (grind (arith, nat_tests), grind (arith, nat_tests))
 pub test_of : (a m b : ℕ) → a ≤ m → m ≤ b → (nat_le a m && nat_le m b) ≡ true
 test_of a m b low high = grind (arith, nat_tests)
 
-pub at_place : (t : Tables) (starts : List ℕ) (minute place : ℕ) → Rise starts → place < length starts → is_in t starts place minute ≡ true → IsAtPlace starts minute place
+pub at_place : (t : Tables) (starts : List ℕ) (minute place : ℕ) → Rise starts → place < length starts → is_in_node t starts place minute ≡ true → IsAtPlace starts minute place
 at_place t starts minute place rise within test =
     let parts = test_parts (get_or starts place 0) minute (end_in t starts place) test in
     record {
@@ -79,7 +79,7 @@ at_place t starts minute place rise within test =
           ];
     }
 
-pub in_node : (t : Tables) (starts : List ℕ) (minute place : ℕ) → minute ≤ last_of t → IsAtPlace starts minute place → is_in t starts place minute ≡ true
+pub in_node : (t : Tables) (starts : List ℕ) (minute place : ℕ) → minute ≤ last_of t → IsAtPlace starts minute place → is_in_node t starts place minute ≡ true
 in_node t starts minute place period at = test_of (get_or starts place 0) minute (end_in t starts place) at.begun (elim (cases_lt (place + 1) (length starts)) [
   | inl more ↦ omega (arith, end_next t starts place more, at.last (place + 1) (omega arith) more)
   | inr none ↦ omega (arith, end_last t starts place none)

@@ -11,7 +11,7 @@ use Rattle.sums.proofs.Sums.{sum_below-agree}
 use Rattle.node_aggregate.specs.Moments.{moment_of}
 use Rattle.lp_rows.specs.Points.{arcs_at, arcs_in, park_count}
 use Rattle.lp_rows.proofs.ColumnPlaces.{all_long}
-use Rattle.lp_rows.specs.Layout.{IsNetwork, Starts, all_nodes, all_parks, arc_stays, columns_of, concat_below, lines_of, node_at, nodes_at, nodes_of}
+use Rattle.lp_rows.specs.Layout.{IsNetwork, Starts, all_nodes, all_parks, arc_stays, concat_below, node_of_place, nodes_at, nodes_of_fleet, program_columns, program_lines}
 
 -- ---- networks
 concat_same : {X : Type 0} (g h : ℕ → List X) (n : ℕ) → ((k : ℕ) → k < n → g k ≡ h k) → concat_below g n ≡ concat_below h n
@@ -24,8 +24,8 @@ module _ (t : Tables) (keeps : Domains) (starts other : Starts) (network : IsNet
 
   pub same_nodes : all_nodes t starts ≡ all_nodes t other
   same_nodes =
-      concat_same (nodes_of t starts) (nodes_of t other) (fleets_in t)
-      (λ f known. concat_same (nodes_at starts f) (nodes_at other f) (stations_in t) (λ s within. ap (λ xs. list_below (node_at f s) (length xs)) (same_starts f s known within)))
+      concat_same (nodes_of_fleet t starts) (nodes_of_fleet t other) (fleets_in t)
+      (λ f known. concat_same (nodes_at starts f) (nodes_at other f) (stations_in t) (λ s within. ap (λ xs. list_below (node_of_place f s) (length xs)) (same_starts f s known within)))
 
   pub same_arcs : arcs_in t keeps starts ≡ arcs_in t keeps other
   unfolding arc_stays
@@ -35,9 +35,9 @@ module _ (t : Tables) (keeps : Domains) (starts other : Starts) (network : IsNet
     });
   })
 
-  pub same_lines : lines_of t starts ≡ lines_of t other
+  pub same_lines : program_lines t starts ≡ program_lines t other
   same_lines = ap (λ ns. list_below Cover (legs_in t) ++ map Balance ns ++ list_below Count (fleets_in t) ++ map Parking (all_parks t)) same_nodes
 
 -- how many columns there are
-pub columns_long : (t : Tables) (keeps : Domains) (starts : Starts) → length (columns_of t keeps starts) ≡ pairs_kept t keeps + (arcs_in t keeps starts + (fleets_in t + park_count t))
+pub columns_long : (t : Tables) (keeps : Domains) (starts : Starts) → length (program_columns t keeps starts) ≡ pairs_kept t keeps + (arcs_in t keeps starts + (fleets_in t + park_count t))
 columns_long t keeps starts = all_long t keeps starts

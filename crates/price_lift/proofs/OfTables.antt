@@ -9,7 +9,7 @@ use Rattle.lp_rows.proofs.Counted.{nodes_are, parks_are}
 use Rattle.lp_rows.proofs.Totals.{all_concat}
 use Rattle.dual_bound.specs.OfTables.{IsChargeOf, IsStepOf, IsWeightOf}
 use Rattle.price_lift.specs.Parts.{weights_at}
-use Rattle.price_lift.specs.Steps.{all_charges, all_steps, charges_at, is_step, step_of, steps_at}
+use Rattle.price_lift.specs.Steps.{all_charges, all_steps, charges_at, is_node_step, node_step, steps_at}
 use Rattle.price_lift.proofs.Parks.{park_number}
 use Rattle.lp_rows.proofs.PairParts.{is_pair}
 use Rattle.lp_rows.proofs.LinePlaces.{node_is}
@@ -26,7 +26,7 @@ pub steps_known : (t : Tables) (starts : Starts) (value : ℕ → ℤ) → All (
 steps_known t starts value = all_concat (IsStepOf t) (steps_at t starts value) (length (all_nodes t starts)) (λ k below.
     let n = node_of_number t starts k in
     let node = node_is t starts k (omega (arith, below, nodes_are t starts)) in
-    all_one (IsStepOf t) (is_step (length (starts n.fleet n.station)) value k n) (step_of (starts n.fleet n.station) (value k) n) (record { fleet = node.fleet; station = node.station }))
+    all_one (IsStepOf t) (is_node_step (length (starts n.fleet n.station)) value k n) (node_step (starts n.fleet n.station) (value k) n) (record { fleet = node.fleet; station = node.station }))
 
 pub charges_known : (t : Tables) (value : ℕ → ℤ) → All (IsChargeOf t) (all_charges t value)
 charges_known t value = all_concat (IsChargeOf t) (charges_at t value) (length (all_parks t)) (λ k below.

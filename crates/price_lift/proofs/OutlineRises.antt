@@ -5,7 +5,7 @@ use Rattle.fleet_model.specs.Kept.{Domains}
 use Rattle.fleet_model.specs.Schedule.{fleets_in, period_of, stations_in}
 use Rattle.fleet_model.specs.declared.tables.Tables.{Tables}
 use Rattle.node_aggregate.proofs.Starts.{start_within}
-use Rattle.lp_rows.specs.Layout.{concat_below, moment_at, node_at, node_of_number, starts_in}
+use Rattle.lp_rows.specs.Layout.{concat_below, moment_at, node_of_number, node_of_place, starts_in}
 use Rattle.lp_rows.specs.Entries.{IsNode}
 use Rattle.lp_rows.specs.Outline.{IsOutline, moment_in, node_in}
 use Rattle.lp_rows.specs.declared.outline.Outline.{Outline}
@@ -18,10 +18,10 @@ use Rattle.price_lift.specs.PaidBack.{moments_by}
 
 module _ (t : Tables) (keeps : Domains) (o : Outline) (is : IsOutline t keeps o) (prices : Prices) where
   node_same : (k : ℕ) → node_in o k ≡ node_of_number t (starts_in o.network) k
-  node_same k = ap (λ ns. get_or ns k (node_at 0 0 0)) is.over.nodes
+  node_same k = ap (λ ns. get_or ns k (node_of_place 0 0 0)) is.over.nodes
 
   moment_same : (k : ℕ) → k < length o.nodes → moment_in o k ≡ moment_at t keeps (starts_in o.network) (node_in o k)
-  moment_same k below = ap (λ ms. get_or ms k None) is.moments ∙ get_or-map (moment_at t keeps (starts_in o.network)) o.nodes k (node_at 0 0 0) None below
+  moment_same k below = ap (λ ms. get_or ms k None) is.moments ∙ get_or-map (moment_at t keeps (starts_in o.network)) o.nodes k (node_of_place 0 0 0) None below
 
   one_same : (k : ℕ) → k < length o.nodes → rise_of_number t o prices k ≡ rise_at t (starts_in o.network) (moments_by t keeps (starts_in o.network)) prices k
   one_same k below =
@@ -43,7 +43,7 @@ module _ (t : Tables) (keeps : Domains) (o : Outline) (is : IsOutline t keeps o)
 module _ (t : Tables) (keeps : Domains) (o : Outline) (is : IsOutline t keeps o) (k : ℕ) (below : k < length o.nodes) where
   pub node_known : IsNode t (starts_in o.network) (node_in o k)
   node_known =
-      subst (IsNode t (starts_in o.network)) (sym (ap (λ ns. get_or ns k (node_at 0 0 0)) is.over.nodes))
+      subst (IsNode t (starts_in o.network)) (sym (ap (λ ns. get_or ns k (node_of_place 0 0 0)) is.over.nodes))
       (node_is t (starts_in o.network) k (omega (arith, below, ap length is.over.nodes, nodes_are t (starts_in o.network))))
 
   pub arc_known : IsArc t (starts_in o.network (node_in o k).fleet (node_in o k).station) (node_in o k).fleet (node_in o k).station (node_in o k).place

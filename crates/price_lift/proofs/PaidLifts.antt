@@ -17,7 +17,7 @@ use Rattle.island_cut.proofs.IslandProofs.{islands_tested}
 use Rattle.island_prices.specs.Arcs.{AreAllNodes, AreArcRises, AreByNodes, AreMoments, DoStayLow, rise_over}
 use Rattle.island_prices.specs.Least.{least_idle}
 use Rattle.island_prices.specs.Paid.{first_beyond, paid_price, paid_prices, paid_rent}
-use Rattle.island_prices.specs.Payback.{AreApart, AreCovered}
+use Rattle.island_prices.specs.Payback.{AreCovered, AreRisesApart}
 use Rattle.island_prices.specs.Rises.{AreRises, rise_in}
 use Rattle.island_prices.specs.Rounds.{rounds_of}
 use Rattle.island_prices.specs.declared.rises.Rise.{Rise}
@@ -122,7 +122,7 @@ module _ (t : Tables) (keeps : Domains) (starts : Starts) (prices : Prices) (low
         (λ j below. rounds_pay t rises idles islands j)
 
     module _ (fits : first_beyond t (paid_rent prices (rounds_of t rises (least_idle t))) (paid_price prices rises (rounds_of t rises (least_idle t))) (fleets_in t) ≡ None) where
-      apart : AreApart rises
+      apart : AreRisesApart rises
       apart = arcs.are_apart t keeps prices starts (moments_by t keeps starts) rises nodes moments are rents
 
       pub paid_proper : ArePrices t (paid_prices t prices rises (rounds_of t rises (least_idle t)))

@@ -21,7 +21,7 @@ use Rattle.row_store.specs.DualValues.{weighed}
 use Rattle.row_store.specs.Problem.{MeetsRows, point_cost}
 use Rattle.row_store.specs.declared.problem.Rows.{Rows}
 use Rattle.lp_rows.specs.declared.kinds.Column.{Column}
-use Rattle.lp_rows.specs.Layout.{Starts, all_kept, columns_of, concat_below}
+use Rattle.lp_rows.specs.Layout.{Starts, all_kept, concat_below, program_columns}
 use Rattle.lp_rows.specs.Points.{AreLinesOf, pair_part}
 use Rattle.lp_rows.proofs.ColumnPlaces.{pair_column}
 use Rattle.lp_rows.proofs.PairParts.{part_at, same_parts}
@@ -34,7 +34,7 @@ use Rattle.dual_bound.specs.Worth.{worth_of}
 use Rattle.dual_bound.specs.declared.mixed.Mixed.{Mixed}
 use Rattle.dual_bound.specs.declared.prices.Prices.{Prices}
 use Rattle.dual_bound.proofs.Duality.{weak_duality}
-use Rattle.price_lift.specs.Duals.{value_in}
+use Rattle.price_lift.specs.Duals.{dual_value_in}
 use Rattle.price_lift.specs.Parts.{weights_at}
 use Rattle.price_lift.specs.Prices.{AreByLines}
 use Rattle.price_lift.specs.TooLarge.{prices_excess}
@@ -84,7 +84,7 @@ module _ (t : Tables) (keeps : Domains) (rows : Rows) (lines : AreLinesOf t keep
   net = lines.starts
 
   abbrev cols : List Column
-  cols = columns_of t keeps net
+  cols = program_columns t keeps net
 
   -- its pair part, over the scale
   abbrev pub share : Weights
@@ -145,7 +145,7 @@ module _ (t : Tables) (keeps : Domains) (rows : Rows) (lines : AreLinesOf t keep
     -- it costs what the prices of dual values are worth where the point costs what the right sides weigh
     module _ (y : ℕ → ℤ) (duals : FracRow) (is : IsDualRow t rows net 1 y duals) (fits : prices_excess (legs_in t) duals ≡ None) (over amount : ℤ) (over_above : pos 0 <ℤ over)
         (weigh : weighed rows y rows.columns *ℤ over ≡ amount *ℤ duals.den) (costs : point_cost rows point *ℤ over ≡ amount *ℤ pos (factor * scale))
-        (prices : Prices) (scale_is : prices.scale ≡ (reduced duals).den) (by_lines : AreByLines t net (value_in t (reduced duals)) prices)
+        (prices : Prices) (scale_is : prices.scale ≡ (reduced duals).den) (by_lines : AreByLines t net (dual_value_in t (reduced duals)) prices)
         (paid : Prices) (same_scale : paid.scale ≡ prices.scale) (proper : ArePrices t paid) (grows : worth_of t keeps prices 1 ≤ℤ worth_of t keeps paid 1) where
       abbrev above : pos 0 <ℤ duals.den
       above = is.values.some

@@ -24,7 +24,7 @@ use Rattle.simplex_frac.proofs.RayPoints.{ray_is_direction}
 use Rattle.simplex_frac.proofs.RightSides.{run_keeps_right_sides}
 use Rattle.simplex_frac.proofs.RunPoints.{run_is_reached}
 use Rattle.lp_rows.specs.Points.{pair_part}
-use Rattle.lp_rows.specs.Layout.{columns_of}
+use Rattle.lp_rows.specs.Layout.{program_columns}
 use Rattle.lp_rows.specs.Outline.{IsOutline, column_count}
 use Rattle.lp_rows.specs.declared.outline.Outline.{Outline}
 use Rattle.price_lift.proofs.LastTables.{counted_columns}
@@ -99,5 +99,5 @@ pub no_ray : (t : Tables) (keeps : Domains) (table : List FracRow) (basis : List
 no_ray t keeps table basis column ends =
     let direction = ray_is_direction ends.rows ends.made table basis column ends.turn in
     let plan = ends.lines.points_are_plans 0 direction.0 direction.1.meets in
-    let cost = ends.lines.costs_are_same direction.0 ∙ free t keeps (pair_part (columns_of t keeps ends.lines.starts) direction.0) plan in
+    let cost = ends.lines.costs_are_same direction.0 ∙ free t keeps (pair_part (program_columns t keeps ends.lines.starts) direction.0) plan in
     omega (arith, ints, cost, direction.1.falls)

@@ -11,7 +11,7 @@ use Rattle.sums.proofs.Tests.{both_true, first_true, not_false, not_true, second
 use Rattle.fleet_model.specs.declared.tables.Tables.{Tables}
 use Rattle.fleet_model.specs.Schedule.{fleets_in, last_of, stations_in}
 use Rattle.lp_rows.specs.declared.kinds.Node.{Node}
-use Rattle.lp_rows.specs.Layout.{Starts, all_nodes, concat_below, node_at, node_of_number}
+use Rattle.lp_rows.specs.Layout.{Starts, all_nodes, concat_below, node_of_number, node_of_place}
 use Rattle.lp_rows.specs.Points.{node_count}
 use Rattle.lp_rows.proofs.Counted.{nodes_are}
 use Rattle.lp_rows.proofs.Totals.{all_concat}
@@ -19,7 +19,7 @@ use Rattle.dual_bound.specs.Order.{same_place, step_follows}
 use Rattle.dual_bound.specs.WrittenOrder.{AreStepsInOrder, IsFigure, IsStepInOrder, NoLoneZero, StepsFollow, goes_on, is_lone_zero}
 use Rattle.dual_bound.specs.declared.prices.PriceStep.{PriceStep}
 use Rattle.dual_bound.proofs.StepOrder.{PlaceBefore, follows_other, follows_same, same_place_by}
-use Rattle.price_lift.specs.Steps.{all_steps, are_zero, is_step, step_of, steps_at}
+use Rattle.price_lift.specs.Steps.{all_steps, are_zero, is_node_step, node_step, steps_at}
 use Rattle.lp_rows.proofs.LinePlaces.{before, node_is, node_number, node_there, node_within, nodes_in}
 use Rattle.lp_rows.proofs.ListPlaces.{within_sum}
 use Rattle.price_lift.proofs.Minutes.{Rise, later}
@@ -36,18 +36,18 @@ some_value value from (suc n) none = by_test (are_zero value from n)
     (λ e. (n, omega arith, λ zero. absurd (false≢true (sym none ∙ both_true (are_zero value from n) (unsigned_abs (value (from + n)) == 0) e (eq-eqb (unsigned_abs (value (from + n))) 0 (size_of_zero (value (from + n)) zero))))))
     (λ e. let at = some_value value from n e in (at.0, omega (arith, at.1), at.2))
 
-first_step : (nodes : ℕ) (value : ℕ → ℤ) (k : ℕ) (n : Node) → n.place ≡ 0 → is_step nodes value k n ≡ true → are_zero value k nodes ≡ false
-unfolding is_step
+first_step : (nodes : ℕ) (value : ℕ → ℤ) (k : ℕ) (n : Node) → n.place ≡ 0 → is_node_step nodes value k n ≡ true → are_zero value k nodes ≡ false
+unfolding is_node_step
 first_step nodes value k n first here =
     not_true (are_zero value k nodes) (sym (ap (λ p. cond (p == 0) (not (are_zero value k nodes)) (not (int_eq (value k) (value (k - 1))))) first) ∙ here)
 
-no_first : (nodes : ℕ) (value : ℕ → ℤ) (k : ℕ) (n : Node) → n.place ≡ 0 → is_step nodes value k n ≡ false → are_zero value k nodes ≡ true
-unfolding is_step
+no_first : (nodes : ℕ) (value : ℕ → ℤ) (k : ℕ) (n : Node) → n.place ≡ 0 → is_node_step nodes value k n ≡ false → are_zero value k nodes ≡ true
+unfolding is_node_step
 no_first nodes value k n first none =
     not_false (are_zero value k nodes) (sym (ap (λ p. cond (p == 0) (not (are_zero value k nodes)) (not (int_eq (value k) (value (k - 1))))) first) ∙ none)
 
-later_step : (nodes : ℕ) (value : ℕ → ℤ) (k : ℕ) (n : Node) → 0 < n.place → is_step nodes value k n ≡ true → value k ≢ value (k - 1)
-unfolding is_step
+later_step : (nodes : ℕ) (value : ℕ → ℤ) (k : ℕ) (n : Node) → 0 < n.place → is_node_step nodes value k n ≡ true → value k ≢ value (k - 1)
+unfolding is_node_step
 later_step nodes value k n later here same =
     false≢true (sym (not_true (int_eq (value k) (value (k - 1))) (sym (above_zero_tested n.place (not (are_zero value k nodes)) (not (int_eq (value k) (value (k - 1)))) later) ∙ here)) ∙ (Decides-int_eq (value k) (value (k - 1))).1 same)
 
@@ -66,19 +66,19 @@ lone_false false c g h = refl
 -- ---- the steps of nodes
 module _ (t : Tables) (starts : Starts) (value : ℕ → ℤ) (rise : (f s : ℕ) → f < fleets_in t → s < stations_in t → 0 < length (starts f s) → Rise (starts f s)) where
   abbrev there : ℕ → Bool
-  there k = let n = node_of_number t starts k in is_step (length (starts n.fleet n.station)) value k n
+  there k = let n = node_of_number t starts k in is_node_step (length (starts n.fleet n.station)) value k n
 
   abbrev entry : ℕ → PriceStep
-  entry k = let n = node_of_number t starts k in step_of (starts n.fleet n.station) (value k) n
+  entry k = let n = node_of_number t starts k in node_step (starts n.fleet n.station) (value k) n
 
   abbrev entry_at : ℕ → ℕ → ℕ → PriceStep
-  entry_at f s p = step_of (starts f s) (value (before t starts f s + p)) (node_at f s p)
+  entry_at f s p = node_step (starts f s) (value (before t starts f s + p)) (node_of_place f s p)
 
-  there_is : (f s p : ℕ) → f < fleets_in t → s < stations_in t → p < length (starts f s) → there (before t starts f s + p) ≡ is_step (length (starts f s)) value (before t starts f s + p) (node_at f s p)
-  there_is f s p known within below = ap (λ n. is_step (length (starts n.fleet n.station)) value (before t starts f s + p) n) (node_there t starts f s p (node_at 0 0 0) known within below)
+  there_is : (f s p : ℕ) → f < fleets_in t → s < stations_in t → p < length (starts f s) → there (before t starts f s + p) ≡ is_node_step (length (starts f s)) value (before t starts f s + p) (node_of_place f s p)
+  there_is f s p known within below = ap (λ n. is_node_step (length (starts n.fleet n.station)) value (before t starts f s + p) n) (node_there t starts f s p (node_of_place 0 0 0) known within below)
 
   entry_is : (f s p : ℕ) → f < fleets_in t → s < stations_in t → p < length (starts f s) → entry (before t starts f s + p) ≡ entry_at f s p
-  entry_is f s p known within below = ap (λ n. step_of (starts n.fleet n.station) (value (before t starts f s + p)) n) (node_there t starts f s p (node_at 0 0 0) known within below)
+  entry_is f s p known within below = ap (λ n. node_step (starts n.fleet n.station) (value (before t starts f s + p)) n) (node_there t starts f s p (node_of_place 0 0 0) known within below)
 
   -- of two numbers the lesser is that of an earlier node
   place_order : (f s p g r q : ℕ) → s < stations_in t → r < stations_in t → p < length (starts f s) → q < length (starts g r) → before t starts f s + p < before t starts g r + q
@@ -104,7 +104,7 @@ module _ (t : Tables) (starts : Starts) (value : ℕ → ℤ) (rise : (f s : ℕ
     constant : (p d : ℕ) → p + d < length (starts f s) → ((i : ℕ) → p < i → i ≤ p + d → there (before t starts f s + i) ≡ false) → value (before t starts f s + (p + d)) ≡ value (before t starts f s + p)
     constant p zero below none = ap (λ n. value (before t starts f s + n)) (plus_0 p)
     constant p (suc d) below none =
-        no_later_step (length (starts f s)) value (before t starts f s + (p + suc d)) (node_at f s (p + suc d)) (omega arith)
+        no_later_step (length (starts f s)) value (before t starts f s + (p + suc d)) (node_of_place f s (p + suc d)) (omega arith)
         (sym (there_is f s (p + suc d) known within below) ∙ none (p + suc d) (omega arith) (omega arith))
         ∙ ap value (back p d) ∙ constant p d (omega (arith, below)) (λ i above order. none i above (omega arith))
       where
@@ -115,9 +115,9 @@ module _ (t : Tables) (starts : Starts) (value : ℕ → ℤ) (rise : (f s : ℕ
     begins : (p : ℕ) → p < length (starts f s) → there (before t starts f s + p) ≡ true → ((i : ℕ) → i < p → there (before t starts f s + i) ≡ false) → p ≡ 0
     begins zero below here none = refl
     begins (suc p) below here none =
-        let zeros = all_zero value (before t starts f s + 0) (length (starts f s)) (no_first (length (starts f s)) value (before t starts f s + 0) (node_at f s 0) refl (sym (there_is f s 0 known within (omega arith)) ∙ none 0 (omega arith))) in
+        let zeros = all_zero value (before t starts f s + 0) (length (starts f s)) (no_first (length (starts f s)) value (before t starts f s + 0) (node_of_place f s 0) refl (sym (there_is f s 0 known within (omega arith)) ∙ none 0 (omega arith))) in
         let at = λ (i : ℕ). λ (less : i < length (starts f s)). ap (λ n. value n) (first i) ∙ zeros i less in
-        absurd (later_step (length (starts f s)) value (before t starts f s + suc p) (node_at f s (suc p)) (omega arith) (sym (there_is f s (suc p) known within below) ∙ here)
+        absurd (later_step (length (starts f s)) value (before t starts f s + suc p) (node_of_place f s (suc p)) (omega arith) (sym (there_is f s (suc p) known within below) ∙ here)
         (at (suc p) below ∙ sym (ap value (back p) ∙ at p (omega arith))))
       where
         first : (i : ℕ) → before t starts f s + i ≡ before t starts f s + 0 + i
@@ -134,7 +134,7 @@ module _ (t : Tables) (starts : Starts) (value : ℕ → ℤ) (rise : (f s : ℕ
         → step_follows (Some (entry_at f s p)) (entry_at f s q) ≡ true
     next_there p q order below here none =
         follows_same (entry_at f s p) (entry_at f s q) refl refl (later (starts f s) (rise f s known within (omega arith)) p q order below) (λ same.
-        later_step (length (starts f s)) value (before t starts f s + q) (node_at f s q) (omega arith) (sym (there_is f s q known within below) ∙ here)
+        later_step (length (starts f s)) value (before t starts f s + q) (node_of_place f s q) (omega arith) (sym (there_is f s q known within below) ∙ here)
         (sym same ∙ sym (constant p (q - 1 - p) (omega arith) (λ i above less. none i above (omega arith))) ∙ ap value (back p q order)))
       where
         back : (p q : ℕ) → p < q → before t starts f s + (p + (q - 1 - p)) ≡ before t starts f s + q - 1
@@ -159,7 +159,7 @@ module _ (t : Tables) (starts : Starts) (value : ℕ → ℤ) (rise : (f s : ℕ
 
         still : there (before t starts f s + suc i) ≡ false → value (before t starts f s + suc i) ≡ pos 0
         still e =
-            no_later_step (length (starts f s)) value (before t starts f s + suc i) (node_at f s (suc i)) (omega arith) (sym (there_is f s (suc i) known within (omega arith)) ∙ e)
+            no_later_step (length (starts f s)) value (before t starts f s + suc i) (node_of_place f s (suc i)) (omega arith) (sym (there_is f s (suc i) known within (omega arith)) ∙ e)
             ∙ ap value (back i) ∙ zero_there
           where
             back : (i : ℕ) → before t starts f s + suc i - 1 ≡ before t starts f s + i
@@ -223,7 +223,7 @@ module _ (t : Tables) (starts : Starts) (value : ℕ → ℤ) (rise : (f s : ℕ
       → goes_on (entry (before t starts f s + p)) (list_from there entry (suc (before t starts f s + p)) d) ≡ true
   lone_at f s zero d known within below here all zero_there =
       let zero_value = (Decides-int_eq (value (before t starts f s + 0)) (pos 0)).0 (second_true ((entry (before t starts f s + 0)).minute == 0) (int_eq (value (before t starts f s + 0)) (pos 0)) zero_there) in
-      let some = some_value value (before t starts f s + 0) (length (starts f s)) (first_step (length (starts f s)) value (before t starts f s + 0) (node_at f s 0) refl (sym (there_is f s 0 known within below) ∙ here)) in
+      let some = some_value value (before t starts f s + 0) (length (starts f s)) (first_step (length (starts f s)) value (before t starts f s + 0) (node_of_place f s 0) refl (sym (there_is f s 0 known within below) ∙ here)) in
       let other : value (before t starts f s + some.0) ≢ pos 0 = λ e. some.2 (ap value (moved some.0) ∙ e) in
       let later_one : 0 < some.0 = elim (cases_lt 0 some.0) [ inl later ↦ later | inr none ↦ let at : some.0 ≡ 0 = omega arith in absurd (other (ap (λ i. value (before t starts f s + i)) at ∙ zero_value)) ] in
       ap (λ n. goes_on (entry (before t starts f s + 0)) (list_from there entry n d)) (next (before t starts f s))

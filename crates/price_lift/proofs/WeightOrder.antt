@@ -8,7 +8,7 @@ use Rattle.fleet_model.specs.declared.parts.Pair.{Pair}
 use Rattle.fleet_model.specs.declared.tables.Tables.{Tables}
 use Rattle.fleet_model.specs.Kept.{Domains, pairs_kept}
 use Rattle.fleet_model.specs.Schedule.{choices_in, leg_on, legs_in}
-use Rattle.lp_rows.specs.Layout.{all_kept, concat_below, pair_of, pairs_of, Starts}
+use Rattle.lp_rows.specs.Layout.{all_kept, concat_below, pair_if_kept, pairs_of_leg, Starts}
 use Rattle.lp_rows.proofs.Counted.{pairs_are}
 use Rattle.lp_rows.proofs.Totals.{all_concat}
 use Rattle.dual_bound.specs.Order.{weight_follows}
@@ -22,7 +22,7 @@ use Rattle.price_lift.proofs.Orders.{Follow, at_number, concat_same, follow_all,
 abbrev pub PairBefore : Pair → Pair → Type 0
 PairBefore p q = (p.leg < q.leg) ⊎ ((p.leg ≡ q.leg) × (p.choice < q.choice))
 
-one_pair : (keeps : Domains) (l f : ℕ) → AllPairs PairBefore (pair_of keeps l f)
+one_pair : (keeps : Domains) (l f : ℕ) → AllPairs PairBefore (pair_if_kept keeps l f)
 one_pair keeps l f = of_test (keeps (leg_on l f))
   where
     of_test : (b : Bool) → AllPairs PairBefore (if b then leg_on l f ∷ [] else [])
@@ -33,7 +33,7 @@ record IsOn (l f : ℕ) (p : Pair) : Type 0 where
   leg : p.leg ≡ l
   choice : p.choice ≡ f
 
-is_on : (keeps : Domains) (l f : ℕ) → All (IsOn l f) (pair_of keeps l f)
+is_on : (keeps : Domains) (l f : ℕ) → All (IsOn l f) (pair_if_kept keeps l f)
 is_on keeps l f = of_test (keeps (leg_on l f))
   where
     of_test : (b : Bool) → All (IsOn l f) (if b then leg_on l f ∷ [] else [])
@@ -42,10 +42,10 @@ is_on keeps l f = of_test (keeps (leg_on l f))
 
 kept_in_order : (t : Tables) (keeps : Domains) → AllPairs PairBefore (all_kept t keeps)
 kept_in_order t keeps =
-    pairs_concat PairBefore (λ l p. p.leg ≡ l) (pairs_of t keeps) (legs_in t)
-    (λ l below. pairs_concat PairBefore (IsOn l) (pair_of keeps l) (choices_in t l) (λ c known. one_pair keeps l c) (λ c known. is_on keeps l c)
+    pairs_concat PairBefore (λ l p. p.leg ≡ l) (pairs_of_leg t keeps) (legs_in t)
+    (λ l below. pairs_concat PairBefore (IsOn l) (pair_if_kept keeps l) (choices_in t l) (λ c known. one_pair keeps l c) (λ c known. is_on keeps l c)
     (λ i k p q order here there. inr (omega (arith, here.leg, there.leg), omega (arith, order, here.choice, there.choice))))
-    (λ l below. all_concat (λ p. p.leg ≡ l) (pair_of keeps l) (choices_in t l) (λ c known k d there. (is_on keeps l c k d there).leg))
+    (λ l below. all_concat (λ p. p.leg ≡ l) (pair_if_kept keeps l) (choices_in t l) (λ c known k d there. (is_on keeps l c k d there).leg))
     (λ i k p q order here there. inl (omega (arith, order, here, there)))
 
 -- ---- the weights

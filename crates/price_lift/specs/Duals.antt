@@ -26,5 +26,5 @@ refusal_duals t table = record {
 }
 
 -- the dual value that they have of a line
-abbrev pub value_in : Tables → FracRow → ℕ → ℤ
-value_in t duals line = number_of duals (line - legs_in t)
+abbrev pub dual_value_in : Tables → FracRow → ℕ → ℤ
+dual_value_in t duals line = number_of duals (line - legs_in t)

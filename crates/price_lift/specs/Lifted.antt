@@ -10,7 +10,7 @@ use Rattle.dual_bound.specs.WrittenOrder.{ArePricesInOrder}
 use Rattle.dual_bound.specs.declared.prices.Prices.{Prices}
 use Rattle.lp_rows.specs.Layout.{IsNetwork, Starts}
 use Rattle.price_lift.specs.BestPoint.{AreGood, AreRefuting, IsBestPoint}
-use Rattle.price_lift.specs.Duals.{value_in}
+use Rattle.price_lift.specs.Duals.{dual_value_in}
 use Rattle.price_lift.specs.PaidBack.{ArePaidBack}
 use Rattle.price_lift.specs.Prices.{AreByLines}
 use Rattle.price_lift.specs.Steps.{prices_by}
@@ -22,7 +22,7 @@ use Rattle.price_lift.specs.declared.best_point.BestPoint.{BestPoint}
 pub record AreNodePrices (t : Tables) (keeps : Domains) (starts : Starts) (duals : FracRow) (prices : Prices) : Type 0 where
   pub scale : prices.scale ≡ (reduced duals).den
   pub by : prices ≡ prices_by t starts (reduced duals)
-  pub by_lines : (other : Starts) → IsNetwork t keeps other → AreByLines t other (value_in t (reduced duals)) prices
+  pub by_lines : (other : Starts) → IsNetwork t keeps other → AreByLines t other (dual_value_in t (reduced duals)) prices
   pub of_tables : ArePricesOf t prices
   pub limits : AreWithin t prices
   pub in_order : ArePricesInOrder t prices

@@ -8,7 +8,7 @@ use Rattle.fleet_model.specs.declared.tables.Tables.{Tables}
 use Rattle.dual_lift.specs.declared.error.Excess.{Excess}
 use Rattle.dual_lift.specs.declared.error.LiftError.{LiftError}
 use Rattle.dual_lift.specs.declared.error.LiftError.TheVariants as lift
-use Rattle.lp_rows.specs.Layout.{IsNetwork, Starts, moment_at, node_at}
+use Rattle.lp_rows.specs.Layout.{IsNetwork, Starts, moment_at, node_of_place}
 use Rattle.dual_bound.specs.declared.prices.Prices.{Prices}
 use Rattle.island_prices.specs.Arcs.{ArcMoments}
 use Rattle.island_prices.specs.Least.{least_idle}
@@ -18,13 +18,13 @@ use Rattle.island_prices.specs.declared.paying.PaybackError.{PaybackError}
 use Rattle.island_prices.specs.declared.paying.PaybackError.TheVariants.{Beyond, NoMemory}
 use Rattle.island_prices.specs.declared.rises.Rise.{Rise}
 use Rattle.price_lift.specs.ArcRises.{rises_by}
-use Rattle.price_lift.specs.Duals.{value_in}
+use Rattle.price_lift.specs.Duals.{dual_value_in}
 use Rattle.price_lift.specs.Prices.{AreByLines}
 use Rattle.price_lift.specs.Steps.{prices_by}
 
 -- the moments of the arcs of a network
 abbrev pub moments_by : Tables → Domains → Starts → ArcMoments
-moments_by t keeps starts f s k = moment_at t keeps starts (node_at f s k)
+moments_by t keeps starts f s k = moment_at t keeps starts (node_of_place f s k)
 
 -- where no price rises, all stay
 abbrev pub paid_back : Tables → Prices → List Rise → Prices
@@ -57,7 +57,7 @@ payback_excess_by t keeps starts duals = payback_excess t (prices_by t starts (r
 -- moments
 pub record ArePaidBack (t : Tables) (keeps : Domains) (duals : FracRow) (prices : Prices) : Type 0 where
   pub before : Prices
-  pub by_lines : (starts : Starts) → IsNetwork t keeps starts → AreByLines t starts (value_in t (reduced duals)) before
+  pub by_lines : (starts : Starts) → IsNetwork t keeps starts → AreByLines t starts (dual_value_in t (reduced duals)) before
   pub starts : Starts
   pub network : IsNetwork t keeps starts
   pub paid : prices ≡ paid_back t before (rises_by t starts (moments_by t keeps starts) before)

@@ -23,20 +23,20 @@ are_zero value from (suc n) = are_zero value from n && (unsigned_abs (value (fro
 
 -- the value of a node is another than that of the node before; of the first of so many nodes of a fleet at a station,
 -- whether any of them is other than 0
-unfoldable pub is_step : ℕ → (ℕ → ℤ) → ℕ → Node → Bool
-is_step nodes value k n = if n.place == 0 then not (are_zero value k nodes) else not (int_eq (value k) (value (k - 1)))
+unfoldable pub is_node_step : ℕ → (ℕ → ℤ) → ℕ → Node → Bool
+is_node_step nodes value k n = if n.place == 0 then not (are_zero value k nodes) else not (int_eq (value k) (value (k - 1)))
 
 -- the step at the start of a node, of those with these starts
-abbrev pub step_of : List ℕ → ℤ → Node → PriceStep
-step_of starts value n = record { fleet = n.fleet; station = n.station; minute = slice_index starts n.place; value = value }
+abbrev pub node_step : List ℕ → ℤ → Node → PriceStep
+node_step starts value n = record { fleet = n.fleet; station = n.station; minute = slice_index starts n.place; value = value }
 
 -- .. where there is one
-abbrev pub step_where : List ℕ → (ℕ → ℤ) → ℕ → Node → List PriceStep
-step_where starts value k n = if is_step (length starts) value k n then step_of starts (value k) n ∷ [] else []
+abbrev pub node_step_where : List ℕ → (ℕ → ℤ) → ℕ → Node → List PriceStep
+node_step_where starts value k n = if is_node_step (length starts) value k n then node_step starts (value k) n ∷ [] else []
 
 -- of a node at its fleet and station
 abbrev pub step_at_node : Starts → (ℕ → ℤ) → ℕ → Node → List PriceStep
-step_at_node starts value k n = step_where (starts n.fleet n.station) value k n
+step_at_node starts value k n = node_step_where (starts n.fleet n.station) value k n
 
 abbrev pub steps_at : Tables → Starts → (ℕ → ℤ) → ℕ → List PriceStep
 steps_at t starts value k = step_at_node starts value k (node_of_number t starts k)

@@ -1,7 +1,7 @@
 //! Prices as steps: from the start of each node on whose value is another than that of the node before.
 ghost use Rattle.std.specs.Prelude.{◌≡◌, ◌<◌, ◌≤◌, ◌++◌, length, slice_index_or, pos, IfOk, OnOk};
 ghost use Rattle.lp_rows.specs.Layout.{AreByStation, all_nodes, starts_in};
-ghost use Rattle.price_lift.specs.Steps.{all_steps, are_zero, is_step, step_where};
+ghost use Rattle.price_lift.specs.Steps.{all_steps, are_zero, is_node_step, node_step_where};
 
 use dual_bound::PriceStep;
 use entries::NoMemory;
@@ -43,7 +43,7 @@ fn push_step(
     requires few { length starts.now ≤ 10080 }
     requires node { node.place < length starts.now }
     requires within { place < length values.now }
-    ensures { OnOk result (steps.new.items ≡ steps.old.items ++ step_where starts.now (λ k. slice_index_or values.now k (pos 0)) place node) }
+    ensures { OnOk result (steps.new.items ≡ steps.old.items ++ node_step_where starts.now (λ k. slice_index_or values.now k (pos 0)) place node) }
 {
     if !is_step(values, place, node, starts) {
         return Ok(());
@@ -59,11 +59,11 @@ fn push_step(
 
 // Whether a node's price is another than before: than that of the node before, and at the first node of a fleet at a
 // station, whether there is any price but 0.
-#[tactic(auto, unfolding(crate::specs::Steps::is_step))]
+#[tactic(auto, unfolding(crate::specs::Steps::is_node_step))]
 fn is_step(values: &[i128], place: usize, node: Node, starts: &[u16]) -> bool
     requires within { place < length values.now }
     requires few { length starts.now ≤ 10080 }
-    ensures { result ≡ is_step (length starts.now) (λ k. slice_index_or values.now k (pos 0)) place node }
+    ensures { result ≡ is_node_step (length starts.now) (λ k. slice_index_or values.now k (pos 0)) place node }
 {
     if node.place == 0 {
         !are_zero(values, place, starts.len())

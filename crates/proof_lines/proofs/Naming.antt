@@ -11,7 +11,7 @@ use Rattle.fleet_model.specs.Schedule.{IsPair, fleet_by, fleet_names, fleets_in,
 use Rattle.fleet_model.specs.declared.parts.Pair.{Pair}
 use Rattle.fleet_model.specs.declared.tables.Tables.{Tables}
 use Rattle.sums.proofs.Tests.{both_true}
-use Rattle.table_rows.specs.Names.{number_of}
+use Rattle.table_rows.specs.Names.{number_of_name}
 use Rattle.table_rows.proofs.Numbered.{bytes_eq-differ}
 use Rattle.proof_lines.specs.Choices.{choice_told}
 use Rattle.proof_lines.specs.Figures.{figure, signed_in}
@@ -66,13 +66,13 @@ module _ (v : Version) (t : Tables) where
   station_written s is = ap named (named_at (λ station. station.code) t.stations no_station s t.in_range.stations_fit.differ is)
 
   pub leg_read : (word : List ℕ) (l : ℕ) → leg_in (names_in v t) word ≡ Ok l → NameOf word (leg_word t l) l (legs_in t)
-  leg_read word l is = name_of_number (λ leg. leg.flight) t.legs no_leg word l (named_some (number_of word (flights_of t)) l is)
+  leg_read word l is = name_of_number (λ leg. leg.flight) t.legs no_leg word l (named_some (number_of_name word (flights_of t)) l is)
 
   pub fleet_read : (word : List ℕ) (f : ℕ) → fleet_in (names_in v t) word ≡ Ok f → NameOf word (fleet_word t f) f (fleets_in t)
-  fleet_read word f is = name_of_number (λ fleet. fleet.name) t.fleets no_fleet word f (named_some (number_of word (fleet_names t)) f is)
+  fleet_read word f is = name_of_number (λ fleet. fleet.name) t.fleets no_fleet word f (named_some (number_of_name word (fleet_names t)) f is)
 
   pub station_read : (word : List ℕ) (s : ℕ) → station_in (names_in v t) word ≡ Ok s → NameOf word (station_word t s) s (stations_in t)
-  station_read word s is = name_of_number (λ station. station.code) t.stations no_station word s (named_some (number_of word (codes_of t)) s is)
+  station_read word s is = name_of_number (λ station. station.code) t.stations no_station word s (named_some (number_of_name word (codes_of t)) s is)
 
   -- ---- what flies a leg, and its minutes
   name_apart : (f : ℕ) → f < fleets_in t → bytes_eq (fleet_word t f) (codes "-") ≡ false

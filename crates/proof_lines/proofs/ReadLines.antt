@@ -5,13 +5,13 @@ use Rattle.std.proofs.lemmas.Bool.Decides.{nat_tests}
 use Rattle.sums.proofs.Tests.{first_true, second_true}
 use Rattle.fleet_model.specs.Schedule.{days_in, last_of}
 use Rattle.fleet_model.specs.declared.tables.Tables.{Tables}
-use Rattle.proof_lines.specs.Figures.{count_in, day_in, minute_in, natural_in, number_in, signed_in, some_day, version_in, version_word}
+use Rattle.proof_lines.specs.Figures.{count_in, day_in, minute_in, natural_in, signed_figure, signed_in, some_day, version_in, version_word}
 use Rattle.proof_lines.specs.Forms.{all_forms, first_form, form_in, form_of, has_form, keywords, of_version, opens, pair_end, width}
 use Rattle.proof_lines.specs.Flaws.{both}
 use Rattle.proof_lines.specs.Known.{fleet_in, leg_in, names_in, station_in}
 use Rattle.proof_lines.specs.Laws.{AreBytesOf, IsLineOf}
-use Rattle.proof_lines.specs.LineText.{IsCount, line_words}
-use Rattle.proof_lines.specs.Reading.{fields_in, line_in, of_form, pair_at}
+use Rattle.proof_lines.specs.LineText.{IsWordCount, line_words}
+use Rattle.proof_lines.specs.Reading.{form_line, line_in, of_form, pair_told}
 use Rattle.proof_lines.specs.Words.{Word, is_plain, is_word, joined, parts_of, stands, word_at, words_of}
 use Rattle.proof_lines.specs.declared.flaws.Flaw.TheVariants as flaw
 use Rattle.proof_lines.specs.declared.forms.Form.{Form}
@@ -73,7 +73,7 @@ second_is words form some e =
 
 -- numbers
 
-number_was : (word : Word) (z : ℤ) → number_in word ≡ Ok z → IsNumberWritten z word
+number_was : (word : Word) (z : ℤ) → signed_figure word ≡ Ok z → IsNumberWritten z word
 number_was word z e = number_read z word (figure_some (signed_in word) z e)
 
 minute_was : (last : ℕ) (word : Word) (n : ℕ) → minute_in last word ≡ Ok n → IsWritten last n word
@@ -81,7 +81,7 @@ minute_was last word n e = natural_read last n word (figure_some (natural_in las
 
 pub record CountWas (n : ℕ) (word : Word) : Type 0 where
   pub word_is : word ≡ decimal n
-  pub count : IsCount n
+  pub count : IsWordCount n
 
 count_was : (word : Word) (n : ℕ) → count_in word ≡ Ok n → CountWas n word
 count_was word n e =
@@ -127,8 +127,8 @@ pub record AreWordsOf (t : Tables) (words : List Word) (line : Line) : Type 0 wh
   pub of_tables : IsLineOf t line
 
 module _ (v : Version) (t : Tables) (words : List Word) (it : Line) where
-  head_was : opens words form.Head ≡ true → length words ≡ 3 → fields_in (names_in v t) form.Head words ≡ Ok it → AreWordsOf t words it
-  unfolding fields_in
+  head_was : opens words form.Head ≡ true → length words ≡ 3 → form_line (names_in v t) form.Head words ≡ Ok it → AreWordsOf t words it
+  unfolding form_line
   head_was told many e =
       let made = made_by _ (version_in (word_at words 2)) it e in
       let version = version_was (word_at words 2) made.value made.is in
@@ -137,58 +137,58 @@ module _ (v : Version) (t : Tables) (words : List Word) (it : Line) where
         of_tables = record { named = tt; figures = tt };
       })
 
-  plan_yes_was : opens words form.PlanYes ≡ true → length words ≡ 2 → fields_in (names_in v t) form.PlanYes words ≡ Ok it → AreWordsOf t words it
-  unfolding fields_in
+  plan_yes_was : opens words form.PlanYes ≡ true → length words ≡ 2 → form_line (names_in v t) form.PlanYes words ≡ Ok it → AreWordsOf t words it
+  unfolding form_line
   plan_yes_was told many e =
       let same : line.Plan true ≡ it = cc e in
       subst (AreWordsOf t words) same (record { is = two_words words many ∙ (λ i. first_is words form.PlanYes told i ∷ second_is words form.PlanYes refl told i ∷ []); of_tables = record { named = tt; figures = tt } })
 
-  plan_no_was : opens words form.PlanNo ≡ true → length words ≡ 2 → fields_in (names_in v t) form.PlanNo words ≡ Ok it → AreWordsOf t words it
-  unfolding fields_in
+  plan_no_was : opens words form.PlanNo ≡ true → length words ≡ 2 → form_line (names_in v t) form.PlanNo words ≡ Ok it → AreWordsOf t words it
+  unfolding form_line
   plan_no_was told many e =
       let same : line.Plan false ≡ it = cc e in
       subst (AreWordsOf t words) same (record { is = two_words words many ∙ (λ i. first_is words form.PlanNo told i ∷ second_is words form.PlanNo refl told i ∷ []); of_tables = record { named = tt; figures = tt } })
 
-  bare_was : opens words form.Bare ≡ true → length words ≡ 2 → fields_in (names_in v t) form.Bare words ≡ Ok it → AreWordsOf t words it
-  unfolding fields_in
+  bare_was : opens words form.Bare ≡ true → length words ≡ 2 → form_line (names_in v t) form.Bare words ≡ Ok it → AreWordsOf t words it
+  unfolding form_line
   bare_was told many e =
       let made = made_by _ (leg_in (names_in v t) (word_at words 1)) it e in
       let leg = leg_read v t (word_at words 1) made.value made.is in
       subst (AreWordsOf t words) made.line_is (record { is = two_words words many ∙ (λ i. first_is words form.Bare told i ∷ leg.is i ∷ []); of_tables = record { named = leg.known; figures = tt } })
 
-  sole_was : opens words form.Sole ≡ true → length words ≡ 1 → fields_in (names_in v t) form.Sole words ≡ Ok it → AreWordsOf t words it
-  unfolding fields_in
+  sole_was : opens words form.Sole ≡ true → length words ≡ 1 → form_line (names_in v t) form.Sole words ≡ Ok it → AreWordsOf t words it
+  unfolding form_line
   sole_was told many e =
       let same : line.Sole ≡ it = cc e in
       subst (AreWordsOf t words) same (record { is = one_word words many ∙ (λ i. first_is words form.Sole told i ∷ []); of_tables = record { named = tt; figures = tt } })
 
-  refuted_was : opens words form.Refuted ≡ true → length words ≡ 1 → fields_in (names_in v t) form.Refuted words ≡ Ok it → AreWordsOf t words it
-  unfolding fields_in
+  refuted_was : opens words form.Refuted ≡ true → length words ≡ 1 → form_line (names_in v t) form.Refuted words ≡ Ok it → AreWordsOf t words it
+  unfolding form_line
   refuted_was told many e =
       let same : line.Refuted ≡ it = cc e in
       subst (AreWordsOf t words) same (record { is = one_word words many ∙ (λ i. first_is words form.Refuted told i ∷ []); of_tables = record { named = tt; figures = tt } })
 
-  priced_was : opens words form.Priced ≡ true → length words ≡ 1 → fields_in (names_in v t) form.Priced words ≡ Ok it → AreWordsOf t words it
-  unfolding fields_in
+  priced_was : opens words form.Priced ≡ true → length words ≡ 1 → form_line (names_in v t) form.Priced words ≡ Ok it → AreWordsOf t words it
+  unfolding form_line
   priced_was told many e =
       let same : line.Priced ≡ it = cc e in
       subst (AreWordsOf t words) same (record { is = one_word words many ∙ (λ i. first_is words form.Priced told i ∷ []); of_tables = record { named = tt; figures = tt } })
 
-  nodes_was : opens words form.OpenNodes ≡ true → length words ≡ 2 → fields_in (names_in v t) form.OpenNodes words ≡ Ok it → AreWordsOf t words it
-  unfolding fields_in
+  nodes_was : opens words form.OpenNodes ≡ true → length words ≡ 2 → form_line (names_in v t) form.OpenNodes words ≡ Ok it → AreWordsOf t words it
+  unfolding form_line
   nodes_was told many e =
       let same : line.OpenNodes ≡ it = cc e in
       subst (AreWordsOf t words) same (record { is = two_words words many ∙ (λ i. first_is words form.OpenNodes told i ∷ second_is words form.OpenNodes refl told i ∷ []); of_tables = record { named = tt; figures = tt } })
 
-  pivots_was : opens words form.OpenPivots ≡ true → length words ≡ 3 → fields_in (names_in v t) form.OpenPivots words ≡ Ok it → AreWordsOf t words it
-  unfolding fields_in
+  pivots_was : opens words form.OpenPivots ≡ true → length words ≡ 3 → form_line (names_in v t) form.OpenPivots words ≡ Ok it → AreWordsOf t words it
+  unfolding form_line
   pivots_was told many e =
       let made = made_by _ (count_in (word_at words 2)) it e in
       let count = count_was (word_at words 2) made.value made.is in
       subst (AreWordsOf t words) made.line_is (record { is = three_words words many ∙ (λ i. first_is words form.OpenPivots told i ∷ second_is words form.OpenPivots refl told i ∷ count.word_is i ∷ []); of_tables = record { named = tt; figures = count.count } })
 
-  grew_was : opens words form.OpenGrew ≡ true → length words ≡ 5 → fields_in (names_in v t) form.OpenGrew words ≡ Ok it → AreWordsOf t words it
-  unfolding fields_in
+  grew_was : opens words form.OpenGrew ≡ true → length words ≡ 5 → form_line (names_in v t) form.OpenGrew words ≡ Ok it → AreWordsOf t words it
+  unfolding form_line
   grew_was told many e =
       let made = made_by _ (both (both (count_in (word_at words 2)) (count_in (word_at words 3))) (count_in (word_at words 4))) it e in
       let read = both_read (both (count_in (word_at words 2)) (count_in (word_at words 3))) (count_in (word_at words 4)) made.value made.is in
@@ -198,8 +198,8 @@ module _ (v : Version) (t : Tables) (words : List Word) (it : Line) where
       let column = count_was (word_at words 4) made.value.1 read.second in
       subst (AreWordsOf t words) made.line_is (record { is = five_words words many ∙ (λ i. first_is words form.OpenGrew told i ∷ second_is words form.OpenGrew refl told i ∷ pivots.word_is i ∷ row.word_is i ∷ column.word_is i ∷ []); of_tables = record { named = tt; figures = (pivots.count, row.count, column.count) } })
 
-  lift_was : opens words form.OpenLift ≡ true → length words ≡ 4 → fields_in (names_in v t) form.OpenLift words ≡ Ok it → AreWordsOf t words it
-  unfolding fields_in
+  lift_was : opens words form.OpenLift ≡ true → length words ≡ 4 → form_line (names_in v t) form.OpenLift words ≡ Ok it → AreWordsOf t words it
+  unfolding form_line
   lift_was told many e =
       let made = made_by _ (both (count_in (word_at words 2)) (count_in (word_at words 3))) it e in
       let counts = both_read (count_in (word_at words 2)) (count_in (word_at words 3)) made.value made.is in
@@ -207,83 +207,83 @@ module _ (v : Version) (t : Tables) (words : List Word) (it : Line) where
       let at = count_was (word_at words 3) made.value.1 counts.second in
       subst (AreWordsOf t words) made.line_is (record { is = four_words words many ∙ (λ i. first_is words form.OpenLift told i ∷ second_is words form.OpenLift refl told i ∷ step.word_is i ∷ at.word_is i ∷ []); of_tables = record { named = tt; figures = (step.count, at.count) } })
 
-  trim_was : opens words form.Trim ≡ true → length words ≡ pair_end t.windows → fields_in (names_in v t) form.Trim words ≡ Ok it → AreWordsOf t words it
-  unfolding fields_in
+  trim_was : opens words form.Trim ≡ true → length words ≡ pair_end t.windows → form_line (names_in v t) form.Trim words ≡ Ok it → AreWordsOf t words it
+  unfolding form_line
   trim_was told many e =
-      let made = made_by _ (pair_at (names_in v t) words) it e in
+      let made = made_by _ (pair_told (names_in v t) words) it e in
       let pair = pair_read v t (word_at words 1) (word_at words 2) (word_at words 3) made.value made.is in
       subst (AreWordsOf t words) made.line_is (record { is = pair_alone t.windows words many ∙ (λ i. first_is words form.Trim told i ∷ pair.leg_is i ∷ pair.flier_is i ∷ (pair.shift_is i ++ [])); of_tables = record { named = pair.known; figures = tt } })
 
-  split_was : opens words form.Split ≡ true → length words ≡ pair_end t.windows → fields_in (names_in v t) form.Split words ≡ Ok it → AreWordsOf t words it
-  unfolding fields_in
+  split_was : opens words form.Split ≡ true → length words ≡ pair_end t.windows → form_line (names_in v t) form.Split words ≡ Ok it → AreWordsOf t words it
+  unfolding form_line
   split_was told many e =
-      let made = made_by _ (pair_at (names_in v t) words) it e in
+      let made = made_by _ (pair_told (names_in v t) words) it e in
       let pair = pair_read v t (word_at words 1) (word_at words 2) (word_at words 3) made.value made.is in
       subst (AreWordsOf t words) made.line_is (record { is = pair_alone t.windows words many ∙ (λ i. first_is words form.Split told i ∷ pair.leg_is i ∷ pair.flier_is i ∷ (pair.shift_is i ++ [])); of_tables = record { named = pair.known; figures = tt } })
 
-  scale_was : opens words form.Scale ≡ true → length words ≡ 2 → fields_in (names_in v t) form.Scale words ≡ Ok it → AreWordsOf t words it
-  unfolding fields_in
+  scale_was : opens words form.Scale ≡ true → length words ≡ 2 → form_line (names_in v t) form.Scale words ≡ Ok it → AreWordsOf t words it
+  unfolding form_line
   scale_was told many e =
-      let made = made_by _ (number_in (word_at words 1)) it e in
+      let made = made_by _ (signed_figure (word_at words 1)) it e in
       let number = number_was (word_at words 1) made.value made.is in
       subst (AreWordsOf t words) made.line_is (record { is = two_words words many ∙ (λ i. first_is words form.Scale told i ∷ number.word_is i ∷ []); of_tables = record { named = tt; figures = number.figure } })
 
-  mixed_was : opens words form.Mixed ≡ true → length words ≡ 2 → fields_in (names_in v t) form.Mixed words ≡ Ok it → AreWordsOf t words it
-  unfolding fields_in
+  mixed_was : opens words form.Mixed ≡ true → length words ≡ 2 → form_line (names_in v t) form.Mixed words ≡ Ok it → AreWordsOf t words it
+  unfolding form_line
   mixed_was told many e =
-      let made = made_by _ (number_in (word_at words 1)) it e in
+      let made = made_by _ (signed_figure (word_at words 1)) it e in
       let number = number_was (word_at words 1) made.value made.is in
       subst (AreWordsOf t words) made.line_is (record { is = two_words words many ∙ (λ i. first_is words form.Mixed told i ∷ number.word_is i ∷ []); of_tables = record { named = tt; figures = number.figure } })
 
-  rent_was : opens words form.Rent ≡ true → length words ≡ 3 → fields_in (names_in v t) form.Rent words ≡ Ok it → AreWordsOf t words it
-  unfolding fields_in
+  rent_was : opens words form.Rent ≡ true → length words ≡ 3 → form_line (names_in v t) form.Rent words ≡ Ok it → AreWordsOf t words it
+  unfolding form_line
   rent_was told many e =
-      let made = made_by _ (both (fleet_in (names_in v t) (word_at words 1)) (number_in (word_at words 2))) it e in
-      let entry = both_read (fleet_in (names_in v t) (word_at words 1)) (number_in (word_at words 2)) made.value made.is in
+      let made = made_by _ (both (fleet_in (names_in v t) (word_at words 1)) (signed_figure (word_at words 2))) it e in
+      let entry = both_read (fleet_in (names_in v t) (word_at words 1)) (signed_figure (word_at words 2)) made.value made.is in
       let fleet = fleet_read v t (word_at words 1) made.value.0 entry.first in
       let rent = number_was (word_at words 2) made.value.1 entry.second in
       subst (AreWordsOf t words) made.line_is (record { is = three_words words many ∙ (λ i. first_is words form.Rent told i ∷ fleet.is i ∷ rent.word_is i ∷ []); of_tables = record { named = fleet.known; figures = rent.figure } })
 
-  charge_was : opens words form.Charge ≡ true → length words ≡ 4 → fields_in (names_in v t) form.Charge words ≡ Ok it → AreWordsOf t words it
-  unfolding fields_in
+  charge_was : opens words form.Charge ≡ true → length words ≡ 4 → form_line (names_in v t) form.Charge words ≡ Ok it → AreWordsOf t words it
+  unfolding form_line
   charge_was told many e =
-      let made = made_by _ (both (station_in (names_in v t) (word_at words 1)) (both (day_in (days_in t) (word_at words 2)) (number_in (word_at words 3)))) it e in
-      let read = both_read (station_in (names_in v t) (word_at words 1)) (both (day_in (days_in t) (word_at words 2)) (number_in (word_at words 3))) made.value made.is in
-      let figures = both_read (day_in (days_in t) (word_at words 2)) (number_in (word_at words 3)) made.value.1 read.second in
+      let made = made_by _ (both (station_in (names_in v t) (word_at words 1)) (both (day_in (days_in t) (word_at words 2)) (signed_figure (word_at words 3)))) it e in
+      let read = both_read (station_in (names_in v t) (word_at words 1)) (both (day_in (days_in t) (word_at words 2)) (signed_figure (word_at words 3))) made.value made.is in
+      let figures = both_read (day_in (days_in t) (word_at words 2)) (signed_figure (word_at words 3)) made.value.1 read.second in
       let station = station_read v t (word_at words 1) made.value.0 read.first in
       let day = day_was (days_in t) (word_at words 2) made.value.1.0 figures.first in
       let number = number_was (word_at words 3) made.value.1.1 figures.second in
       subst (AreWordsOf t words) made.line_is (record { is = four_words words many ∙ (λ i. first_is words form.Charge told i ∷ station.is i ∷ day.word_is i ∷ number.word_is i ∷ []); of_tables = record { named = station.known; figures = (day.some, day.within, number.figure) } })
 
-  at_was : opens words form.At ≡ true → length words ≡ 5 → fields_in (names_in v t) form.At words ≡ Ok it → AreWordsOf t words it
-  unfolding fields_in
+  at_was : opens words form.At ≡ true → length words ≡ 5 → form_line (names_in v t) form.At words ≡ Ok it → AreWordsOf t words it
+  unfolding form_line
   at_was told many e =
-      let made = made_by _ (both (both (fleet_in (names_in v t) (word_at words 1)) (station_in (names_in v t) (word_at words 2))) (both (minute_in (last_of t) (word_at words 3)) (number_in (word_at words 4)))) it e in
-      let read = both_read (both (fleet_in (names_in v t) (word_at words 1)) (station_in (names_in v t) (word_at words 2))) (both (minute_in (last_of t) (word_at words 3)) (number_in (word_at words 4))) made.value made.is in
+      let made = made_by _ (both (both (fleet_in (names_in v t) (word_at words 1)) (station_in (names_in v t) (word_at words 2))) (both (minute_in (last_of t) (word_at words 3)) (signed_figure (word_at words 4)))) it e in
+      let read = both_read (both (fleet_in (names_in v t) (word_at words 1)) (station_in (names_in v t) (word_at words 2))) (both (minute_in (last_of t) (word_at words 3)) (signed_figure (word_at words 4))) made.value made.is in
       let place = both_read (fleet_in (names_in v t) (word_at words 1)) (station_in (names_in v t) (word_at words 2)) made.value.0 read.first in
-      let figures = both_read (minute_in (last_of t) (word_at words 3)) (number_in (word_at words 4)) made.value.1 read.second in
+      let figures = both_read (minute_in (last_of t) (word_at words 3)) (signed_figure (word_at words 4)) made.value.1 read.second in
       let fleet = fleet_read v t (word_at words 1) made.value.0.0 place.first in
       let station = station_read v t (word_at words 2) made.value.0.1 place.second in
       let minute = minute_was (last_of t) (word_at words 3) made.value.1.0 figures.first in
       let number = number_was (word_at words 4) made.value.1.1 figures.second in
       subst (AreWordsOf t words) made.line_is (record { is = five_words words many ∙ (λ i. first_is words form.At told i ∷ fleet.is i ∷ station.is i ∷ minute.word_is i ∷ number.word_is i ∷ []); of_tables = record { named = (fleet.known, station.known); figures = (minute.within, number.figure) } })
 
-  weight_was : opens words form.Weight ≡ true → length words ≡ pair_end t.windows + 1 → fields_in (names_in v t) form.Weight words ≡ Ok it → AreWordsOf t words it
-  unfolding fields_in
+  weight_was : opens words form.Weight ≡ true → length words ≡ pair_end t.windows + 1 → form_line (names_in v t) form.Weight words ≡ Ok it → AreWordsOf t words it
+  unfolding form_line
   weight_was told many e =
-      let made = made_by _ (both (pair_at (names_in v t) words) (number_in (word_at words (pair_end t.windows)))) it e in
-      let read = both_read (pair_at (names_in v t) words) (number_in (word_at words (pair_end t.windows))) made.value made.is in
+      let made = made_by _ (both (pair_told (names_in v t) words) (signed_figure (word_at words (pair_end t.windows)))) it e in
+      let read = both_read (pair_told (names_in v t) words) (signed_figure (word_at words (pair_end t.windows))) made.value made.is in
       let pair = pair_read v t (word_at words 1) (word_at words 2) (word_at words 3) made.value.0 read.first in
       let number = number_was (word_at words (pair_end t.windows)) made.value.1 read.second in
       subst (AreWordsOf t words) made.line_is (record { is = pair_before t.windows words many ∙ (λ i. first_is words form.Weight told i ∷ pair.leg_is i ∷ pair.flier_is i ∷ (pair.shift_is i ++ number.word_is i ∷ [])); of_tables = record { named = pair.known; figures = number.figure } })
 
-  end_was : opens words form.End ≡ true → length words ≡ 1 → fields_in (names_in v t) form.End words ≡ Ok it → AreWordsOf t words it
-  unfolding fields_in
+  end_was : opens words form.End ≡ true → length words ≡ 1 → form_line (names_in v t) form.End words ≡ Ok it → AreWordsOf t words it
+  unfolding form_line
   end_was told many e =
       let same : line.End ≡ it = cc e in
       subst (AreWordsOf t words) same (record { is = one_word words many ∙ (λ i. first_is words form.End told i ∷ []); of_tables = record { named = tt; figures = tt } })
 
-  words_were : (form : Form) → opens words form ≡ true → length words ≡ width t.windows form → fields_in (names_in v t) form words ≡ Ok it → AreWordsOf t words it
+  words_were : (form : Form) → opens words form ≡ true → length words ≡ width t.windows form → form_line (names_in v t) form words ≡ Ok it → AreWordsOf t words it
   words_were form.Head = head_was
   words_were form.PlanYes = plan_yes_was
   words_were form.PlanNo = plan_no_was

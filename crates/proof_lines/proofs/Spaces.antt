@@ -6,28 +6,28 @@ use Rattle.std.proofs.lemmas.Bool.Decides.{nat_tests}
 use Rattle.std.proofs.lemmas.List.Elements.{All-append, All-cons, All-head, All-nil, All-tail, All-weaker}
 use Rattle.std.proofs.lemmas.List.Splits.{join_with_byte-slice_split, slice_split_at, slice_split_none}
 use Rattle.sums.proofs.Tests.{both_true}
-use Rattle.proof_lines.specs.Words.{IsOfWords, IsPlain, IsVisible, IsWord, Word, is_plain, is_word, joined, parts_of, space, words_of}
+use Rattle.proof_lines.specs.Words.{IsOfWords, IsPlainByte, IsVisible, IsWord, Word, is_plain, is_word, joined, parts_of, space, words_of}
 use Rattle.proof_lines.proofs.Choosing.{chosen}
 
 -- plain text
 
-plain_word : (word : Word) → All IsVisible word → All IsPlain word
-plain_word word is = All-weaker IsVisible IsPlain (λ byte visible. record { no_less = omega (arith, visible.no_less); no_more = visible.no_more }) word is
+plain_word : (word : Word) → All IsVisible word → All IsPlainByte word
+plain_word word is = All-weaker IsVisible IsPlainByte (λ byte visible. record { no_less = omega (arith, visible.no_less); no_more = visible.no_more }) word is
 
-pub joined_plain : (words : List Word) → All IsWord words → All IsPlain (joined words)
-joined_plain [] is = All-nil IsPlain
+pub joined_plain : (words : List Word) → All IsWord words → All IsPlainByte (joined words)
+joined_plain [] is = All-nil IsPlainByte
 joined_plain (word ∷ []) is = plain_word word (All-head IsWord word [] is).visible
 joined_plain (word ∷ other ∷ others) is =
-    All-append IsPlain word _ (plain_word word (All-head IsWord word (other ∷ others) is).visible)
-    (All-cons IsPlain space _ (record { no_less = omega arith; no_more = omega arith }) (joined_plain (other ∷ others) (All-tail IsWord word (other ∷ others) is)))
+    All-append IsPlainByte word _ (plain_word word (All-head IsWord word (other ∷ others) is).visible)
+    (All-cons IsPlainByte space _ (record { no_less = omega arith; no_more = omega arith }) (joined_plain (other ∷ others) (All-tail IsWord word (other ∷ others) is)))
 
-plain_byte : (byte : ℕ) → IsPlain byte → (nat_le 32 byte && nat_le byte 126) ≡ true
+plain_byte : (byte : ℕ) → IsPlainByte byte → (nat_le 32 byte && nat_le byte 126) ≡ true
 plain_byte byte is = both_true (nat_le 32 byte) (nat_le byte 126) (grind (arith, nat_tests, is.no_less)) (grind (arith, nat_tests, is.no_more))
 
-pub plain_all : (bytes : List ℕ) → All IsPlain bytes → is_plain bytes ≡ true
+pub plain_all : (bytes : List ℕ) → All IsPlainByte bytes → is_plain bytes ≡ true
 plain_all [] are = refl
 plain_all (byte ∷ bytes) are =
-    both_true (nat_le 32 byte && nat_le byte 126) (is_plain bytes) (plain_byte byte (All-head IsPlain byte bytes are)) (plain_all bytes (All-tail IsPlain byte bytes are))
+    both_true (nat_le 32 byte && nat_le byte 126) (is_plain bytes) (plain_byte byte (All-head IsPlainByte byte bytes are)) (plain_all bytes (All-tail IsPlainByte byte bytes are))
 
 -- words come back from their line
 

@@ -9,13 +9,13 @@ use Rattle.fleet_model.specs.declared.tables.Tables.{Tables}
 use Rattle.fleet_model.proofs.PeriodMinutes.{at_most_week, few_days}
 use Rattle.dual_bound.specs.declared.prices.TheConstants.{MAX_SIZE}
 use Rattle.dual_bound.specs.WrittenOrder.{IsFigure}
-use Rattle.proof_lines.specs.Figures.{count_in, day_in, figure, minute_in, number_in, some_day, version_in, version_word}
+use Rattle.proof_lines.specs.Figures.{count_in, day_in, figure, minute_in, signed_figure, some_day, version_in, version_word}
 use Rattle.proof_lines.specs.Flaws.{both}
 use Rattle.proof_lines.specs.Forms.{form_in, form_of, pair_end, width}
 use Rattle.proof_lines.specs.Known.{Naming, names_in}
 use Rattle.proof_lines.specs.Laws.{IsLineOf, IsOfVersion}
-use Rattle.proof_lines.specs.LineText.{HasFigures, IsCount, IsNamed, line_bytes, line_words, minutes_by, shift_words}
-use Rattle.proof_lines.specs.Reading.{fields_in, line_in, made, of_form}
+use Rattle.proof_lines.specs.LineText.{HasFigures, IsNamed, IsWordCount, line_bytes, line_words, minutes_by, shift_words}
+use Rattle.proof_lines.specs.Reading.{form_line, line_in, made, of_form}
 use Rattle.proof_lines.specs.Words.{IsOfWords, Word, is_plain, joined, word_at, words_of}
 use Rattle.proof_lines.specs.declared.forms.Form.{Form}
 use Rattle.proof_lines.specs.declared.line.Line.{Line}
@@ -29,7 +29,7 @@ use Rattle.proof_lines.proofs.Spaces.{joined_plain, parts_back, plain_all, words
 use Rattle.proof_lines.proofs.WrittenNumbers.{natural_written, number_written}
 
 -- words of a form read by what is behind its first words
-words_read : (n : Naming) (words : List Word) (form : Form) → IsOfWords words → form_in n.version words ≡ Some form → length words ≡ width n.windows form → line_in n (joined words) ≡ fields_in n form words
+words_read : (n : Naming) (words : List Word) (form : Form) → IsOfWords words → form_in n.version words ≡ Some form → length words ≡ width n.windows form → line_in n (joined words) ≡ form_line n form words
 unfolding line_in
 words_read n words form is told many =
     chosen (is_plain (joined words)) _ _ (plain_all (joined words) (joined_plain words is.words))
@@ -41,10 +41,10 @@ words_read n words form is told many =
 
 -- numbers
 
-number_is : (z : ℤ) → IsFigure z → number_in (signed_decimal z) ≡ Ok z
+number_is : (z : ℤ) → IsFigure z → signed_figure (signed_decimal z) ≡ Ok z
 number_is z is = ap figure (number_written z is)
 
-count_is : (n : ℕ) → IsCount n → count_in (decimal n) ≡ Ok n
+count_is : (n : ℕ) → IsWordCount n → count_in (decimal n) ≡ Ok n
 count_is n is = ap figure (natural_written 18446744073709551615 n (omega arith) (omega (arith, is)))
 
 minute_is : (last n : ℕ) → last ≤ MAX_SIZE → n ≤ last → minute_in last (decimal n) ≡ Ok n
@@ -67,8 +67,8 @@ abbrev weighed : Pair × ℤ → Line
 weighed entry = line.Weight entry.0.leg entry.0.choice entry.1
 
 module _ (v : Version) (t : Tables) where
-  fields_read : (line : Line) → IsNamed t line → HasFigures t line → fields_in (names_in v t) (form_of line) (line_words t line) ≡ Ok line
-  unfolding fields_in
+  fields_read : (line : Line) → IsNamed t line → HasFigures t line → form_line (names_in v t) (form_of line) (line_words t line) ≡ Ok line
+  unfolding form_line
   fields_read (line.Head version) is has = ap (λ r. made (λ version. line.Head version) r) (version_is version)
   fields_read (line.Plan true) is has = refl
   fields_read (line.Plan false) is has = refl
@@ -91,9 +91,9 @@ module _ (v : Version) (t : Tables) where
   fields_read (line.Mixed scale) is has = rw (number_is scale has) refl
   fields_read (line.Weight leg choice weight) is has =
       let word = signed_decimal weight in
-      let figure : number_in (word_at (line_words t (line.Weight leg choice weight)) (pair_end t.windows)) ≡ Ok weight =
-      ap number_in (weight_word t.windows _ _ _ (signed_decimal (minutes_by t leg choice)) word) ∙ number_is weight has in
-      ap (λ pair. made weighed (both pair (number_in (word_at (line_words t (line.Weight leg choice weight)) (pair_end t.windows))))) (pair_written v t leg choice (word ∷ []) is)
+      let figure : signed_figure (word_at (line_words t (line.Weight leg choice weight)) (pair_end t.windows)) ≡ Ok weight =
+      ap signed_figure (weight_word t.windows _ _ _ (signed_decimal (minutes_by t leg choice)) word) ∙ number_is weight has in
+      ap (λ pair. made weighed (both pair (signed_figure (word_at (line_words t (line.Weight leg choice weight)) (pair_end t.windows))))) (pair_written v t leg choice (word ∷ []) is)
       ∙ ap (λ number. made weighed (both (Ok (leg_on leg choice)) number)) figure
   fields_read line.End is has = refl
 

@@ -36,8 +36,8 @@ figure (Some n) = Ok n
 figure None = Err flaw.Number
 
 -- the signed number of a word, its count of 64 bits, and its minute of a period with this last one
-abbrev pub number_in : List ℕ → Result ℤ Flaw
-number_in word = figure (signed_in word)
+abbrev pub signed_figure : List ℕ → Result ℤ Flaw
+signed_figure word = figure (signed_in word)
 
 abbrev pub count_in : List ℕ → Result ℕ Flaw
 count_in word = figure (natural_in 18446744073709551615 word)

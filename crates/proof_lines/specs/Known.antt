@@ -3,9 +3,9 @@ use Rattle.std.specs.Prelude.{ℕ, ◌&&◌, Bool, true, false, if◌then◌else
 use Rattle.fleet_model.specs.Schedule.{days_in, fleet_names, last_of, leg_on}
 use Rattle.fleet_model.specs.declared.parts.Pair.{Pair}
 use Rattle.fleet_model.specs.declared.tables.Tables.{Tables}
-use Rattle.table_rows.specs.Names.{number_of}
+use Rattle.table_rows.specs.Names.{number_of_name}
 use Rattle.proof_lines.specs.Choices.{choice_told}
-use Rattle.proof_lines.specs.Figures.{number_in}
+use Rattle.proof_lines.specs.Figures.{signed_figure}
 use Rattle.proof_lines.specs.Flaws.{both}
 use Rattle.proof_lines.specs.declared.flaws.Flaw.{Flaw}
 use Rattle.proof_lines.specs.declared.flaws.Flaw.TheVariants as flaw
@@ -47,13 +47,13 @@ named None = Err flaw.Name
 
 -- the number of a leg by its flight, of a fleet by its name, and of a station by its code
 abbrev pub leg_in : Naming → List ℕ → Result ℕ Flaw
-leg_in n flight = named (number_of flight n.legs)
+leg_in n flight = named (number_of_name flight n.legs)
 
 abbrev pub fleet_in : Naming → List ℕ → Result ℕ Flaw
-fleet_in n name = named (number_of name n.fleets)
+fleet_in n name = named (number_of_name name n.fleets)
 
 abbrev pub station_in : Naming → List ℕ → Result ℕ Flaw
-station_in n code = named (number_of code n.stations)
+station_in n code = named (number_of_name code n.stations)
 
 -- what flies a leg, told by a word: a fleet by its name, and none by `-` where legs may be left out
 abbrev pub a_fleet : Result ℕ Flaw → Result (Option ℕ) Flaw
@@ -65,7 +65,7 @@ flier_in n name = if n.optional && bytes_eq name (codes "-") then Ok None else a
 
 -- by how many minutes a leg departs later than at its own time, told by a word where the tables have windows
 abbrev pub minutes_in : Bool → List ℕ → Result ℤ Flaw
-minutes_in true shift = number_in shift
+minutes_in true shift = signed_figure shift
 minutes_in false shift = Ok (pos 0)
 
 -- the pair of a leg, what flies it, and its minutes

@@ -91,14 +91,14 @@ IsNamed t (line.Weight leg choice weight) = IsPair t (leg_on leg choice)
 IsNamed t other = ⊤
 
 -- a count of 64 bits
-abbrev pub IsCount : ℕ → Type 0
-IsCount n = n < 2 ^ 64
+abbrev pub IsWordCount : ℕ → Type 0
+IsWordCount n = n < 2 ^ 64
 
 -- all numbers of a line are such as a text may hold, and its minute or its day is of the period
 abbrev pub HasFigures : Tables → Line → Type 0
-HasFigures t (line.OpenPivots made) = IsCount made
-HasFigures t (line.OpenGrew pivots row column) = IsCount pivots × IsCount row × IsCount column
-HasFigures t (line.OpenLift step at) = IsCount step × IsCount at
+HasFigures t (line.OpenPivots made) = IsWordCount made
+HasFigures t (line.OpenGrew pivots row column) = IsWordCount pivots × IsWordCount row × IsWordCount column
+HasFigures t (line.OpenLift step at) = IsWordCount step × IsWordCount at
 HasFigures t (line.Scale scale) = IsFigure scale
 HasFigures t (line.Rent fleet rent) = IsFigure rent
 HasFigures t (line.Charge station day charge) = (1 ≤ day) × (day ≤ days_in t) × IsFigure charge

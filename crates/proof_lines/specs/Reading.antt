@@ -1,7 +1,7 @@
 -- The line that bytes are, or its flaw of the least kind.
 use Rattle.std.specs.Prelude.{ℕ, ◌==◌, ◌&&◌, Bool, true, false, if◌then◌else◌, List, length, codes, Option, Some, None, Result, Ok, Err}
 use Rattle.fleet_model.specs.declared.parts.Pair.{Pair}
-use Rattle.proof_lines.specs.Figures.{count_in, day_in, minute_in, number_in, version_in}
+use Rattle.proof_lines.specs.Figures.{count_in, day_in, minute_in, signed_figure, version_in}
 use Rattle.proof_lines.specs.Flaws.{both}
 use Rattle.proof_lines.specs.Forms.{form_in, pair_end, width}
 use Rattle.proof_lines.specs.Known.{Naming, fleet_in, leg_in, pair_in, station_in}
@@ -33,46 +33,46 @@ abbrev pub lift_in : List Word → Result Line Flaw
 lift_in words = made (λ counts. line.OpenLift counts.0 counts.1) (both (count_in (word_at words 2)) (count_in (word_at words 3)))
 
 abbrev pub scale_in : List Word → Result Line Flaw
-scale_in words = made (λ scale. line.Scale scale) (number_in (word_at words 1))
+scale_in words = made (λ scale. line.Scale scale) (signed_figure (word_at words 1))
 
 abbrev pub mixed_in : List Word → Result Line Flaw
-mixed_in words = made (λ scale. line.Mixed scale) (number_in (word_at words 1))
+mixed_in words = made (λ scale. line.Mixed scale) (signed_figure (word_at words 1))
 
 -- the pair that words tell, behind the first
-abbrev pub pair_at : Naming → List Word → Result Pair Flaw
-pair_at n words = pair_in n (word_at words 1) (word_at words 2) (word_at words 3)
+abbrev pub pair_told : Naming → List Word → Result Pair Flaw
+pair_told n words = pair_in n (word_at words 1) (word_at words 2) (word_at words 3)
 
 -- the line of a form by its words, of which there are as many as the form has
-unfoldable pub fields_in : Naming → Form → List Word → Result Line Flaw
-fields_in n form.Head words = head_in words
-fields_in n form.PlanYes words = Ok (line.Plan true)
-fields_in n form.PlanNo words = Ok (line.Plan false)
-fields_in n form.Bare words = made (λ leg. line.Bare leg) (leg_in n (word_at words 1))
-fields_in n form.Sole words = Ok line.Sole
-fields_in n form.Refuted words = Ok line.Refuted
-fields_in n form.Priced words = Ok line.Priced
-fields_in n form.OpenNodes words = Ok line.OpenNodes
-fields_in n form.OpenPivots words = pivots_in words
-fields_in n form.OpenGrew words = grew_in words
-fields_in n form.OpenLift words = lift_in words
-fields_in n form.Trim words = made (λ pair. line.Trim pair.leg pair.choice) (pair_at n words)
-fields_in n form.Split words = made (λ pair. line.Split pair.leg pair.choice) (pair_at n words)
-fields_in n form.Scale words = scale_in words
-fields_in n form.Rent words = made (λ entry. line.Rent entry.0 entry.1) (both (fleet_in n (word_at words 1)) (number_in (word_at words 2)))
-fields_in n form.Charge words =
-    made (λ entry. line.Charge entry.0 entry.1.0 entry.1.1) (both (station_in n (word_at words 1)) (both (day_in n.days (word_at words 2)) (number_in (word_at words 3))))
-fields_in n form.At words =
+unfoldable pub form_line : Naming → Form → List Word → Result Line Flaw
+form_line n form.Head words = head_in words
+form_line n form.PlanYes words = Ok (line.Plan true)
+form_line n form.PlanNo words = Ok (line.Plan false)
+form_line n form.Bare words = made (λ leg. line.Bare leg) (leg_in n (word_at words 1))
+form_line n form.Sole words = Ok line.Sole
+form_line n form.Refuted words = Ok line.Refuted
+form_line n form.Priced words = Ok line.Priced
+form_line n form.OpenNodes words = Ok line.OpenNodes
+form_line n form.OpenPivots words = pivots_in words
+form_line n form.OpenGrew words = grew_in words
+form_line n form.OpenLift words = lift_in words
+form_line n form.Trim words = made (λ pair. line.Trim pair.leg pair.choice) (pair_told n words)
+form_line n form.Split words = made (λ pair. line.Split pair.leg pair.choice) (pair_told n words)
+form_line n form.Scale words = scale_in words
+form_line n form.Rent words = made (λ entry. line.Rent entry.0 entry.1) (both (fleet_in n (word_at words 1)) (signed_figure (word_at words 2)))
+form_line n form.Charge words =
+    made (λ entry. line.Charge entry.0 entry.1.0 entry.1.1) (both (station_in n (word_at words 1)) (both (day_in n.days (word_at words 2)) (signed_figure (word_at words 3))))
+form_line n form.At words =
     made (λ step. line.At step.0.0 step.0.1 step.1.0 step.1.1)
-    (both (both (fleet_in n (word_at words 1)) (station_in n (word_at words 2))) (both (minute_in n.last (word_at words 3)) (number_in (word_at words 4))))
-fields_in n form.Mixed words = mixed_in words
-fields_in n form.Weight words =
-    made (λ entry. line.Weight entry.0.leg entry.0.choice entry.1) (both (pair_at n words) (number_in (word_at words (pair_end n.windows))))
-fields_in n form.End words = Ok line.End
+    (both (both (fleet_in n (word_at words 1)) (station_in n (word_at words 2))) (both (minute_in n.last (word_at words 3)) (signed_figure (word_at words 4))))
+form_line n form.Mixed words = mixed_in words
+form_line n form.Weight words =
+    made (λ entry. line.Weight entry.0.leg entry.0.choice entry.1) (both (pair_told n words) (signed_figure (word_at words (pair_end n.windows))))
+form_line n form.End words = Ok line.End
 
 -- the line that words are, of a form that their first words say, where they stand as so many parts between spaces
 abbrev pub of_form : Naming → ℕ → List Word → Option Form → Result Line Flaw
 of_form n parts words None = Err flaw.Word
-of_form n parts words (Some form) = if (length words == parts) && (length words == width n.windows form) then fields_in n form words else Err flaw.Width
+of_form n parts words (Some form) = if (length words == parts) && (length words == width n.windows form) then form_line n form words else Err flaw.Width
 
 -- the line that bytes without a line feed are
 unfoldable pub line_in : Naming → List ℕ → Result Line Flaw

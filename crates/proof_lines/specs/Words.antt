@@ -70,6 +70,6 @@ pub record IsOfWords (line : List Word) : Type 0 where
   pub words : All IsWord line
 
 -- a visible byte or a space
-pub record IsPlain (byte : ℕ) : Type 0 where
+pub record IsPlainByte (byte : ℕ) : Type 0 where
   pub no_less : 32 ≤ byte
   pub no_more : byte ≤ 126

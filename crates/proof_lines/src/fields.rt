@@ -1,7 +1,7 @@
 //! What stands behind the first words of a line, read. Of several flaws of a line the one of the least kind is told.
 ghost use Rattle.std.specs.Prelude.{◌≡◌};
 ghost use Rattle.proof_lines.specs.Known.{naming};
-ghost use Rattle.proof_lines.specs.Reading.{fields_in, grew_in, head_in, lift_in, mixed_in, pair_at, pivots_in, scale_in};
+ghost use Rattle.proof_lines.specs.Reading.{form_line, grew_in, head_in, lift_in, mixed_in, pair_told, pivots_in, scale_in};
 ghost use Rattle.proof_lines.specs.Words.{seen};
 ghost use Rattle.proof_lines.specs.declared.forms.Form.TheVariants as form;
 
@@ -14,9 +14,9 @@ use crate::words::word_at;
 use fleet_model::Pair;
 
 /// The line of a form by its words, of which there are as many as the form has. Takes no memory.
-#[tactic(auto, unfolding(crate::specs::Reading::fields_in))]
+#[tactic(auto, unfolding(crate::specs::Reading::form_line))]
 pub fn fields(grammar: &Grammar<'_>, form: Form, words: &[&[u8]]) -> Result<Line, Flaw>
-    ensures { result ≡ fields_in (naming grammar.now) form (seen words.now) }
+    ensures { result ≡ form_line (naming grammar.now) form (seen words.now) }
 {
     match form {
         Form::Head => head(words),
@@ -53,9 +53,9 @@ fn head(words: &[&[u8]]) -> Result<Line, Flaw>
 }
 
 /// `bare FLIGHT`.
-#[tactic(auto, unfolding(crate::specs::Reading::fields_in))]
+#[tactic(auto, unfolding(crate::specs::Reading::form_line))]
 fn bare(grammar: &Grammar<'_>, words: &[&[u8]]) -> Result<Line, Flaw>
-    ensures { result ≡ fields_in (naming grammar.now) form.Bare (seen words.now) }
+    ensures { result ≡ form_line (naming grammar.now) form.Bare (seen words.now) }
 {
     match grammar.leg(word_at(words, 1)) {
         Ok(leg) => Ok(Line::Bare { leg }),
@@ -102,15 +102,15 @@ fn lift(words: &[&[u8]]) -> Result<Line, Flaw>
 
 /// The pair that words tell, behind the first.
 fn pair_at(grammar: &Grammar<'_>, words: &[&[u8]]) -> Result<Pair, Flaw>
-    ensures { result ≡ pair_at (naming grammar.now) (seen words.now) }
+    ensures { result ≡ pair_told (naming grammar.now) (seen words.now) }
 {
     grammar.pair(word_at(words, 1), word_at(words, 2), word_at(words, 3))
 }
 
 /// `trim FLIGHT FLEET`, and SHIFT where the tables have windows.
-#[tactic(auto, unfolding(crate::specs::Reading::fields_in))]
+#[tactic(auto, unfolding(crate::specs::Reading::form_line))]
 fn trim(grammar: &Grammar<'_>, words: &[&[u8]]) -> Result<Line, Flaw>
-    ensures { result ≡ fields_in (naming grammar.now) form.Trim (seen words.now) }
+    ensures { result ≡ form_line (naming grammar.now) form.Trim (seen words.now) }
 {
     match pair_at(grammar, words) {
         Ok(pair) => Ok(Line::Trim {
@@ -122,9 +122,9 @@ fn trim(grammar: &Grammar<'_>, words: &[&[u8]]) -> Result<Line, Flaw>
 }
 
 /// `split FLIGHT FLEET`, and SHIFT where the tables have windows.
-#[tactic(auto, unfolding(crate::specs::Reading::fields_in))]
+#[tactic(auto, unfolding(crate::specs::Reading::form_line))]
 fn split(grammar: &Grammar<'_>, words: &[&[u8]]) -> Result<Line, Flaw>
-    ensures { result ≡ fields_in (naming grammar.now) form.Split (seen words.now) }
+    ensures { result ≡ form_line (naming grammar.now) form.Split (seen words.now) }
 {
     match pair_at(grammar, words) {
         Ok(pair) => Ok(Line::Split {
@@ -146,9 +146,9 @@ fn scale(words: &[&[u8]]) -> Result<Line, Flaw>
 }
 
 /// `rent FLEET R`.
-#[tactic(auto, unfolding(crate::specs::Reading::fields_in))]
+#[tactic(auto, unfolding(crate::specs::Reading::form_line))]
 fn rent(grammar: &Grammar<'_>, words: &[&[u8]]) -> Result<Line, Flaw>
-    ensures { result ≡ fields_in (naming grammar.now) form.Rent (seen words.now) }
+    ensures { result ≡ form_line (naming grammar.now) form.Rent (seen words.now) }
 {
     match both(grammar.fleet(word_at(words, 1)), number(word_at(words, 2))) {
         Ok((fleet, rent)) => Ok(Line::Rent { fleet, rent }),
@@ -157,9 +157,9 @@ fn rent(grammar: &Grammar<'_>, words: &[&[u8]]) -> Result<Line, Flaw>
 }
 
 /// `charge STATION DAY R`.
-#[tactic(auto, unfolding(crate::specs::Reading::fields_in))]
+#[tactic(auto, unfolding(crate::specs::Reading::form_line))]
 fn charge(grammar: &Grammar<'_>, words: &[&[u8]]) -> Result<Line, Flaw>
-    ensures { result ≡ fields_in (naming grammar.now) form.Charge (seen words.now) }
+    ensures { result ≡ form_line (naming grammar.now) form.Charge (seen words.now) }
 {
     match both(
         grammar.station(word_at(words, 1)),
@@ -178,9 +178,9 @@ fn charge(grammar: &Grammar<'_>, words: &[&[u8]]) -> Result<Line, Flaw>
 }
 
 /// `at FLEET STATION MINUTE VALUE`.
-#[tactic(auto, unfolding(crate::specs::Reading::fields_in))]
+#[tactic(auto, unfolding(crate::specs::Reading::form_line))]
 fn at(grammar: &Grammar<'_>, words: &[&[u8]]) -> Result<Line, Flaw>
-    ensures { result ≡ fields_in (naming grammar.now) form.At (seen words.now) }
+    ensures { result ≡ form_line (naming grammar.now) form.At (seen words.now) }
 {
     match both(
         both(
@@ -213,9 +213,9 @@ fn mixed(words: &[&[u8]]) -> Result<Line, Flaw>
 }
 
 /// `weight FLIGHT FLEET W`, and SHIFT before W where the tables have windows.
-#[tactic(auto, unfolding(crate::specs::Reading::fields_in))]
+#[tactic(auto, unfolding(crate::specs::Reading::form_line))]
 fn weight(grammar: &Grammar<'_>, words: &[&[u8]]) -> Result<Line, Flaw>
-    ensures { result ≡ fields_in (naming grammar.now) form.Weight (seen words.now) }
+    ensures { result ≡ form_line (naming grammar.now) form.Weight (seen words.now) }
 {
     match both(
         pair_at(grammar, words),

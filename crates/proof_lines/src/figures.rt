@@ -1,6 +1,6 @@
 //! The numbers that words write. Takes no memory.
 ghost use Rattle.std.specs.Prelude.{◌≡◌, ◌≤◌, IfSome, option_map, pos};
-ghost use Rattle.proof_lines.specs.Figures.{count_in, day_in, figure, minute_in, natural_in, negative, number_in, signed_in, version_in};
+ghost use Rattle.proof_lines.specs.Figures.{count_in, day_in, figure, minute_in, natural_in, negative, signed_figure, signed_in, version_in};
 ghost use Rattle.dual_bound.specs.declared.prices.TheConstants.{MAX_SIZE};
 
 use crate::flaws::Flaw;
@@ -56,7 +56,7 @@ pub fn day(days: u32, word: &[u8]) -> Result<u32, Flaw>
 
 /// The signed number that a word writes.
 pub fn number(word: &[u8]) -> Result<i128, Flaw>
-    ensures { result ≡ number_in word.now }
+    ensures { result ≡ signed_figure word.now }
 {
     match signed(word) {
         Some(n) => Ok(n),

@@ -7,9 +7,9 @@ use Rattle.std.proofs.lemmas.List.Sums.{sum_by_push}
 use Rattle.sums.specs.Below.{sum_below}
 use Rattle.sums.proofs.Sums.{sum_below-add, sum_below-agree, sum_below-at}
 use Rattle.sums.proofs.Tests.{by_test}
-use Rattle.retime_windows.specs.Counted.{AreCounted}
+use Rattle.retime_windows.specs.Counted.{AreWindowsCounted}
 use Rattle.retime_windows.specs.declared.window.Window.{Window}
-use Rattle.retime_windows.specs.Keys.{is_on, key_of, key_with, triples_by, triples_of, windows_on}
+use Rattle.retime_windows.specs.Keys.{is_on, key_with, triples_by, triples_of, window_key, windows_on}
 
 pub windows_more : (keys : List (List ℕ)) (leg : ℕ) (minutes : ℤ) (l : ℕ) → windows_on (keys ++ key_with leg minutes ∷ []) l ≡ windows_on keys l + (if leg == l then 1 else 0)
 windows_more keys leg minutes l = sum_by_push (λ key. if is_on l key then 1 else 0) keys (key_with leg minutes)
@@ -27,8 +27,8 @@ triples_more fleets keys leg minutes within =
     ∙ sum_below-add (triples_of fleets keys) (λ l. if leg == l then slice_index fleets l else 0) (length fleets)
     ∙ ap (λ n. sum_below (triples_of fleets keys) (length fleets) + n) (sum_below-at leg (length fleets) (λ l. slice_index fleets l) within)
 
-pub counted_more : (keys : List (List ℕ)) (legs : ℕ) (counts : List ℕ) (leg : ℕ) (minutes : ℤ) (count : ℕ) → AreCounted keys legs counts → leg < legs → windows_on keys leg < 8
-    → count ≡ slice_index counts leg → AreCounted (keys ++ key_with leg minutes ∷ []) legs (set counts leg (count + 1))
+pub counted_more : (keys : List (List ℕ)) (legs : ℕ) (counts : List ℕ) (leg : ℕ) (minutes : ℤ) (count : ℕ) → AreWindowsCounted keys legs counts → leg < legs → windows_on keys leg < 8
+    → count ≡ slice_index counts leg → AreWindowsCounted (keys ++ key_with leg minutes ∷ []) legs (set counts leg (count + 1))
 counted_more keys legs counts leg minutes count counted within room is = record {
   each_leg = length-set counts leg (count + 1) ∙ counted.each_leg;
   value = λ l below. by_test (leg == l) (λ same.
@@ -61,5 +61,5 @@ unfolding triples_by
 triples_below fleets k below = omega (arith, below_all (triples_of fleets []) k (length fleets) below)
 
 -- the keys of windows, and of one more
-pub keys_more : (windows now : List Window) (window : Window) → now ≡ windows ++ window ∷ [] → map key_of now ≡ map key_of windows ++ key_with window.leg window.minutes ∷ []
-keys_more windows now window is = ap (map key_of) is ∙ map-append key_of windows (window ∷ [])
+pub keys_more : (windows now : List Window) (window : Window) → now ≡ windows ++ window ∷ [] → map window_key now ≡ map window_key windows ++ key_with window.leg window.minutes ∷ []
+keys_more windows now window is = ap (map window_key) is ∙ map-append window_key windows (window ∷ [])

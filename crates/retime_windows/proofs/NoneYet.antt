@@ -12,7 +12,7 @@ use Rattle.fleet_model.specs.Windows.{times_of}
 use Rattle.fleet_model.specs.declared.limits.TheConstants.{MAX_TRIPLES}
 use Rattle.fleet_model.specs.declared.tables.Tables.{Tables}
 use Rattle.fleet_model.proofs.Departures.{some_times}
-use Rattle.retime_windows.specs.Counted.{AreCounted, AreFleetCounts}
+use Rattle.retime_windows.specs.Counted.{AreFleetCounts, AreWindowsCounted}
 use Rattle.retime_windows.specs.Keys.{fleet_counts, fleets_on, triples_by, triples_of}
 
 pub legs_counted : (t : Tables) → length (fleet_counts t) ≡ legs_in t
@@ -28,7 +28,7 @@ counts_known t = record {
       omega (arith, count_of t l (omega (arith, below, legs_counted t)), count_below-le (λ f. is_some (cost_in t.costs l f)) (length t.fleets), t.in_range.fleets_fit.few);
 }
 
-pub none_counted : (legs : ℕ) → AreCounted [] legs (replicate legs 0)
+pub none_counted : (legs : ℕ) → AreWindowsCounted [] legs (replicate legs 0)
 none_counted legs = record {
   each_leg = length-replicate legs 0;
   value = λ l below. zero_at legs l;

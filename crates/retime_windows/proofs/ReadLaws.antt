@@ -6,16 +6,16 @@ use Rattle.fleet_model.specs.declared.tables.Tables.{Tables}
 use Rattle.fleet_model.proofs.TablesSame.{tables_same}
 use Rattle.sums.specs.Places.{list_below}
 use Rattle.table_rows.proofs.OneReading.{table_bad_same, table_end_exists, table_reads_no_fault, table_reads_same}
-use Rattle.retime_windows.specs.Keys.{key_of}
-use Rattle.retime_windows.specs.Laws.{OneFirstFault, OneReading, WindowsOrFault, WindowsOrFaultNotBoth}
+use Rattle.retime_windows.specs.Keys.{window_key}
+use Rattle.retime_windows.specs.Laws.{OneFirstWindowsFault, OneWindowsReading, WindowsOrFault, WindowsOrFaultNotBoth}
 use Rattle.retime_windows.specs.Times.{HaveWindows, leg_with_windows}
-use Rattle.retime_windows.specs.Windows.{read_beside, window_header}
+use Rattle.retime_windows.specs.Windows.{window_beside, window_header}
 use Rattle.retime_windows.specs.declared.window.Window.{Window}
 use Rattle.retime_windows.proofs.TablesWith.{tables_with, they_have}
 use Rattle.retime_windows.proofs.WindowsFit.{windows_keep}
 
 pub windows_or_fault : WindowsOrFault
-windows_or_fault t bytes = elim (table_end_exists key_of (read_beside t) window_header (records_of bytes)) [
+windows_or_fault t bytes = elim (table_end_exists window_key (window_beside t) window_header (records_of bytes)) [
   | inl found ↦
       let are = windows_keep t (records_of bytes) found.0 found.1 in
       inl (record { tables = tables_with t found.0 are; reads = record { windows = found.0; read = found.1; have = they_have t found.0 are } })
@@ -23,7 +23,7 @@ windows_or_fault t bytes = elim (table_end_exists key_of (read_beside t) window_
 ]
 
 pub not_both : WindowsOrFaultNotBoth
-not_both t bytes reads fault = table_reads_no_fault key_of (read_beside t) window_header (records_of bytes) reads.reads.windows fault.row fault.kind reads.reads.read fault.bad
+not_both t bytes reads fault = table_reads_no_fault window_key (window_beside t) window_header (records_of bytes) reads.reads.windows fault.row fault.kind reads.reads.read fault.bad
 
 -- with the same windows the tables are the same
 have_same : (t u v : Tables) (windows other : List Window) → windows ≡ other → HaveWindows t windows u → HaveWindows t other v → u ≡ v
@@ -32,9 +32,9 @@ have_same t u v windows other same a b =
     tables_same u v (a.stations ∙ sym b.stations) (a.fleets ∙ sym b.fleets) legs (a.costs ∙ sym b.costs) (a.throughs ∙ sym b.throughs) (a.settings ∙ sym b.settings)
     (a.asked ∙ sym b.asked) (a.optional ∙ sym b.optional)
 
-pub one_reading : OneReading
+pub one_reading : OneWindowsReading
 one_reading t u v bytes a b =
-    have_same t u v a.windows b.windows (table_reads_same key_of (read_beside t) window_header (records_of bytes) a.windows b.windows a.read b.read) a.have b.have
+    have_same t u v a.windows b.windows (table_reads_same window_key (window_beside t) window_header (records_of bytes) a.windows b.windows a.read b.read) a.have b.have
 
-pub one_first_fault : OneFirstFault
-one_first_fault t bytes row other kind other_kind bad found = table_bad_same key_of (read_beside t) window_header (records_of bytes) row other kind other_kind bad found
+pub one_first_fault : OneFirstWindowsFault
+one_first_fault t bytes row other kind other_kind bad found = table_bad_same window_key (window_beside t) window_header (records_of bytes) row other kind other_kind bad found

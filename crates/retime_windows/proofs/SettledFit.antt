@@ -12,7 +12,7 @@ use Rattle.fleet_model.specs.Limits.{AreCosts, AreTables, AreThroughs, FlyOnce, 
 use Rattle.fleet_model.specs.Period.{minutes_of}
 use Rattle.fleet_model.specs.Schedule.{fleet_by, fleets_in, leg_of, legs_in, no_leg, period_of, shift_by, shifts_in, slot_by}
 use Rattle.fleet_model.specs.Times.{departure}
-use Rattle.fleet_model.specs.Windows.{departures_of, own_shift, own_slot}
+use Rattle.fleet_model.specs.Windows.{departures_of_legs, own_shift, own_slot}
 use Rattle.fleet_model.specs.Costs.{no_cost}
 use Rattle.fleet_model.specs.declared.limits.TheConstants.{MAX_LEGS}
 use Rattle.fleet_model.specs.declared.parts.Departure.{Departure}
@@ -123,7 +123,7 @@ module _ (t : Tables) (a : List ℕ) where
         });
   }
 
-  fit : CanSettle t → AreTables t.stations t.fleets settled_legs settled_costs t.throughs t.settings (departures_of settled_legs) false t.optional
+  fit : CanSettle t → AreTables t.stations t.fleets settled_legs settled_costs t.throughs t.settings (departures_of_legs settled_legs) false t.optional
   fit can = record {
     stations_fit = t.in_range.stations_fit;
     fleets_fit = t.in_range.fleets_fit;
@@ -153,9 +153,9 @@ module _ (t : Tables) (a : List ℕ) where
 
   -- lists that are those
   pub settled_fit : (s : List Station) (f : List Fleet) (l : List Leg) (c : List PairCost) (h : List Through) (d : List Departure) → CanSettle t
-      → s ≡ t.stations → f ≡ t.fleets → l ≡ settled_legs → c ≡ settled_costs → h ≡ t.throughs → d ≡ departures_of l → AreTables s f l c h t.settings d false t.optional
+      → s ≡ t.stations → f ≡ t.fleets → l ≡ settled_legs → c ≡ settled_costs → h ≡ t.throughs → d ≡ departures_of_legs l → AreTables s f l c h t.settings d false t.optional
   settled_fit s f l c h d can s_is f_is l_is c_is h_is d_is =
-      let listed : d ≡ departures_of settled_legs = d_is ∙ ap departures_of l_is in
+      let listed : d ≡ departures_of_legs settled_legs = d_is ∙ ap departures_of_legs l_is in
       rw (s_is, f_is, listed, l_is, c_is, h_is) (fit can)
 
 pub settled_few : (t : Tables) (a : List ℕ) (now : List Leg) → now ≡ settled_legs t a → length now ≤ MAX_LEGS

@@ -7,13 +7,13 @@ use Rattle.sums.proofs.Sums.{sum_below-agree}
 use Rattle.fleet_model.specs.Limits.{AreCosts, AreTables, AreThroughs, IsLeg}
 use Rattle.fleet_model.specs.Period.{minutes_of}
 use Rattle.fleet_model.specs.Schedule.{fleets_in, leg_of, legs_in, no_leg}
-use Rattle.fleet_model.specs.Windows.{departures_of, times_of, triples_in}
+use Rattle.fleet_model.specs.Windows.{departures_of_legs, times_of, triples_in}
 use Rattle.fleet_model.specs.declared.limits.TheConstants.{MAX_LEGS, MAX_TRIPLES}
 use Rattle.fleet_model.specs.declared.parts.Departure.{Departure}
 use Rattle.fleet_model.specs.declared.parts.Leg.{Leg}
 use Rattle.fleet_model.specs.declared.tables.Tables.{Tables}
-use Rattle.retime_windows.specs.Keys.{fleet_counts, fleets_on, key_of, triples_by, triples_of, windows_on}
-use Rattle.retime_windows.specs.Times.{AreWindows, HaveWindows, leg_with, leg_with_windows}
+use Rattle.retime_windows.specs.Keys.{fleet_counts, fleets_on, triples_by, triples_of, window_key, windows_on}
+use Rattle.retime_windows.specs.Times.{AreWindows, HaveWindows, leg_in_windows, leg_with_windows}
 use Rattle.retime_windows.specs.declared.window.Window.{Window}
 use Rattle.retime_windows.proofs.NoneYet.{count_of, legs_counted}
 use Rattle.retime_windows.proofs.TimesFit.{all_counted, are_times}
@@ -45,7 +45,7 @@ module _ (t : Tables) (windows : List Window) (are : AreWindows t windows) where
   triples_few : triples_in (fleets_in t) legs t.costs ≤ MAX_TRIPLES
   unfolding triples_by
   triples_few =
-      let keys = map key_of windows in
+      let keys = map window_key windows in
       let each : (l : ℕ) → l < legs_in t → fleets_on t l * times_of legs l ≡ triples_of (fleet_counts t) keys l = λ l below.
       ap (λ (leg : Leg). fleets_on t l * length leg.shifts) (leg_at l no_leg below)
       ∙ ap (λ n. fleets_on t l * n) (all_counted windows (minutes_of t.settings.period) l (leg_of t l).dep)
@@ -56,7 +56,7 @@ module _ (t : Tables) (windows : List Window) (are : AreWindows t windows) where
       ap (sum_below (λ l. fleets_on t l * times_of legs l)) as_many ∙ sums ∙ ap (sum_below (triples_of (fleet_counts t) keys)) (sym (legs_counted t)) in
       subst (λ n. n ≤ MAX_TRIPLES) (sym all) are.few_triples
 
-  pub fit : AreTables t.stations t.fleets legs t.costs t.throughs t.settings (departures_of legs) true t.optional
+  pub fit : AreTables t.stations t.fleets legs t.costs t.throughs t.settings (departures_of_legs legs) true t.optional
   fit = record {
     stations_fit = t.in_range.stations_fit;
     fleets_fit = t.in_range.fleets_fit;
@@ -85,9 +85,9 @@ module _ (t : Tables) (windows : List Window) (are : AreWindows t windows) where
   }
 
   -- lists that are those
-  pub windows_fit : (now : List Leg) (departures : List Departure) → now ≡ legs → departures ≡ departures_of now → AreTables t.stations t.fleets now t.costs t.throughs t.settings departures true t.optional
+  pub windows_fit : (now : List Leg) (departures : List Departure) → now ≡ legs → departures ≡ departures_of_legs now → AreTables t.stations t.fleets now t.costs t.throughs t.settings departures true t.optional
   windows_fit now departures is listed =
-      let first : departures ≡ departures_of legs = listed ∙ ap departures_of is in
+      let first : departures ≡ departures_of_legs legs = listed ∙ ap departures_of_legs is in
       subst (λ ls. AreTables t.stations t.fleets ls t.costs t.throughs t.settings departures true t.optional) (sym is)
       (subst (λ ds. AreTables t.stations t.fleets legs t.costs t.throughs t.settings ds true t.optional) (sym first) fit)
 
@@ -100,7 +100,7 @@ module _ (t : Tables) (windows : List Window) (are : AreWindows t windows) where
     costs = t.costs;
     throughs = t.throughs;
     settings = t.settings;
-    departures = departures_of legs;
+    departures = departures_of_legs legs;
     windows = true;
     optional = t.optional;
     in_range = fit;
@@ -111,10 +111,10 @@ module _ (t : Tables) (windows : List Window) (are : AreWindows t windows) where
 
 -- legs that were given their times
 pub given : (t : Tables) (windows : List Window) (period : ℕ) (old now : List Leg) → period ≡ minutes_of t.settings.period → old ≡ t.legs
-    → now ≡ list_below (λ l. leg_with period windows l (slice_index_or old l no_leg)) (length old) → now ≡ list_below (leg_with_windows t windows) (legs_in t)
+    → now ≡ list_below (λ l. leg_in_windows period windows l (slice_index_or old l no_leg)) (length old) → now ≡ list_below (leg_with_windows t windows) (legs_in t)
 given t windows period old now minutes is by_old =
-    by_old ∙ ap (λ p. list_below (λ l. leg_with p windows l (slice_index_or old l no_leg)) (length old)) minutes
-    ∙ ap (λ (ls : List Leg). list_below (λ l. leg_with (minutes_of t.settings.period) windows l (slice_index_or ls l no_leg)) (length ls)) is
+    by_old ∙ ap (λ p. list_below (λ l. leg_in_windows p windows l (slice_index_or old l no_leg)) (length old)) minutes
+    ∙ ap (λ (ls : List Leg). list_below (λ l. leg_in_windows (minutes_of t.settings.period) windows l (slice_index_or ls l no_leg)) (length ls)) is
 
 pub given_few : (t : Tables) (windows : List Window) (now : List Leg) → now ≡ list_below (leg_with_windows t windows) (legs_in t) → length now ≤ MAX_LEGS
 given_few t windows now is = omega (arith, ap length is, length-list_below (leg_with_windows t windows) (legs_in t), t.in_range.legs_fit.few)

@@ -13,14 +13,14 @@ use Rattle.fleet_model.specs.declared.tables.Tables.{Tables}
 use Rattle.fleet_tables.specs.Costs.{flight_of}
 use Rattle.sums.proofs.Tests.{by_test}
 use Rattle.table_rows.specs.Fields.{three_of}
-use Rattle.table_rows.specs.Names.{is_among, number_of}
-use Rattle.table_rows.specs.Rows.{Fields, FrontReads, row_at}
+use Rattle.table_rows.specs.Names.{is_among, number_of_name}
+use Rattle.table_rows.specs.Rows.{Fields, FrontReads, record_at}
 use Rattle.table_rows.proofs.Kept.{front_differ, front_each}
 use Rattle.table_rows.proofs.ReadParts.{form_ok, known_ok, not_refused, number_within, same_answer, whole_within, width_ok}
 use Rattle.retime_windows.specs.Counted.{AreShiftMinutes}
-use Rattle.retime_windows.specs.Keys.{fleet_counts, key_of, triples_by, windows_on}
+use Rattle.retime_windows.specs.Keys.{fleet_counts, triples_by, window_key, windows_on}
 use Rattle.retime_windows.specs.Times.{AreWindows, IsWindow, no_window, window_at}
-use Rattle.retime_windows.specs.Windows.{WindowsRead, but_none, read_beside, shift_of, unless_refused, window_read, window_refusal}
+use Rattle.retime_windows.specs.Windows.{WindowsRead, but_none, shift_read, unless_refused, window_beside, window_read, window_refusal}
 use Rattle.retime_windows.specs.declared.window.Window.{Window}
 use Rattle.retime_windows.proofs.Free.{is_free}
 use Rattle.retime_windows.proofs.NoneYet.{first_triples}
@@ -31,7 +31,7 @@ unless_ok (Some kind) read answer ok = absurd (cc ok)
 unless_ok None read answer ok = (refl, ok)
 
 -- minutes that are read move a departure, and not too far
-shift_within : (field : List ℕ) (minutes : ℤ) → shift_of field ≡ Ok minutes → AreShiftMinutes minutes × (minutes ≢ pos 0)
+shift_within : (field : List ℕ) (minutes : ℤ) → shift_read field ≡ Ok minutes → AreShiftMinutes minutes × (minutes ≢ pos 0)
 shift_within field minutes ok = by_number (whole_of field (neg_ℤ MAX_SHIFT) MAX_SHIFT) refl ok
   where
     moves : (n : ℤ) → (unsigned_abs n == 0) ≡ false → n ≢ pos 0
@@ -54,9 +54,9 @@ shift_within field minutes ok = by_number (whole_of field (neg_ℤ MAX_SHIFT) MA
 -- what a record that reads as a window below others shows
 record IsNewWindow (legs : ℕ) (fleets : List ℕ) (earlier : List (List ℕ)) (window : Window) : Type 0 where
   fits : IsWindow legs window
-  fresh : is_among (key_of window) earlier ≡ false
+  fresh : is_among (window_key window) earlier ≡ false
   room : windows_on earlier window.leg < 8
-  few : triples_by fleets (earlier ++ key_of window ∷ []) ≤ MAX_TRIPLES
+  few : triples_by fleets (earlier ++ window_key window ∷ []) ≤ MAX_TRIPLES
 
 new_window : (flights : List (List ℕ)) (fleets : List ℕ) (earlier : List (List ℕ)) (fields : Fields) (window : Window) → window_read flights fleets earlier fields ≡ Ok window
     → IsNewWindow (length flights) fleets earlier window
@@ -65,9 +65,9 @@ new_window flights fleets earlier fields window reads =
     let wide = width_ok (three_of fields) _ window reads in
     let text = not_refused (not (is_utf8 wide.0.0 && is_utf8 wide.0.1 && is_utf8 wide.0.2)) NOT_TEXT _ window wide.2 in
     let flight = form_ok (name_of wide.0.0) _ window text.1 in
-    let minutes = form_ok (shift_of wide.0.1) _ window flight.2 in
+    let minutes = form_ok (shift_read wide.0.1) _ window flight.2 in
     let units = form_ok (whole_of wide.0.2 (neg_ℤ MAX_COST) MAX_COST) _ window minutes.2 in
-    let leg = known_ok (number_of wide.0.0 flights) UNKNOWN_FLIGHT _ window units.2 in
+    let leg = known_ok (number_of_name wide.0.0 flights) UNKNOWN_FLIGHT _ window units.2 in
     let free = unless_ok (window_refusal fleets earlier leg.0 minutes.0) _ window leg.2 in
     let made : Window = record { leg = leg.0; minutes = minutes.0; extra = units.0 } in
     let same = same_answer made window free.1 in
@@ -86,9 +86,9 @@ new_window flights fleets earlier fields window reads =
       few = is.few;
     })
 
-module _ (flights : List (List ℕ)) (fleets : List ℕ) (rows : List Fields) (windows : List Window) (reads : FrontReads key_of (window_read flights fleets) rows windows) where
-  new_at : (n : ℕ) → n < length windows → IsNewWindow (length flights) fleets (map key_of (take n windows)) (window_at windows n)
-  new_at n below = new_window flights fleets (map key_of (take n windows)) (row_at rows n) (window_at windows n) (reads.each n no_window below)
+module _ (flights : List (List ℕ)) (fleets : List ℕ) (rows : List Fields) (windows : List Window) (reads : FrontReads window_key (window_read flights fleets) rows windows) where
+  new_at : (n : ℕ) → n < length windows → IsNewWindow (length flights) fleets (map window_key (take n windows)) (window_at windows n)
+  new_at n below = new_window flights fleets (map window_key (take n windows)) (record_at rows n) (window_at windows n) (reads.each n no_window below)
 
   few_so_far : (n : ℕ) → n ≤ length windows → (l : ℕ) → first_on windows n l ≤ 8
   few_so_far zero within l = omega arith
@@ -102,18 +102,18 @@ module _ (flights : List (List ℕ)) (fleets : List ℕ) (rows : List Fields) (w
       omega (arith, room, now ∙ ap (λ b. first_on windows n l + (if b then 1 else 0)) here)) (λ other.
       omega (arith, few_so_far n (omega arith) l, now ∙ ap (λ b. first_on windows n l + (if b then 1 else 0)) other))
 
-  all_few : (l : ℕ) → windows_on (map key_of windows) l ≤ 8
-  all_few l = subst (λ (taken : List Window). windows_on (map key_of taken) l ≤ 8) (take_all (length windows) windows (omega arith)) (few_so_far (length windows) (omega arith) l)
+  all_few : (l : ℕ) → windows_on (map window_key windows) l ≤ 8
+  all_few l = subst (λ (taken : List Window). windows_on (map window_key taken) l ≤ 8) (take_all (length windows) windows (omega arith)) (few_so_far (length windows) (omega arith) l)
 
-  triples_few : (n : ℕ) → n ≤ length windows → triples_by fleets [] ≤ MAX_TRIPLES → triples_by fleets (map key_of (take n windows)) ≤ MAX_TRIPLES
+  triples_few : (n : ℕ) → n ≤ length windows → triples_by fleets [] ≤ MAX_TRIPLES → triples_by fleets (map window_key (take n windows)) ≤ MAX_TRIPLES
   triples_few zero within first = first
   triples_few (suc n) within first =
       let on : n + 1 ≡ suc n = omega arith in
-      subst (λ k. triples_by fleets (map key_of (take k windows)) ≤ MAX_TRIPLES) on
-      (subst (λ keys. triples_by fleets keys ≤ MAX_TRIPLES) (sym (map_more key_of windows n no_window within)) (new_at n within).few)
+      subst (λ k. triples_by fleets (map window_key (take k windows)) ≤ MAX_TRIPLES) on
+      (subst (λ keys. triples_by fleets keys ≤ MAX_TRIPLES) (sym (map_more window_key windows n no_window within)) (new_at n within).few)
 
-  all_triples : triples_by fleets [] ≤ MAX_TRIPLES → triples_by fleets (map key_of windows) ≤ MAX_TRIPLES
-  all_triples first = subst (λ (taken : List Window). triples_by fleets (map key_of taken) ≤ MAX_TRIPLES) (take_all (length windows) windows (omega arith)) (triples_few (length windows) (omega arith) first)
+  all_triples : triples_by fleets [] ≤ MAX_TRIPLES → triples_by fleets (map window_key windows) ≤ MAX_TRIPLES
+  all_triples first = subst (λ (taken : List Window). triples_by fleets (map window_key taken) ≤ MAX_TRIPLES) (take_all (length windows) windows (omega arith)) (triples_few (length windows) (omega arith) first)
 
 pub windows_keep : (t : Tables) (records : List Fields) (windows : List Window) → WindowsRead t records windows → AreWindows t windows
 windows_keep t records windows reads =
@@ -122,8 +122,8 @@ windows_keep t records windows reads =
     let new = new_window flights fleets in
     record {
       each = λ k d below. subst (λ n. IsWindow n (slice_index_or windows k d)) (length-map t.legs flight_of)
-          (front_each key_of (read_beside t) (IsWindow (length flights)) (λ e f w r. (new e f w r).fits) reads.rest windows reads.rows.reads k d below);
-      differ = front_differ key_of (read_beside t) (λ e f w r. (new e f w r).fresh) reads.rest windows reads.rows.reads;
+          (front_each window_key (window_beside t) (IsWindow (length flights)) (λ e f w r. (new e f w r).fits) reads.rest windows reads.rows.reads k d below);
+      differ = front_differ window_key (window_beside t) (λ e f w r. (new e f w r).fresh) reads.rest windows reads.rows.reads;
       few = all_few flights fleets reads.rest windows reads.rows.reads;
       few_triples = all_triples flights fleets reads.rest windows reads.rows.reads (first_triples t);
     }

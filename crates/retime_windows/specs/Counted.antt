@@ -4,7 +4,7 @@ use Rattle.fleet_model.specs.declared.limits.TheConstants.{MAX_FLEETS, MAX_SHIFT
 use Rattle.retime_windows.specs.Keys.{windows_on}
 
 -- of each of so many legs how many windows it has, by their keys: no more than a leg may have
-pub record AreCounted (keys : List (List ℕ)) (legs : ℕ) (counts : List ℕ) : Type 0 where
+pub record AreWindowsCounted (keys : List (List ℕ)) (legs : ℕ) (counts : List ℕ) : Type 0 where
   pub each_leg : length counts ≡ legs
   pub value : (l : ℕ) → l < legs → slice_index counts l ≡ windows_on keys l
   pub few : (l : ℕ) → l < legs → slice_index counts l ≤ 8

@@ -16,8 +16,8 @@ is_earlier (negsuc minutes) = 1
 abbrev pub key_with : ℕ → ℤ → List ℕ
 key_with leg minutes = leg ∷ is_earlier minutes ∷ unsigned_abs minutes ∷ []
 
-abbrev pub key_of : Window → List ℕ
-key_of window = key_with window.leg window.minutes
+abbrev pub window_key : Window → List ℕ
+window_key window = key_with window.leg window.minutes
 
 -- how many windows with these keys are of a leg
 abbrev pub is_on : ℕ → List ℕ → Bool

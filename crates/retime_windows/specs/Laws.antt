@@ -12,20 +12,20 @@ pub record ReadAsWindows (t : Tables) (bytes : List ℕ) : Type 0 where
   pub reads : ReadsWindows t bytes tables
 
 -- the file has a first fault beside the tables
-pub record HasFirstFault (t : Tables) (bytes : List ℕ) : Type 0 where
+pub record HasFirstWindowsFault (t : Tables) (bytes : List ℕ) : Type 0 where
   pub row : ℕ
   pub kind : ℕ
   pub bad : WindowsBad t (records_of bytes) row kind
 
 abbrev pub WindowsOrFault : Type 0
-WindowsOrFault = (t : Tables) (bytes : List ℕ) → ReadAsWindows t bytes ⊎ HasFirstFault t bytes
+WindowsOrFault = (t : Tables) (bytes : List ℕ) → ReadAsWindows t bytes ⊎ HasFirstWindowsFault t bytes
 
 abbrev pub WindowsOrFaultNotBoth : Type 0
-WindowsOrFaultNotBoth = (t : Tables) (bytes : List ℕ) → ReadAsWindows t bytes → ¬ (HasFirstFault t bytes)
+WindowsOrFaultNotBoth = (t : Tables) (bytes : List ℕ) → ReadAsWindows t bytes → ¬ (HasFirstWindowsFault t bytes)
 
-abbrev pub OneReading : Type 0
-OneReading = (t u v : Tables) (bytes : List ℕ) → ReadsWindows t bytes u → ReadsWindows t bytes v → u ≡ v
+abbrev pub OneWindowsReading : Type 0
+OneWindowsReading = (t u v : Tables) (bytes : List ℕ) → ReadsWindows t bytes u → ReadsWindows t bytes v → u ≡ v
 
-abbrev pub OneFirstFault : Type 0
-OneFirstFault = (t : Tables) (bytes : List ℕ) (row other kind other_kind : ℕ) → WindowsBad t (records_of bytes) row kind → WindowsBad t (records_of bytes) other other_kind
+abbrev pub OneFirstWindowsFault : Type 0
+OneFirstWindowsFault = (t : Tables) (bytes : List ℕ) (row other kind other_kind : ℕ) → WindowsBad t (records_of bytes) row kind → WindowsBad t (records_of bytes) other other_kind
     → (row ≡ other) × (kind ≡ other_kind)

@@ -10,11 +10,11 @@ use Rattle.fleet_model.specs.declared.refusals.TheConstants.{DUPLICATE, NOT_TEXT
 use Rattle.fleet_model.specs.declared.tables.Tables.{Tables}
 use Rattle.fleet_tables.specs.Costs.{flight_of}
 use Rattle.table_rows.specs.Fields.{known, of_width, refused_where, three_of, well_formed}
-use Rattle.table_rows.specs.Names.{is_among, number_of}
+use Rattle.table_rows.specs.Names.{is_among, number_of_name}
 use Rattle.table_rows.specs.Rows.{Fields, TableBad, TableReads}
 use Rattle.retime_windows.specs.declared.window.TheConstants.{MAX_WINDOWS, MAX_WINDOWS_OF_LEG}
 use Rattle.retime_windows.specs.declared.window.Window.{Window}
-use Rattle.retime_windows.specs.Keys.{fleet_counts, key_of, key_with, triples_by, windows_on}
+use Rattle.retime_windows.specs.Keys.{fleet_counts, key_with, triples_by, window_key, windows_on}
 
 -- flight,shift,extra
 abbrev pub window_header : Fields
@@ -26,8 +26,8 @@ but_none (Ok minutes) = if unsigned_abs minutes == 0 then Err out_of_range else 
 but_none (Err fault) = Err fault
 
 -- a field read as minutes by which a leg departs later or earlier
-abbrev pub shift_of : List ℕ → Result ℤ FieldFault
-shift_of field = but_none (whole_of field (neg_ℤ MAX_SHIFT) MAX_SHIFT)
+abbrev pub shift_read : List ℕ → Result ℤ FieldFault
+shift_read field = but_none (whole_of field (neg_ℤ MAX_SHIFT) MAX_SHIFT)
 
 -- The kind of what stands in the way of one window more, below windows with these keys: it is there already, or there is one
 -- too many in all, or of its leg, or with it there are too many pairs by which legs may be flown.
@@ -51,20 +51,20 @@ window_read flights fleets earlier fields =
     of_width (three_of fields) (λ (flight, shift, extra).
     refused_where (not (is_utf8 flight && is_utf8 shift && is_utf8 extra)) NOT_TEXT
     (well_formed (name_of flight) (λ _.
-    well_formed (shift_of shift) (λ minutes.
+    well_formed (shift_read shift) (λ minutes.
     well_formed (whole_of extra (neg_ℤ MAX_COST) MAX_COST) (λ units.
-    known (number_of flight flights) UNKNOWN_FLIGHT (λ l.
+    known (number_of_name flight flights) UNKNOWN_FLIGHT (λ l.
     unless_refused (window_refusal fleets earlier l minutes)
     (Ok (record { leg = l; minutes = minutes; extra = units }))))))))
 
 -- what a record reads as beside these tables
-abbrev pub read_beside : Tables → List (List ℕ) → Fields → Result Window ℕ
-read_beside t = window_read (map flight_of t.legs) (fleet_counts t)
+abbrev pub window_beside : Tables → List (List ℕ) → Fields → Result Window ℕ
+window_beside t = window_read (map flight_of t.legs) (fleet_counts t)
 
 -- the records of a file are the header and these windows of the tables
 abbrev pub WindowsRead : Tables → List Fields → List Window → Type 0
-WindowsRead t = TableReads key_of (read_beside t) window_header
+WindowsRead t = TableReads window_key (window_beside t) window_header
 
 -- the first fault of a file of windows
 abbrev pub WindowsBad : Tables → List Fields → ℕ → ℕ → Type 0
-WindowsBad t = TableBad key_of (read_beside t) window_header
+WindowsBad t = TableBad window_key (window_beside t) window_header

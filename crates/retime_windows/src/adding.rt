@@ -5,7 +5,7 @@ ghost use Rattle.fleet_model.specs.Period.{minutes_of};
 ghost use Rattle.fleet_model.specs.Windows.{no_leg};
 ghost use Rattle.fleet_model.specs.declared.limits.TheConstants.{MAX_LEGS};
 ghost use Rattle.fleet_model.specs.declared.refusals.TableFile.TheVariants as file;
-ghost use Rattle.retime_windows.specs.Times.{AreMoves, AreWindows, HaveWindows, ReadsWindows, leg_timed, leg_with};
+ghost use Rattle.retime_windows.specs.Times.{AreMoves, AreWindows, HaveWindows, ReadsWindows, leg_in_windows, leg_timed};
 ghost use Rattle.retime_windows.specs.Windows.{WindowsBad};
 ghost use Rattle.sums.specs.Places.{list_below};
 ghost use Rattle.table_rows.specs.Outcome.{IsFirstFault};
@@ -56,7 +56,7 @@ fn give_times(legs: &mut Vec<Leg>, windows: &[Window], period: u16)
     requires each { All (λ leg. leg.dep < period) legs.old.items }
     requires some_minutes { minutes_of 1 ≤ period }
     requires few_minutes { period ≤ 10080 }
-    ensures { legs.new.items ≡ list_below (λ l. leg_with period windows.now l (slice_index_or legs.old.items l no_leg)) (length legs.old.items) }
+    ensures { legs.new.items ≡ list_below (λ l. leg_in_windows period windows.now l (slice_index_or legs.old.items l no_leg)) (length legs.old.items) }
 {
     for place in 0..legs.len() {
         let times = times_with(windows, place as u32, legs[place].dep, period);

@@ -2,7 +2,7 @@
 //! Each function is a law: its contract is the statement, and it does nothing.
 ghost use Rattle.std.specs.Prelude.{◌≡◌};
 ghost use Rattle.retime_windows.specs.declared.window.TheConstants.{MAX_WINDOWS, MAX_WINDOWS_OF_LEG};
-ghost use Rattle.retime_windows.specs.Laws.{OneFirstFault, OneReading, WindowsOrFault, WindowsOrFaultNotBoth};
+ghost use Rattle.retime_windows.specs.Laws.{OneFirstWindowsFault, OneWindowsReading, WindowsOrFault, WindowsOrFaultNotBoth};
 ghost use Rattle.retime_windows.specs.SettledLaws.{SettledCostsAlike, SettledCountsAlike, SettledIsLegal, SettledOnce};
 
 /// A file reads as windows of the tables, or it has a first fault.
@@ -17,12 +17,12 @@ pub fn windows_or_fault_not_both()
 
 /// With the windows of a file there is one set of tables at most.
 pub fn one_reading()
-    ensures { OneReading }
+    ensures { OneWindowsReading }
 {}
 
 /// A file has one first fault at most.
 pub fn one_first_fault()
-    ensures { OneFirstFault }
+    ensures { OneFirstWindowsFault }
 {}
 
 /// The limits of windows in numbers.

@@ -4,9 +4,9 @@ ghost use Rattle.csv_fields.specs.Record.{records_of};
 ghost use Rattle.fleet_model.specs.declared.limits.TheConstants.{MAX_LEGS};
 ghost use Rattle.fleet_model.specs.declared.refusals.TableFile.TheVariants as file;
 ghost use Rattle.fleet_tables.specs.Costs.{flight_of};
-ghost use Rattle.retime_windows.specs.Keys.{fleet_counts, key_of};
+ghost use Rattle.retime_windows.specs.Keys.{fleet_counts, window_key};
 ghost use Rattle.retime_windows.specs.Times.{AreWindows};
-ghost use Rattle.retime_windows.specs.Windows.{WindowsBad, WindowsRead, shift_of, window_read};
+ghost use Rattle.retime_windows.specs.Windows.{WindowsBad, WindowsRead, shift_read, window_read};
 ghost use Rattle.table_rows.specs.Outcome.{IsFirstFault};
 
 use crate::seen::Seen;
@@ -58,9 +58,9 @@ impl WindowReader {
 impl RowReader for WindowReader {
     type Entry = Window;
 
-    ghost key = { key_of };
+    ghost key = { window_key };
 
-    ghost keys = { λ reader. map key_of reader.seen.windows.items };
+    ghost keys = { λ reader. map window_key reader.seen.windows.items };
 
     ghost read = { λ reader. window_read reader.flights reader.seen.fleets.items };
 
@@ -96,7 +96,7 @@ impl RowReader for WindowReader {
 
 /// The minutes that a field writes, by which a leg departs later or earlier.
 fn shift_minutes(field: &[u8]) -> Result<i16, FieldFault>
-    ensures reads { result ≡ shift_of field.now }
+    ensures reads { result ≡ shift_read field.now }
 {
     let minutes = whole(field, -i128::from(MAX_SHIFT), i128::from(MAX_SHIFT))?;
     if minutes == 0 {

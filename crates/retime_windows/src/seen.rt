@@ -1,8 +1,8 @@
 //! The windows that were read so far, as the next one is judged by them.
 ghost use Rattle.std.specs.Prelude.{◌≡◌, ◌++◌, ◌<◌, ◌≤◌, [], ◌∷◌, IfOk, None, OnOk, bytes_eq, length, map};
 ghost use Rattle.fleet_model.specs.declared.limits.TheConstants.{MAX_FLEETS, MAX_TRIPLES};
-ghost use Rattle.retime_windows.specs.Counted.{AreCounted, AreFleetCounts};
-ghost use Rattle.retime_windows.specs.Keys.{fleet_counts, fleets_on, key_of, key_with, triples_by, windows_on};
+ghost use Rattle.retime_windows.specs.Counted.{AreFleetCounts, AreWindowsCounted};
+ghost use Rattle.retime_windows.specs.Keys.{fleet_counts, fleets_on, key_with, triples_by, window_key, windows_on};
 ghost use Rattle.retime_windows.specs.Windows.{window_refusal};
 ghost use Rattle.table_rows.specs.Names.{is_among};
 
@@ -25,8 +25,8 @@ pub(crate) struct Seen {
     /// By how many pairs legs may be flown.
     triples: u32,
     ghost fleets_known: { AreFleetCounts (length fleets.items) fleets.items },
-    ghost counted: { AreCounted (map key_of windows.items) (length fleets.items) on_leg.items },
-    ghost triples_are: { triples ≡ triples_by fleets.items (map key_of windows.items) },
+    ghost counted: { AreWindowsCounted (map window_key windows.items) (length fleets.items) on_leg.items },
+    ghost triples_are: { triples ≡ triples_by fleets.items (map window_key windows.items) },
     ghost few_triples: { triples ≤ MAX_TRIPLES },
 }
 
@@ -51,7 +51,7 @@ impl Seen {
     #[tactic(auto, unfolding(crate::specs::Windows::window_refusal))]
     pub(crate) fn refusal(&self, leg: u32, minutes: i16) -> Option<u8>
         requires { leg < length self.now.fleets.items }
-        ensures { result ≡ window_refusal self.now.fleets.items (map key_of self.now.windows.items) leg minutes }
+        ensures { result ≡ window_refusal self.now.fleets.items (map window_key self.now.windows.items) leg minutes }
     {
         if is_among(&self.windows, leg, minutes) {
             Some(DUPLICATE)
@@ -69,7 +69,7 @@ impl Seen {
     /// Takes one window more, that nothing stands in the way of.
     pub(crate) fn add(&mut self, window: Window) -> Result<(), NoMemory>
         requires leg { window.leg < length self.old.fleets.items }
-        requires free { window_refusal self.old.fleets.items (map key_of self.old.windows.items) window.leg window.minutes ≡ None }
+        requires free { window_refusal self.old.fleets.items (map window_key self.old.windows.items) window.leg window.minutes ≡ None }
         ensures added { OnOk result (self.new.windows.items ≡ self.old.windows.items ++ window ∷ []) }
         ensures fleets { self.new.fleets.items ≡ self.old.fleets.items }
     {
@@ -82,7 +82,7 @@ impl Seen {
     // How many windows a leg has.
     fn windows_on(&self, leg: u32) -> usize
         requires { leg < length self.now.fleets.items }
-        ensures { result ≡ windows_on (map key_of self.now.windows.items) leg }
+        ensures { result ≡ windows_on (map window_key self.now.windows.items) leg }
     {
         self.on_leg[leg as usize] as usize
     }
@@ -90,7 +90,7 @@ impl Seen {
     // By how many pairs legs may be flown with one window more of a leg.
     fn triples_with(&self, leg: u32, minutes: i16) -> usize
         requires leg { leg < length self.now.fleets.items }
-        ensures { result ≡ triples_by self.now.fleets.items (map key_of self.now.windows.items ++ key_with leg minutes ∷ []) }
+        ensures { result ≡ triples_by self.now.fleets.items (map window_key self.now.windows.items ++ key_with leg minutes ∷ []) }
     {
         (self.triples + self.fleets[leg as usize]) as usize
     }
@@ -98,7 +98,7 @@ impl Seen {
 
 // Whether a window of the leg with these minutes is there. They are few enough to look at each.
 fn is_among(windows: &[Window], leg: u32, minutes: i16) -> bool
-    ensures { result ≡ is_among (key_with leg minutes) (map key_of windows.now) }
+    ensures { result ≡ is_among (key_with leg minutes) (map window_key windows.now) }
 {
     for window in windows {
         if is_of(window, leg, minutes) {
@@ -110,7 +110,7 @@ fn is_among(windows: &[Window], leg: u32, minutes: i16) -> bool
 
 // Whether a window is of the leg and has these minutes.
 fn is_of(window: &Window, leg: u32, minutes: i16) -> bool
-    ensures { result ≡ bytes_eq (key_with leg minutes) (key_of window.now) }
+    ensures { result ≡ bytes_eq (key_with leg minutes) (window_key window.now) }
 {
     window.leg == leg && window.minutes == minutes
 }

@@ -20,10 +20,10 @@ use Rattle.ground_turns.specs.Nights.{is_short, night_of_stay, nights_in_turn}
 use Rattle.ground_turns.specs.Turns.{station_at}
 use Rattle.ground_turns.specs.declared.nights.Night.{Night}
 use Rattle.ground_turns.specs.declared.nights.Night.TheVariants as night
-use Rattle.lines_of_flying.specs.Lines.{AreLegs}
+use Rattle.lines_of_flying.specs.Lines.{AreLegsOfTables}
 use Rattle.plan_text.proofs.NameText.{name_is_plain}
 use Rattle.plan_text.specs.CsvText.{csv_text}
-use Rattle.rotation_report.specs.RotationRecords.{Fields, Row, fleet_records, fleets_records, flight_of, leg_row, listed_row, night_row, pair_row, rotation_header, rotation_records, rotation_rows, rotation_text, round_records, second_round, short_no, tour_rows, yes_no}
+use Rattle.rotation_report.specs.RotationRecords.{RecordFields, Row, fleet_records, fleets_records, leg_flight, leg_row, listed_row, night_row, pair_row, rotation_header, rotation_records, rotation_rows, rotation_text, round_records, second_round, short_no, tour_rows, yes_no}
 use Rattle.euler_rotation.specs.FleetRotations.{AreConnections, AreRotations, IsFleetRotation, IsOfLegs, rotation_of}
 use Rattle.euler_rotation.specs.declared.fleet_rotation.FleetRotation.{FleetRotation}
 use Rattle.plan_text.proofs.CsvWriting.{csv_text-append}
@@ -78,13 +78,13 @@ plain-append [] ys none rest = rest
 plain-append (x ∷ xs) ys front rest = (front.0, plain-append xs ys front.1 rest)
 
 module _ (t : Tables) where
-  flight_plain : (l : ℕ) → l < legs_in t → needs (flight_of t l) ≡ false
+  flight_plain : (l : ℕ) → l < legs_in t → needs (leg_flight t l) ≡ false
   flight_plain l within = name_is_plain (leg_of t l).flight (t.in_range.legs_fit.each l no_leg within).flight
 
   name_plain : (f : ℕ) → f < fleets_in t → needs (fleet_of t f).name ≡ false
   name_plain f within = name_is_plain (fleet_of t f).name (t.in_range.fleets_fit.each f no_fleet within).name
 
-  listed_plain : (kind legs : List ℕ) → needs kind ≡ false → AreLegs t legs → ArePlain (map (listed_row kind t) legs)
+  listed_plain : (kind legs : List ℕ) → needs kind ≡ false → AreLegsOfTables t legs → ArePlain (map (listed_row kind t) legs)
   listed_plain kind [] plain known = tt
   listed_plain kind (leg ∷ legs) plain known = (
     record { kind = plain; a = flight_plain leg (known.each 0 (omega arith)); b = refl },
@@ -121,7 +121,7 @@ module _ (t : Tables) where
       (plain-append (map (night_row t) (replicate n night.Aloft)) (map (night_row t) (replicate m x))
       (same_plain n night.Aloft (record { kind = refl; a = refl; b = refl })) (same_plain m x plain))
 
-  tour_plain : (f : ℕ) (tour : List ℕ) → AreLegs t tour → (n : ℕ) → n ≤ length tour → ArePlain (tour_rows t f tour n)
+  tour_plain : (f : ℕ) (tour : List ℕ) → AreLegsOfTables t tour → (n : ℕ) → n ≤ length tour → ArePlain (tour_rows t f tour n)
   tour_plain f tour known zero within = tt
   tour_plain f tour known (suc n) within =
       let leg = known.each n (omega arith) in
@@ -151,10 +151,10 @@ unfolding fields_text is_blank
 five_plain n k x a b plain_n plain_k plain_x plain_a plain_b = rw (plain_n, plain_k, plain_x, plain_a, plain_b, append-nil b) refl
 
 -- the text of records is what `csv` writes
-record IsCsv (records : List Fields) : Type 0 where
+record IsCsv (records : List RecordFields) : Type 0 where
   same : flat_map record_line records ≡ csv_text records
 
-csv-append : (xs ys : List Fields) → IsCsv xs → IsCsv ys → IsCsv (xs ++ ys)
+csv-append : (xs ys : List RecordFields) → IsCsv xs → IsCsv ys → IsCsv (xs ++ ys)
 csv-append xs ys front rest = record {
   same = flat_map-append record_line xs ys ∙ ap (λ t. t ++ flat_map record_line ys) front.same ∙ ap (λ t. csv_text xs ++ t) rest.same ∙ sym (csv_text-append xs ys);
 }

@@ -12,7 +12,7 @@ use Rattle.ground_turns.specs.Turns.{nights_waited, station_at}
 use Rattle.ground_turns.specs.declared.nights.Night.{Night}
 use Rattle.ground_turns.specs.declared.nights.Night.TheVariants as night
 use Rattle.plan_text.proofs.CsvWriting.{text_more, written_more}
-use Rattle.plan_text.specs.CsvText.{HasWritten, TextWriter, csv_text, text_in}
+use Rattle.plan_text.specs.CsvText.{HasWritten, TextWriter, csv_text, written_text}
 use Rattle.rotation_report.specs.RotationRecords.{Row, begun_tour_rows, fleet_records, fleets_records, leg_row, night_row, rotation_header, round_records, row_record, short_no, yes_no}
 use Rattle.euler_rotation.specs.FleetRotations.{rotation_of}
 use Rattle.euler_rotation.specs.declared.fleet_rotation.FleetRotation.{FleetRotation}
@@ -67,9 +67,9 @@ tour_more t f tour n name number a b c d front leg nights =
 
 -- the records of a fleet more
 pub fleet_more : (t : Tables) (visits : ℕ) (rotations : List FleetRotation) (n : ℕ) (b c : TextWriter)
-    → text_in b ≡ csv_text (rotation_header ∷ fleets_records t visits rotations n)
+    → written_text b ≡ csv_text (rotation_header ∷ fleets_records t visits rotations n)
     → HasWritten b c (fleet_records t visits (rotation_of rotations n) n)
-    → text_in c ≡ csv_text (rotation_header ∷ fleets_records t visits rotations (n + 1))
+    → written_text c ≡ csv_text (rotation_header ∷ fleets_records t visits rotations (n + 1))
 fleet_more t visits rotations n b c front rest =
     text_more b c (rotation_header ∷ fleets_records t visits rotations n) (fleet_records t visits (rotation_of rotations n) n) front rest
     ∙ ap (λ k. csv_text (rotation_header ∷ fleets_records t visits rotations k)) (sym (add-one n))

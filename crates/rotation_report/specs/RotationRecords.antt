@@ -16,11 +16,11 @@ use Rattle.lines_of_flying.specs.Lines.{days_of_tour, nights_after}
 use Rattle.euler_rotation.specs.FleetRotations.{rotation_of}
 use Rattle.euler_rotation.specs.declared.fleet_rotation.FleetRotation.{FleetRotation}
 
-abbrev pub Fields : Type 0
-Fields = List (List ℕ)
+abbrev pub RecordFields : Type 0
+RecordFields = List (List ℕ)
 
 -- fleet,round,kind,a,b
-abbrev pub rotation_header : Fields
+abbrev pub rotation_header : RecordFields
 rotation_header = codes "fleet" ∷ codes "round" ∷ codes "kind" ∷ codes "a" ∷ codes "b" ∷ []
 
 -- what a record says of a round: its kind, and two fields
@@ -30,26 +30,26 @@ pub record Row : Type 0 where
   pub b : List ℕ
 
 -- the records of a round of a fleet, by the fleet's name and the round's number
-abbrev pub row_record : List ℕ → List ℕ → Row → Fields
+abbrev pub row_record : List ℕ → List ℕ → Row → RecordFields
 row_record name number row = name ∷ number ∷ row.kind ∷ row.a ∷ row.b ∷ []
 
-abbrev pub round_records : List ℕ → List ℕ → List Row → List Fields
+abbrev pub round_records : List ℕ → List ℕ → List Row → List RecordFields
 round_records name number rows = map (row_record name number) rows
 
-abbrev pub flight_of : Tables → ℕ → List ℕ
-flight_of t l = (leg_of t l).flight
+abbrev pub leg_flight : Tables → ℕ → List ℕ
+leg_flight t l = (leg_of t l).flight
 
 -- a through pair, by its flights
 abbrev pub pair_row : Tables → Connection → Row
-pair_row t pair = record { kind = codes "pair"; a = flight_of t pair.arriving; b = flight_of t pair.departing }
+pair_row t pair = record { kind = codes "pair"; a = leg_flight t pair.arriving; b = leg_flight t pair.departing }
 
 -- a leg of a list, by its flight
 abbrev pub listed_row : List ℕ → Tables → ℕ → Row
-listed_row kind t l = record { kind = kind; a = flight_of t l; b = codes "0" }
+listed_row kind t l = record { kind = kind; a = leg_flight t l; b = codes "0" }
 
 -- a leg of a tour, and how many nights follow it
 abbrev pub leg_row : Tables → ℕ → List ℕ → ℕ → Row
-leg_row t f tour k = record { kind = codes "leg"; a = flight_of t (slice_index tour k); b = decimal (nights_after t f tour k) }
+leg_row t f tour k = record { kind = codes "leg"; a = leg_flight t (slice_index tour k); b = decimal (nights_after t f tour k) }
 
 abbrev pub yes_no : Bool → List ℕ
 yes_no true = codes "yes"
@@ -99,23 +99,23 @@ rotation_rows t f visits rotation.None = bare_row (codes "none") ∷ []
 rotation_rows t f visits (rotation.Spent order prefix) = spent_rows t visits order prefix
 
 -- the second round of a fleet, where its through pairs were given up
-abbrev pub second_round : Tables → ℕ → ℕ → Option Rotation → List Fields
+abbrev pub second_round : Tables → ℕ → ℕ → Option Rotation → List RecordFields
 second_round t f visits None = []
 second_round t f visits (Some second) = round_records (fleet_of t f).name (codes "2") (rotation_rows t f visits second)
 
 -- the records of a fleet: the first round with its chosen pairs, and the second
-unfoldable pub fleet_records : Tables → ℕ → FleetRotation → ℕ → List Fields
+unfoldable pub fleet_records : Tables → ℕ → FleetRotation → ℕ → List RecordFields
 fleet_records t visits made f =
     round_records (fleet_of t f).name (codes "1") (map (pair_row t) made.pairs ++ rotation_rows t f visits made.first)
     ++ second_round t f visits made.second
 
 -- those of the first fleets
-abbrev pub fleets_records : Tables → ℕ → List FleetRotation → ℕ → List Fields
+abbrev pub fleets_records : Tables → ℕ → List FleetRotation → ℕ → List RecordFields
 fleets_records t visits rotations zero = []
 fleets_records t visits rotations (suc n) = fleets_records t visits rotations n ++ fleet_records t visits (rotation_of rotations n) n
 
 -- the records of rotations: the header, and those of each fleet
-abbrev pub rotation_records : Tables → List FleetRotation → ℕ → List Fields
+abbrev pub rotation_records : Tables → List FleetRotation → ℕ → List RecordFields
 rotation_records t rotations visits = rotation_header ∷ fleets_records t visits rotations (length rotations)
 
 -- the text of rotations, found in so many visits of the search at most

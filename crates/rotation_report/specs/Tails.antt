@@ -8,7 +8,7 @@ use Rattle.fleet_model.specs.Counts.{weights_of}
 use Rattle.fleet_model.specs.Schedule.{days_in, fleet_of, fleets_in, leg_of}
 use Rattle.fleet_model.specs.Use.{used_of}
 use Rattle.fleet_model.specs.declared.tables.Tables.{Tables}
-use Rattle.lines_of_flying.specs.Lines.{AreLegs, lines_of}
+use Rattle.lines_of_flying.specs.Lines.{AreLegsOfTables, lines_of}
 use Rattle.calendar_dates.specs.Days.{Day, day_text, days_from, no_day}
 use Rattle.euler_rotation.specs.FleetRotations.{last_made, rotation_of}
 use Rattle.rotation_report.specs.RotationWords.{rotation_words}
@@ -21,10 +21,10 @@ abbrev pub lines_by : Tables → List ℕ → ℕ → List ℕ → FleetLines
 lines_by t a f tour = record { fleet = f; used = used_of t (weights_of a) f; lines = lines_of t f tour }
 
 -- lines of the tables' legs, one for each day that the aircraft take
-pub record AreLinesOf (t : Tables) (flown : FleetLines) : Type 0 where
+pub record AreFleetLines (t : Tables) (flown : FleetLines) : Type 0 where
   pub fleet : flown.fleet < fleets_in t
   pub each_day : length flown.lines ≡ flown.used * days_in t
-  pub legs : (k : ℕ) → k < length flown.lines → AreLegs t (slice_index_or flown.lines k [])
+  pub legs : (k : ℕ) → k < length flown.lines → AreLegsOfTables t (slice_index_or flown.lines k [])
 
 -- the line that an aircraft flies so many days after a date on which it begins with the line after so many: it comes to the next
 -- line each day

@@ -1,7 +1,7 @@
 //! The records of rotations, written by `csv`.
 ghost use Rattle.std.specs.Prelude.{◌≡◌, ◌<◌, [], ◌∷◌, IfOk, IfSome, OnOk, map};
 ghost use Rattle.fleet_model.specs.Schedule.{fleets_in};
-ghost use Rattle.plan_text.specs.CsvText.{HasWritten, IsBetweenRecords, csv_text, text_in};
+ghost use Rattle.plan_text.specs.CsvText.{HasWritten, IsBetweenRecords, csv_text, written_text};
 ghost use Rattle.rotation_report.specs.RoundRows.{HasRows};
 ghost use Rattle.rotation_report.specs.RotationRecords.{apart_rows, fleet_records, listed_row, pair_row, rotation_header, rotation_records, rotation_rows, rotation_text, second_round, spent_rows};
 ghost use Rattle.euler_rotation.specs.FleetRotations.{AreConnections, AreListed, AreRotations, IsFleetRotation, IsOfLegs};
@@ -52,10 +52,10 @@ fn put_fleets(
     visits: u64,
 ) -> Result<(), NoMemory>
     requires between { IsBetweenRecords writer.old }
-    requires header { text_in writer.old ≡ csv_text (rotation_header ∷ []) }
+    requires header { written_text writer.old ≡ csv_text (rotation_header ∷ []) }
     requires rotations { AreRotations tables.now rotations.now }
     ensures between { OnOk result (IsBetweenRecords writer.new) }
-    ensures text { OnOk result (text_in writer.new ≡ csv_text (rotation_records tables.now rotations.now visits)) }
+    ensures text { OnOk result (written_text writer.new ≡ csv_text (rotation_records tables.now rotations.now visits)) }
 {
     for fleet in 0..rotations.len() as u32 {
         let made = &rotations[fleet as usize];

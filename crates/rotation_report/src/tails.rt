@@ -4,10 +4,10 @@ ghost use Rattle.std.specs.List.{flat_map};
 ghost use Rattle.fleet_model.specs.Legal.{IsAssignment};
 ghost use Rattle.fleet_model.specs.Schedule.{days_in, fleets_in};
 ghost use Rattle.ground_turns.specs.Maps.{IsTour};
-ghost use Rattle.lines_of_flying.specs.Lines.{AreLegs, BeginsAfterStart};
+ghost use Rattle.lines_of_flying.specs.Lines.{AreLegsOfTables, BeginsAfterStart};
 ghost use Rattle.calendar_dates.specs.Days.{HasDays, day_on};
-ghost use Rattle.euler_rotation.specs.FleetRotations.{AreFlown, AreRotations, IsFleetRotation, IsFlown, last_made};
-ghost use Rattle.rotation_report.specs.Tails.{AreLinesOf, dated_line, day_lines, days_lines, fleet_tails, fleets_tails, flights_text, line_from, line_on, lines_by, no_tour_line, spaced_flight, tails_text};
+ghost use Rattle.euler_rotation.specs.FleetRotations.{AreFlown, AreRotations, IsFleetRotation, IsRotationFlown, last_made};
+ghost use Rattle.rotation_report.specs.Tails.{AreFleetLines, dated_line, day_lines, days_lines, fleet_tails, fleets_tails, flights_text, line_from, line_on, lines_by, no_tour_line, spaced_flight, tails_text};
 
 use crate::flying::FleetLines;
 use crate::text_lines::push_line;
@@ -81,7 +81,7 @@ fn push_tails(
     requires plan { IsAssignment tables.now plan.now }
     requires fleet { fleet < fleets_in tables.now }
     requires made { IsFleetRotation tables.now made.now }
-    requires tour { IsFlown tables.now plan.now fleet (last_made made.now) }
+    requires tour { IsRotationFlown tables.now plan.now fleet (last_made made.now) }
     requires few { past + length dates.now < 2 ^ 32 }
     ensures { OnOk result (text.new.items ≡ text.old.items ++ fleet_tails tables.now plan.now fleet made.now past (map day_on dates.now)) }
 {
@@ -162,7 +162,7 @@ pub fn lines_by(
     requires tour { IsTour tables.now plan.now fleet tour.now }
     requires begins { BeginsAfterStart tables.now fleet tour.now }
     ensures value { IfOk result (λ flown. flown ≡ lines_by tables.now plan.now fleet tour.now) }
-    ensures fits { IfOk result (AreLinesOf tables.now) }
+    ensures fits { IfOk result (AreFleetLines tables.now) }
 {
     Ok(FleetLines {
         fleet,
@@ -180,7 +180,7 @@ fn push_days(
     past: u32,
     dates: &[Date],
 ) -> Result<(), NoMemory>
-    requires flown { AreLinesOf tables.now flown.now }
+    requires flown { AreFleetLines tables.now flown.now }
     requires few { past + length dates.now < 2 ^ 32 }
     ensures { OnOk result (text.new.items ≡ text.old.items ++ days_lines tables.now flown.now past (map day_on dates.now) (length dates.now)) }
 {
@@ -199,7 +199,7 @@ fn push_day(
     date: Date,
     day: u32,
 ) -> Result<(), NoMemory>
-    requires { AreLinesOf tables.now flown.now }
+    requires { AreFleetLines tables.now flown.now }
     ensures { OnOk result (text.new.items ≡ text.old.items ++ day_lines tables.now flown.now (day_on date) day flown.now.used) }
 {
     let date = date.to_string(alloc)?;
@@ -219,7 +219,7 @@ fn push_tail(
     day: u32,
     aircraft: u32,
 ) -> Result<(), NoMemory>
-    requires flown { AreLinesOf tables.now flown.now }
+    requires flown { AreFleetLines tables.now flown.now }
     requires aircraft { aircraft < flown.now.used }
     ensures { OnOk result (text.new.items ≡ text.old.items ++ dated_line tables.now flown.now date.now day aircraft) }
 {
@@ -242,10 +242,10 @@ fn push_tail(
 /// The line that an aircraft flies so many days after a first day of the period: on that day it begins a period after the one
 /// before it, and it comes to the next line each day. Takes no memory.
 fn line_on<'a>(tables: &Tables, flown: &'a FleetLines, day: u32, aircraft: u32) -> &'a [u32]
-    requires flown { AreLinesOf tables.now flown.now }
+    requires flown { AreFleetLines tables.now flown.now }
     requires aircraft { aircraft < flown.now.used }
     ensures value { result.now ≡ line_on tables.now flown.now day aircraft }
-    ensures legs { AreLegs tables.now result.now }
+    ensures legs { AreLegsOfTables tables.now result.now }
 {
     let first = u64::from(aircraft) * u64::from(tables.day_count());
     line_from(tables, flown, day, first)
@@ -254,10 +254,10 @@ fn line_on<'a>(tables: &Tables, flown: &'a FleetLines, day: u32, aircraft: u32) 
 /// The line that an aircraft flies so many days after a date on which it begins with the line after so many: it comes to the
 /// next line each day. Takes no memory.
 pub fn line_from<'a>(tables: &Tables, flown: &'a FleetLines, day: u32, first: u64) -> &'a [u32]
-    requires flown { AreLinesOf tables.now flown.now }
+    requires flown { AreFleetLines tables.now flown.now }
     requires first { first < flown.now.used * days_in tables.now }
     ensures value { result.now ≡ line_from tables.now flown.now day first }
-    ensures legs { AreLegs tables.now result.now }
+    ensures legs { AreLegsOfTables tables.now result.now }
 {
     let lines = flown.lines.as_slice();
     let count = u64::from(flown.used) * u64::from(tables.day_count());
@@ -267,7 +267,7 @@ pub fn line_from<'a>(tables: &Tables, flown: &'a FleetLines, day: u32, first: u6
 
 /// The flights of a line, each after a space, and a dash where it has none.
 pub fn flights_text(alloc: Global, tables: &Tables, legs: &[u32]) -> Result<Vec<u8>, NoMemory>
-    requires { AreLegs tables.now legs.now }
+    requires { AreLegsOfTables tables.now legs.now }
     ensures { IfOk result (λ text. text.items ≡ flights_text tables.now legs.now) }
 {
     match legs.split_first() {
@@ -282,7 +282,7 @@ pub fn flights_text(alloc: Global, tables: &Tables, legs: &[u32]) -> Result<Vec<
 
 /// The flights of legs, each after a space.
 fn spaced_flights(alloc: Global, tables: &Tables, legs: &[u32]) -> Result<Vec<u8>, NoMemory>
-    requires { AreLegs tables.now legs.now }
+    requires { AreLegsOfTables tables.now legs.now }
     ensures { IfOk result (λ text. text.items ≡ flat_map (spaced_flight tables.now) legs.now) }
 {
     let mut text = Vec::new(alloc);

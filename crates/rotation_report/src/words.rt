@@ -3,7 +3,7 @@ ghost use Rattle.std.specs.Prelude.{◌≡◌, ◌++◌, ◌<◌, IfOk, OnOk, co
 ghost use Rattle.std.specs.Fmt.{decimal};
 ghost use Rattle.fleet_model.specs.Legal.{IsAssignment};
 ghost use Rattle.fleet_model.specs.Schedule.{fleets_in};
-ghost use Rattle.rotation_report.specs.RotationWords.{days_used, rotation_words, words_of};
+ghost use Rattle.rotation_report.specs.RotationWords.{days_used, rotation_words, words_of_rotation};
 ghost use Rattle.euler_rotation.specs.FleetRotations.{IsFleetRotation, IsOfLegs};
 
 use entries::NoMemory;
@@ -44,7 +44,7 @@ fn words_of(
     requires plan { IsAssignment tables.now plan.now }
     requires fleet { fleet < fleets_in tables.now }
     requires legs { IsOfLegs tables.now rotation.now }
-    ensures { IfOk result (λ words. string_bytes words ≡ words_of tables.now plan.now fleet rotation.now ++ ending.now) }
+    ensures { IfOk result (λ words. string_bytes words ≡ words_of_rotation tables.now plan.now fleet rotation.now ++ ending.now) }
 {
     let mut words = String::new(alloc);
     push_words(alloc, &mut words, tables, plan, fleet, rotation)?;
@@ -64,7 +64,7 @@ fn push_words(
     requires plan { IsAssignment tables.now plan.now }
     requires fleet { fleet < fleets_in tables.now }
     requires legs { IsOfLegs tables.now rotation.now }
-    ensures { OnOk result (string_bytes words.new ≡ string_bytes words.old ++ words_of tables.now plan.now fleet rotation.now) }
+    ensures { OnOk result (string_bytes words.new ≡ string_bytes words.old ++ words_of_rotation tables.now plan.now fleet rotation.now) }
 {
     match rotation {
         Rotation::Unused => push_plain(words, "unused"),

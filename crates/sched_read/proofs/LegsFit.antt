@@ -20,21 +20,21 @@ use Rattle.fleet_model.specs.Limits.{AreLegs, IsCostUpTo, IsLeg}
 use Rattle.fleet_model.specs.Windows.{no_leg}
 use Rattle.fleet_model.proofs.NotAsked.{own_alone}
 use Rattle.table_rows.specs.Fields.{as_natural}
-use Rattle.table_rows.specs.Names.{is_among, number_of}
+use Rattle.table_rows.specs.Names.{is_among, number_of_name}
 use Rattle.table_rows.specs.Rows.{Fields, RowsRead}
 use Rattle.table_rows.specs.declared.forms.Form.{Form}
 use Rattle.table_rows.specs.declared.forms.Form.TheVariants as form
 use Rattle.station_table.specs.Stations.{code_of}
 use Rattle.table_rows.proofs.Kept.{front_differ, front_each, front_few}
 use Rattle.table_rows.proofs.ReadParts.{form_ok, known_ok, name_form, not_refused, number_within, room_left, same_answer, whole_within, width_ok}
-use Rattle.sched_read.specs.Legs.{ArePlain, LegsRead, block_between, day_of, from_period_start, leg_between, leg_fields, leg_headers, leg_read, minutes_in}
+use Rattle.sched_read.specs.Legs.{ArePlain, LegsRead, block_between, day_read, from_period_start, leg_between, leg_fields, leg_headers, leg_read, period_minutes}
 
 -- a file has one of the two headers
 pub headers_differ : leg_headers form.Old ≢ leg_headers form.New
 headers_differ same = omega (arith, ap length same)
 
 -- where a field reads as a day, the period has one
-day_within : (settings : Settings) (field : List ℕ) (day : ℕ) → day_of settings field ≡ Ok day → 0 < settings.period
+day_within : (settings : Settings) (field : List ℕ) (day : ℕ) → day_read settings field ≡ Ok day → 0 < settings.period
 day_within settings field day reads = by_number (whole_of field (pos 1) (pos settings.period)) refl reads
   where
     by_number : (number : Result ℤ FieldFault) → whole_of field (pos 1) (pos settings.period) ≡ number → as_natural number ≡ Ok day → 0 < settings.period
@@ -43,7 +43,7 @@ day_within settings field day reads = by_number (whole_of field (pos 1) (pos set
         omega (arith, ints, in_range.0, in_range.1)
     by_number (Err fault) is read = absurd (cc read)
 
-minute_within : (settings : Settings) (field : List ℕ) (day minute : ℕ) → day_of settings field ≡ Ok day → from_period_start settings day minute < minutes_in settings
+minute_within : (settings : Settings) (field : List ℕ) (day minute : ℕ) → day_read settings field ≡ Ok day → from_period_start settings day minute < period_minutes settings
 minute_within settings field day minute reads =
     let some : 0 < settings.period = day_within settings field day reads in
     mod-lt _ (omega (arith, some))
@@ -70,19 +70,19 @@ new_leg stations settings found earlier fields leg reads =
     let wide = width_ok (leg_fields found fields) _ leg reads in
     let text = not_refused (not (list_all is_utf8 fields)) NOT_TEXT _ leg wide.2 in
     let flight = form_ok (name_of wide.0.0) _ leg text.1 in
-    let day = form_ok (day_of settings wide.0.1) _ leg flight.2 in
+    let day = form_ok (day_read settings wide.0.1) _ leg flight.2 in
     let from = form_ok (station_code_of wide.0.2) _ leg day.2 in
     let leaves = form_ok (clock_time_of wide.0.3) _ leg from.2 in
     let to = form_ok (station_code_of wide.0.4) _ leg leaves.2 in
     let lands = form_ok (clock_time_of wide.0.5) _ leg to.2 in
     let fresh = not_refused (is_among wide.0.0 earlier) DUPLICATE _ leg lands.2 in
-    let from_known = known_ok (number_of wide.0.2 stations) UNKNOWN_STATION _ leg fresh.1 in
-    let to_known = known_ok (number_of wide.0.4 stations) UNKNOWN_STATION _ leg from_known.2 in
+    let from_known = known_ok (number_of_name wide.0.2 stations) UNKNOWN_STATION _ leg fresh.1 in
+    let to_known = known_ok (number_of_name wide.0.4 stations) UNKNOWN_STATION _ leg from_known.2 in
     let flies = not_refused (block_between leaves.0 lands.0 == 0) ZERO_BLOCK _ leg to_known.2 in
     let away = not_refused (from_known.0 == to_known.0) TO_ITSELF _ leg flies.1 in
     let room = not_refused (nat_le MAX_LEGS (length earlier)) TOO_MANY _ leg away.1 in
     let dep = from_period_start settings day.0 leaves.0 in
-    let within : dep < minutes_in settings = minute_within settings wide.0.1 day.0 leaves.0 day.1 in
+    let within : dep < period_minutes settings = minute_within settings wide.0.1 day.0 leaves.0 day.1 in
     let made : Leg = leg_between wide.0.0 from_known.0 to_known.0 dep (block_between leaves.0 lands.0) in
     let same = same_answer made leg room.1 in
     record {

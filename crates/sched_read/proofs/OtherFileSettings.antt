@@ -10,7 +10,7 @@ use Rattle.fleet_model.specs.declared.refusals.TableFile.TheVariants as file
 use Rattle.fleet_model.specs.declared.tables.Tables.{Tables}
 use Rattle.fleet_model.proofs.TablesSame.{tables_same}
 use Rattle.optional_legs.specs.Adding.{ReadsOptional}
-use Rattle.retime_windows.specs.Times.{ReadsWindows, leg_with}
+use Rattle.retime_windows.specs.Times.{ReadsWindows, leg_in_windows}
 use Rattle.sched_read.proofs.OtherSettings.{bad_by_day, reads_by_day, with_settings}
 use Rattle.sums.specs.Places.{list_below}
 use Rattle.sched_read.specs.Files.{AllBytes, FilesBad, FilesRead, MovedRead, WhereAsked}
@@ -29,7 +29,7 @@ module _ (settings : Settings) (fit : AreSettings settings) where
     have = record {
       stations = reads.have.stations;
       fleets = reads.have.fleets;
-      legs = subst (λ days. u.legs ≡ list_below (λ l. leg_with (minutes_of days) reads.windows l (leg_of t l)) (legs_in t)) first reads.have.legs;
+      legs = subst (λ days. u.legs ≡ list_below (λ l. leg_in_windows (minutes_of days) reads.windows l (leg_of t l)) (legs_in t)) first reads.have.legs;
       costs = reads.have.costs;
       throughs = reads.have.throughs;
       settings = refl;

@@ -2,7 +2,7 @@
 use Rattle.std.proofs.Common.{◌==◌, ◌⊎◌, ℕ, true, false, List, [], ◌∷◌, map, refl, inl, inr}
 use Rattle.csv_fields.specs.Record.{records_of}
 use Rattle.fleet_model.specs.Limits.{AreSettings}
-use Rattle.fleet_model.specs.Windows.{departures_of}
+use Rattle.fleet_model.specs.Windows.{departures_of_legs}
 use Rattle.fleet_model.specs.declared.parts.Fleet.{Fleet}
 use Rattle.fleet_model.specs.declared.parts.Leg.{Leg}
 use Rattle.fleet_model.specs.declared.parts.PairCost.{PairCost}
@@ -10,7 +10,7 @@ use Rattle.fleet_model.specs.declared.parts.Settings.{Settings}
 use Rattle.fleet_model.specs.declared.parts.Station.{Station}
 use Rattle.fleet_model.specs.declared.parts.Through.{Through}
 use Rattle.fleet_model.specs.declared.refusals.TableFile.TheVariants as file
-use Rattle.fleet_tables.specs.Costs.{cost_header, cost_read, flight_of, pair_of}
+use Rattle.fleet_tables.specs.Costs.{cost_header, cost_key, cost_read, flight_of}
 use Rattle.fleet_tables.specs.Fleets.{fleet_header, fleet_name_of, fleet_read}
 use Rattle.fleet_tables.proofs.CostsFit.{costs_keep}
 use Rattle.fleet_tables.proofs.FleetsFit.{fleets_keep}
@@ -47,11 +47,11 @@ tables_of bytes settings fit s f l c h reads throughs = record {
     costs = c;
     throughs = h;
     settings = settings;
-    departures = departures_of l;
+    departures = departures_of_legs l;
     windows = false;
     optional = false;
     in_range =
-        tables_fit s f l c h settings (departures_of l)
+        tables_fit s f l c h settings (departures_of_legs l)
         (stations_keep (records_of bytes.stations) s reads.stations) (fleets_keep (records_of bytes.fleets) f reads.fleets) (legs_keep s settings (records_of bytes.legs) l reads.legs)
         (costs_keep l f (records_of bytes.costs) c reads.costs) (throughs_keep l bytes.throughs h throughs) fit
         refl (legs_plain (map code_of s) settings (records_of bytes.legs) l reads.legs);
@@ -66,7 +66,7 @@ read_or_fault bytes settings fit = elim (form_end_exists code_of station_read st
     | inr bad ↦ inr (record { file = file.Fleets; row = bad.0; kind = bad.1; bad = (s.0, s.1, bad.2) })
     | inl f ↦ elim (form_end_exists flight_of (leg_read (map code_of s.0) settings) leg_headers (settings.period == 1) headers_differ (records_of bytes.legs)) [
       | inr bad ↦ inr (record { file = file.Legs; row = bad.0; kind = bad.1; bad = (s.0, f.0, record { stations = s.1; fleets = f.1 }, bad.2) })
-      | inl l ↦ elim (table_end_exists pair_of (cost_read (map flight_of l.0) (map fleet_name_of f.0)) cost_header (records_of bytes.costs)) [
+      | inl l ↦ elim (table_end_exists cost_key (cost_read (map flight_of l.0) (map fleet_name_of f.0)) cost_header (records_of bytes.costs)) [
         | inr bad ↦ inr (record { file = file.Costs; row = bad.0; kind = bad.1; bad = (s.0, f.0, l.0, record { stations = s.1; fleets = f.1; legs = l.1 }, bad.2) })
         | inl c ↦
             let before : ReadCosts bytes settings s.0 f.0 l.0 c.0 = record { stations = s.1; fleets = f.1; legs = l.1; costs = c.1 } in

@@ -12,7 +12,7 @@ use Rattle.fleet_model.specs.declared.parts.Through.{Through}
 use Rattle.fleet_model.specs.declared.refusals.TableFile.{TableFile}
 use Rattle.fleet_model.specs.declared.refusals.TableFile.TheVariants as file
 use Rattle.fleet_model.specs.declared.tables.Tables.{Tables}
-use Rattle.fleet_tables.specs.Costs.{CostsBad, CostsRead, cost_header, cost_read, flight_of, pair_of}
+use Rattle.fleet_tables.specs.Costs.{CostsBad, CostsRead, cost_header, cost_key, cost_read, flight_of}
 use Rattle.fleet_tables.specs.Fleets.{FleetsBad, FleetsRead, fleet_header, fleet_name_of, fleet_read}
 use Rattle.sched_read.specs.Laws.{SameFault}
 use Rattle.sched_read.specs.Legs.{LegsBad, LegsRead, leg_headers, leg_read}
@@ -40,7 +40,7 @@ legs_same bytes settings s s' a b same reads_a reads_b =
 costs_same : (bytes : TableBytes) (l l' : List Leg) (f f' : List Fleet) (a b : List PairCost) → l ≡ l' → f ≡ f'
     → CostsRead (map flight_of l) (map fleet_name_of f) (records_of bytes.costs) a → CostsRead (map flight_of l') (map fleet_name_of f') (records_of bytes.costs) b → a ≡ b
 costs_same bytes l l' f f' a b legs fleets reads_a reads_b =
-    table_reads_same pair_of (cost_read (map flight_of l') (map fleet_name_of f')) cost_header (records_of bytes.costs) a b
+    table_reads_same cost_key (cost_read (map flight_of l') (map fleet_name_of f')) cost_header (records_of bytes.costs) a b
     (subst (λ k. CostsRead (map flight_of l') (map fleet_name_of k) (records_of bytes.costs) a) fleets (subst (λ k. CostsRead (map flight_of k) (map fleet_name_of f) (records_of bytes.costs) a) legs reads_a)) reads_b
 
 -- a file of zero bytes has no header
@@ -75,7 +75,7 @@ legs_sound bytes settings s s' a row kind same reads =
 costs_sound : (bytes : TableBytes) (l l' : List Leg) (f f' : List Fleet) (a : List PairCost) (row kind : ℕ) → l ≡ l' → f ≡ f'
     → CostsRead (map flight_of l) (map fleet_name_of f) (records_of bytes.costs) a → CostsBad (map flight_of l') (map fleet_name_of f') (records_of bytes.costs) row kind → ⊥
 costs_sound bytes l l' f f' a row kind legs fleets reads =
-    table_reads_no_fault pair_of (cost_read (map flight_of l') (map fleet_name_of f')) cost_header (records_of bytes.costs) a row kind
+    table_reads_no_fault cost_key (cost_read (map flight_of l') (map fleet_name_of f')) cost_header (records_of bytes.costs) a row kind
     (subst (λ k. CostsRead (map flight_of l') (map fleet_name_of k) (records_of bytes.costs) a) fleets (subst (λ k. CostsRead (map flight_of k) (map fleet_name_of f) (records_of bytes.costs) a) legs reads))
 
 throughs_sound : (bytes : TableBytes) (l l' : List Leg) (a : List Through) (row kind : ℕ) → l ≡ l'
@@ -168,7 +168,7 @@ costs_first bytes settings file.Legs row other kind other_kind s f l reads bad (
 costs_first bytes settings file.Costs row other kind other_kind s f l reads bad (z, g, m, before, found) =
     let legs = read_legs_same bytes settings s z f g l m reads before in
     let fleets = fleets_same bytes f g reads.fleets before.fleets in
-    same_fault file.Costs row other kind other_kind (table_bad_same pair_of (cost_read (map flight_of m) (map fleet_name_of g)) cost_header (records_of bytes.costs) row other kind other_kind
+    same_fault file.Costs row other kind other_kind (table_bad_same cost_key (cost_read (map flight_of m) (map fleet_name_of g)) cost_header (records_of bytes.costs) row other kind other_kind
     (subst (λ k. CostsBad (map flight_of m) (map fleet_name_of k) (records_of bytes.costs) row kind) fleets (subst (λ k. CostsBad (map flight_of k) (map fleet_name_of f) (records_of bytes.costs) row kind) legs bad)) found)
 costs_first bytes settings file.Throughs row other kind other_kind s f l reads bad (z, g, m, c, before, found) =
     let legs = legs_same bytes settings z s m l (stations_same bytes z s before.stations reads.stations) before.legs reads.legs in

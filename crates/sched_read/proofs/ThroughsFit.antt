@@ -12,7 +12,7 @@ use Rattle.fleet_model.specs.declared.parts.Through.{Through}
 use Rattle.fleet_model.specs.declared.refusals.TheConstants.{DUPLICATE, NOT_TEXT, TOO_MANY, UNKNOWN_FLIGHT}
 use Rattle.fleet_model.specs.Limits.{AreThroughs, IsThrough, SameThrough}
 use Rattle.table_rows.specs.Fields.{three_of}
-use Rattle.table_rows.specs.Names.{is_among, number_of}
+use Rattle.table_rows.specs.Names.{is_among, number_of_name}
 use Rattle.table_rows.specs.Rows.{Fields}
 use Rattle.table_rows.proofs.Kept.{front_differ, front_each, front_few}
 use Rattle.table_rows.proofs.ReadParts.{form_ok, known_ok, not_refused, number_within, room_left, same_answer, whole_within, width_ok}
@@ -32,8 +32,8 @@ new_through flights earlier fields entry reads =
     let arriving = form_ok (name_of wide.0.0) _ entry text.1 in
     let departing = form_ok (name_of wide.0.1) _ entry arriving.2 in
     let units = form_ok (whole_of wide.0.2 (pos 0) MAX_COST) _ entry departing.2 in
-    let first = known_ok (number_of wide.0.0 flights) UNKNOWN_FLIGHT _ entry units.2 in
-    let second = known_ok (number_of wide.0.1 flights) UNKNOWN_FLIGHT _ entry first.2 in
+    let first = known_ok (number_of_name wide.0.0 flights) UNKNOWN_FLIGHT _ entry units.2 in
+    let second = known_ok (number_of_name wide.0.1 flights) UNKNOWN_FLIGHT _ entry first.2 in
     let fresh = not_refused (is_among (first.0 ∷ second.0 ∷ []) earlier) DUPLICATE _ entry second.2 in
     let room = not_refused (nat_le MAX_THROUGHS (length earlier)) TOO_MANY _ entry fresh.1 in
     let made : Through = record { arriving = first.0; departing = second.0; value = units.0 } in

@@ -16,7 +16,7 @@ use Rattle.fleet_model.specs.declared.parts.Settings.{Settings}
 use Rattle.fleet_model.specs.declared.refusals.TheConstants.{DUPLICATE, NOT_TEXT, TOO_MANY, TO_ITSELF, UNKNOWN_STATION, ZERO_BLOCK}
 use Rattle.table_rows.specs.Fields.{as_natural, five_of, known, of_width, refused_where, well_formed}
 use Rattle.table_rows.specs.Forms.{FormBad, FormReads, header_in}
-use Rattle.table_rows.specs.Names.{is_among, number_of}
+use Rattle.table_rows.specs.Names.{is_among, number_of_name}
 use Rattle.table_rows.specs.Rows.{Fields}
 use Rattle.table_rows.specs.declared.forms.Form.{Form}
 use Rattle.table_rows.specs.declared.forms.Form.TheVariants as form
@@ -44,17 +44,17 @@ abbrev pub block_between : ℕ → ℕ → ℕ
 block_between dep arr = (arr + MINUTES_PER_DAY - dep) % MINUTES_PER_DAY
 
 -- the minutes of the period
-abbrev pub minutes_in : Settings → ℕ
-minutes_in settings = minutes_of settings.period
+abbrev pub period_minutes : Settings → ℕ
+period_minutes settings = minutes_of settings.period
 
 -- a field read as a day of the period, counted from 1
-abbrev pub day_of : Settings → List ℕ → Result ℕ FieldFault
-day_of settings field = as_natural (whole_of field (pos 1) (pos settings.period))
+abbrev pub day_read : Settings → List ℕ → Result ℕ FieldFault
+day_read settings field = as_natural (whole_of field (pos 1) (pos settings.period))
 
 -- A clock minute of a day, counted from the start of the period, which is the day start on day 1. Before it lies the
 -- period's end.
 abbrev pub from_period_start : Settings → ℕ → ℕ → ℕ
-from_period_start settings day minute = ((day - 1) * MINUTES_PER_DAY + minute + minutes_in settings - settings.day_start) % minutes_in settings
+from_period_start settings day minute = ((day - 1) * MINUTES_PER_DAY + minute + period_minutes settings - settings.day_start) % period_minutes settings
 
 -- a clock minute, counted from the day start
 abbrev pub from_day_start : Settings → ℕ → ℕ
@@ -71,14 +71,14 @@ leg_read stations settings found earlier fields =
     of_width (leg_fields found fields) (λ (flight, day, from, dep, to, arr).
     refused_where (not (list_all is_utf8 fields)) NOT_TEXT
     (well_formed (name_of flight) (λ _.
-    well_formed (day_of settings day) (λ on.
+    well_formed (day_read settings day) (λ on.
     well_formed (station_code_of from) (λ _.
     well_formed (clock_time_of dep) (λ leaves.
     well_formed (station_code_of to) (λ _.
     well_formed (clock_time_of arr) (λ lands.
     refused_where (is_among flight earlier) DUPLICATE
-    (known (number_of from stations) UNKNOWN_STATION (λ a.
-    known (number_of to stations) UNKNOWN_STATION (λ b.
+    (known (number_of_name from stations) UNKNOWN_STATION (λ a.
+    known (number_of_name to stations) UNKNOWN_STATION (λ b.
     refused_where (block_between leaves lands == 0) ZERO_BLOCK
     (refused_where (a == b) TO_ITSELF
     (refused_where (nat_le MAX_LEGS (length earlier)) TOO_MANY

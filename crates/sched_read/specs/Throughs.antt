@@ -8,7 +8,7 @@ use Rattle.fleet_model.specs.declared.limits.TheConstants.{MAX_COST, MAX_THROUGH
 use Rattle.fleet_model.specs.declared.parts.Through.{Through}
 use Rattle.fleet_model.specs.declared.refusals.TheConstants.{DUPLICATE, NOT_TEXT, TOO_MANY, UNKNOWN_FLIGHT}
 use Rattle.table_rows.specs.Fields.{known, of_width, refused_where, three_of, well_formed}
-use Rattle.table_rows.specs.Names.{is_among, number_of}
+use Rattle.table_rows.specs.Names.{is_among, number_of_name}
 use Rattle.table_rows.specs.Rows.{Fields, TableBad, TableReads}
 
 -- in,out,value
@@ -28,8 +28,8 @@ through_read flights earlier fields =
     (well_formed (name_of arriving) (λ _.
     well_formed (name_of departing) (λ _.
     well_formed (whole_of value (pos 0) MAX_COST) (λ units.
-    known (number_of arriving flights) UNKNOWN_FLIGHT (λ l.
-    known (number_of departing flights) UNKNOWN_FLIGHT (λ m.
+    known (number_of_name arriving flights) UNKNOWN_FLIGHT (λ l.
+    known (number_of_name departing flights) UNKNOWN_FLIGHT (λ m.
     refused_where (is_among (l ∷ m ∷ []) earlier) DUPLICATE
     (refused_where (nat_le MAX_THROUGHS (length earlier)) TOO_MANY
     (Ok (record { arriving = l; departing = m; value = units }))))))))))

@@ -6,7 +6,7 @@ ghost use Rattle.csv_fields.specs.Record.{records_of};
 ghost use Rattle.fleet_model.specs.Limits.{AreLegs, AreSettings};
 ghost use Rattle.fleet_model.specs.declared.limits.TheConstants.{MAX_STATIONS, MINUTES_PER_DAY};
 ghost use Rattle.fleet_model.specs.declared.refusals.TableFile.TheVariants as file;
-ghost use Rattle.sched_read.specs.Legs.{ArePlain, LegsBad, LegsRead, block_between, day_of, from_period_start, leg_fields, leg_read};
+ghost use Rattle.sched_read.specs.Legs.{ArePlain, LegsBad, LegsRead, block_between, day_read, from_period_start, leg_fields, leg_read};
 ghost use Rattle.station_table.specs.Stations.{code_of};
 ghost use Rattle.table_rows.specs.Outcome.{IsFirstFault};
 ghost use Rattle.table_rows.specs.Rows.{RowsBad, RowsRead, fields_in, rows_in};
@@ -198,7 +198,7 @@ fn leg_fields(form: Form, row: &[Vec<u8>]) -> Option<(&[u8], &[u8], &[u8], &[u8]
 /// The day of the period that a field writes, counted from 1.
 fn day_in(settings: Settings, field: &[u8]) -> Result<u16, FieldFault>
     requires { AreSettings settings }
-    ensures reads { result ≡ day_of settings field.now }
+    ensures reads { result ≡ day_read settings field.now }
     ensures within { IfOk result (λ day. (1 ≤ day) × (day ≤ settings.period)) }
 {
     let day = whole(field, 1, i128::from(settings.period))?;

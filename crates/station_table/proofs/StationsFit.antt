@@ -16,14 +16,14 @@ use Rattle.table_rows.specs.declared.forms.Form.{Form}
 use Rattle.table_rows.specs.declared.forms.Form.TheVariants as form
 use Rattle.table_rows.proofs.Kept.{front_differ, front_each, front_few}
 use Rattle.table_rows.proofs.ReadParts.{code_form, form_ok, natural_within, not_refused, room_left, same_answer, width_ok}
-use Rattle.station_table.specs.Stations.{StationsRead, as_limit, code_of, limit_of, station_fields, station_headers, station_read}
+use Rattle.station_table.specs.Stations.{StationsRead, as_limit, code_of, limit_read, station_fields, station_headers, station_read}
 
 -- a file has one of the two headers
 pub stations_differ : station_headers form.Old ≢ station_headers form.New
 stations_differ same = omega (arith, ap length same)
 
 -- a field that reads as a limit is within the limit of limits
-limit_within : (field : List ℕ) (limit : Option ℕ) → limit_of field ≡ Ok limit → ForSome limit (λ n. n ≤ MAX_PARKING)
+limit_within : (field : List ℕ) (limit : Option ℕ) → limit_read field ≡ Ok limit → ForSome limit (λ n. n ≤ MAX_PARKING)
 limit_within field limit reads = by_text (bytes_eq field (codes "-")) reads
   where
     by_number : (number : Result ℕ FieldFault) → natural_of field MAX_PARKING ≡ number → as_limit number ≡ Ok limit → ForSome limit (λ n. n ≤ MAX_PARKING)
@@ -48,7 +48,7 @@ new_station found earlier fields station reads =
     let code = form_ok (station_code_of wide.0.0) _ station text.1 in
     let extra = form_ok (natural_of wide.0.1 MAX_GROUND_MINUTES) _ station code.2 in
     let flag = form_ok (yes_no_of wide.0.2) _ station extra.2 in
-    let limit = form_ok (limit_of wide.0.3) _ station flag.2 in
+    let limit = form_ok (limit_read wide.0.3) _ station flag.2 in
     let fresh = not_refused (is_among wide.0.0 earlier) DUPLICATE _ station limit.2 in
     let room = not_refused (nat_le MAX_STATIONS (length earlier)) TOO_MANY _ station fresh.1 in
     let made : Station = record { code = wide.0.0; extra = extra.0; maintenance = flag.0; parking = limit.0 } in

@@ -37,8 +37,8 @@ as_limit (Ok limit) = Ok (Some limit)
 as_limit (Err fault) = Err fault
 
 -- a field read as a limit of parking, or as none
-abbrev pub limit_of : List ℕ → Result (Option ℕ) FieldFault
-limit_of field = if bytes_eq field (codes "-") then Ok None else as_limit (natural_of field MAX_PARKING)
+abbrev pub limit_read : List ℕ → Result (Option ℕ) FieldFault
+limit_read field = if bytes_eq field (codes "-") then Ok None else as_limit (natural_of field MAX_PARKING)
 
 -- the code of a station, which no other has
 abbrev pub code_of : Station → List ℕ
@@ -52,7 +52,7 @@ station_read found earlier fields =
     (well_formed (station_code_of code) (λ _.
     well_formed (natural_of extra MAX_GROUND_MINUTES) (λ minutes.
     well_formed (yes_no_of flag) (λ maintenance.
-    well_formed (limit_of parking) (λ limit.
+    well_formed (limit_read parking) (λ limit.
     refused_where (is_among code earlier) DUPLICATE
     (refused_where (nat_le MAX_STATIONS (length earlier)) TOO_MANY
     (Ok (record { code = code; extra = minutes; maintenance = maintenance; parking = limit })))))))))

@@ -5,7 +5,7 @@ ghost use Rattle.std.specs.Prelude.{◌≡◌, IfOk, MatchResult, option_map};
 ghost use Rattle.csv_fields.specs.Record.{records_of};
 ghost use Rattle.fleet_model.specs.Limits.{AreStations};
 ghost use Rattle.fleet_model.specs.declared.refusals.TableFile.TheVariants as file;
-ghost use Rattle.station_table.specs.Stations.{StationsBad, StationsRead, code_of, limit_of, station_fields, station_read};
+ghost use Rattle.station_table.specs.Stations.{StationsBad, StationsRead, code_of, limit_read, station_fields, station_read};
 ghost use Rattle.table_rows.specs.Outcome.{IsFirstFault};
 ghost use Rattle.table_rows.specs.Rows.{RowsBad, RowsRead, fields_in, rows_in};
 
@@ -119,7 +119,7 @@ fn station_fields(form: Form, row: &[Vec<u8>]) -> Option<(&[u8], &[u8], &[u8], &
 
 /// The limit of parking that a field writes, and none where it says that there is none.
 fn limit(field: &[u8]) -> Result<Option<u32>, FieldFault>
-    ensures { result ≡ limit_of field.now }
+    ensures { result ≡ limit_read field.now }
 {
     match field {
         b"-" => Ok(None),

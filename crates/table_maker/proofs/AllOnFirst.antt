@@ -24,7 +24,7 @@ use Rattle.fleet_model.proofs.LeftOut.{block_kept}
 use Rattle.fleet_model.proofs.NotAsked.{plain_where_not_asked}
 use Rattle.fleet_model.proofs.OneDay.{period_is_day, plain_departure}
 use Rattle.fleet_model.proofs.PlainTables.{fleet_chooses, plain_fleet, plain_laps}
-use Rattle.ground_turns.specs.Maps.{IsNext, IsSuccessorMap, crossings_of, no_turn, periods_of, turn_by, turns_by}
+use Rattle.ground_turns.specs.Maps.{IsNext, IsSuccessorMap, crossings_of, no_turn, periods_of, turn_to_next, turns_by}
 use Rattle.ground_turns.specs.Turns.{crosses}
 use Rattle.ground_turns.proofs.FleetTurns.{next_is_map}
 use Rattle.ground_turns.proofs.Fits.{balances, periods_beyond_use}
@@ -132,12 +132,12 @@ module _ (trips : List RoundTrip) (settings : Settings) (one : settings.period �
   first_map : IsSuccessorMap t a 0 turns
   first_map = next_is_map t a 0 partner plain is_next
 
-  turns_are : (m : ℕ) → turns_by a 0 partner m ≡ list_below (turn_by partner) m
+  turns_are : (m : ℕ) → turns_by a 0 partner m ≡ list_below (turn_to_next partner) m
   turns_are zero = refl
-  turns_are (suc m) = rw (on_first m, turns_are m) (sym (list_below-more (turn_by partner) m) ∙ ap (list_below (turn_by partner)) (add-one m))
+  turns_are (suc m) = rw (on_first m, turns_are m) (sym (list_below-more (turn_to_next partner) m) ∙ ap (list_below (turn_to_next partner)) (add-one m))
 
   abbrev crosses_after : ℕ → ℕ
-  crosses_after l = if crosses t 0 (turn_by partner l) then 1 else 0
+  crosses_after l = if crosses t 0 (turn_to_next partner l) then 1 else 0
 
   abbrev add : ℕ → ℕ
   add l = laps_of t (leg_on l 0) + crosses_after l
@@ -145,7 +145,7 @@ module _ (trips : List RoundTrip) (settings : Settings) (one : settings.period �
   crossings_by_leg : (m : ℕ) → crossings_of t 0 (turns_by a 0 partner m) ≡ sum_below crosses_after m
   crossings_by_leg m =
       ap (crossings_of t 0) (turns_are m)
-      ∙ rw (length-list_below (turn_by partner) m) (sum_below-agree _ crosses_after m (record { each = λ k below. rw (get_or-list_below (turn_by partner) m k no_turn below) refl }))
+      ∙ rw (length-list_below (turn_to_next partner) m) (sum_below-agree _ crosses_after m (record { each = λ k below. rw (get_or-list_below (turn_to_next partner) m k no_turn below) refl }))
 
   laps_by_leg : laps_flown t (weights_of a) 0 ≡ sum_below (λ l. laps_of t (leg_on l 0)) (legs_in t)
   laps_by_leg =

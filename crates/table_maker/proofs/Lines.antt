@@ -5,7 +5,7 @@ use Rattle.std.proofs.lemmas.List.{append-nil, flat_map_more, take_all}
 use Rattle.std.proofs.lemmas.List.FromFn.{map-range_with_len_more}
 use Rattle.csv.specs.Machine.{line_feed}
 use Rattle.csv.specs.Writing.{comma}
-use Rattle.plan_text.specs.Text.{lines_of, record_line}
+use Rattle.plan_text.specs.Text.{record_line, record_lines}
 use Rattle.sums.specs.Places.{list_below}
 use Rattle.table_maker.specs.Records.{table_text}
 use Rattle.table_rows.specs.Rows.{Fields}
@@ -48,4 +48,4 @@ unfolding table_text
 text_grown header fields_at n text grown so_far added =
     added ∙ rw so_far
     (flat_map_more record_line (record_line header) (list_below fields_at n) (fields_at n)
-    ∙ ap (λ rows. lines_of (header ∷ rows)) (sym (map-range_with_len_more fields_at 0 n n (omega arith))))
+    ∙ ap (λ rows. record_lines (header ∷ rows)) (sym (map-range_with_len_more fields_at 0 n n (omega arith))))

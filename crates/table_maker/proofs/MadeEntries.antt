@@ -11,7 +11,7 @@ use Rattle.fleet_model.specs.declared.parts.PairCost.{PairCost}
 use Rattle.fleet_model.specs.declared.parts.Settings.{Settings}
 use Rattle.fleet_model.specs.declared.parts.Station.{Station}
 use Rattle.fleet_model.specs.declared.parts.Through.{Through}
-use Rattle.fleet_tables.specs.Costs.{cost_read, flight_of, pair_of}
+use Rattle.fleet_tables.specs.Costs.{cost_key, cost_read, flight_of}
 use Rattle.fleet_tables.specs.Fleets.{fleet_name_of, fleet_read}
 use Rattle.sched_read.specs.Legs.{block_between, from_day_start, leg_between, leg_read}
 use Rattle.sched_read.specs.Throughs.{connection_of, through_read}
@@ -22,7 +22,7 @@ use Rattle.table_rows.specs.Names.{is_among}
 use Rattle.table_rows.specs.declared.forms.Form.TheVariants as form
 use Rattle.entries.specs.Names.{IsName}
 use Rattle.table_maker.specs.Fields.{fleet_name, flight_name, is_out, maintains, station_code}
-use Rattle.table_maker.specs.Records.{back_fields, cost_fields, fleet_fields, leg_fields, out_fields, station_fields, through_fields}
+use Rattle.table_maker.specs.Records.{back_fields, cost_fields, fleet_fields, made_leg_fields, made_station_fields, out_fields, through_fields}
 use Rattle.table_maker.specs.Trips.{spokes_for, trip_of}
 use Rattle.table_maker.specs.declared.trips.RoundTrip.{RoundTrip}
 use Rattle.table_maker.proofs.NamesDiffer.{code_is_code, fleet_is_name, fleets_differ, flight_is_name, flights_differ, stations_differ}
@@ -67,7 +67,7 @@ cost_entry trips pair = record { leg = pair / 2; fleet = pair % 2; cost = pos (s
 abbrev pub through_entry : List RoundTrip → ℕ → Through
 through_entry trips trip = record { arriving = 2 * trip + 1; departing = 2 * trip + 2; value = pos (trip_of trips trip).value }
 
-pub station_reads : (k : ℕ) → k < 200 → station_read form.Old (list_below (λ j. code_of (station_entry j)) k) (station_fields k) ≡ Ok (station_entry k)
+pub station_reads : (k : ℕ) → k < 200 → station_read form.Old (list_below (λ j. code_of (station_entry j)) k) (made_station_fields k) ≡ Ok (station_entry k)
 station_reads k few =
     station_one (list_below station_code k) (station_code k) (maintains k) (code_is_code k (omega arith)) (fresh station_code 200 k (stations_differ 200) few)
     (omega (arith, length-list_below station_code k))
@@ -119,20 +119,20 @@ another_trip i j before = grind (arith, nat_tests)
 -- round trips of a list, each to one of the spokes
 module _ (trips : List RoundTrip) (n stations : ℕ) (few : n ≤ 500) (there : stations ≤ 200) (fit : (i : ℕ) → i < n → IsRoundTrip (stations - 1) (trip_of trips i)) where
   pub leg_reads : (settings : Settings) → settings.period ≡ 1 → (l : ℕ) → l < 2 * n
-      → leg_read (list_below station_code stations) settings form.Old (list_below (λ j. flight_of (leg_entry settings trips j)) l) (leg_fields trips l) ≡ Ok (leg_entry settings trips l)
+      → leg_read (list_below station_code stations) settings form.Old (list_below (λ j. flight_of (leg_entry settings trips j)) l) (made_leg_fields trips l) ≡ Ok (leg_entry settings trips l)
   leg_reads settings one l within =
       flown_reads settings stations (list_below flight_name l) (flight_name l) (is_out l) (trip_of trips (l / 2)) one there (fit (l / 2) (omega arith)) (flight_is_name l (omega arith))
       (fresh flight_name (2 * n) l (flights_differ (2 * n) (omega arith)) within) (omega (arith, length-list_below flight_name l))
 
   pub cost_reads : (p : ℕ) → p < 4 * n
-      → cost_read (list_below flight_name (2 * n)) (list_below fleet_name 2) (list_below (λ j. pair_of (cost_entry trips j)) p) (cost_fields trips p) ≡ Ok (cost_entry trips p)
+      → cost_read (list_below flight_name (2 * n)) (list_below fleet_name 2) (list_below (λ j. cost_key (cost_entry trips j)) p) (cost_fields trips p) ≡ Ok (cost_entry trips p)
   cost_reads p within =
       let cost = slice_index (trip_of trips (p / 4)).costs (p % 4) in
       let small = (fit (p / 4) (omega arith)).costs_fit (p % 4) in
-      let earlier = list_below (λ j. pair_of (cost_entry trips j)) p in
+      let earlier = list_below (λ j. cost_key (cost_entry trips j)) p in
       let new : is_among ((p / 2) ∷ (p % 2) ∷ []) earlier ≡ false = list_any_none (bytes_eq ((p / 2) ∷ (p % 2) ∷ [])) earlier (λ q d below.
-      (let before : q < p = omega (arith, length-list_below (λ j. pair_of (cost_entry trips j)) p, below) in
-      rw (get_or-list_below (λ j. pair_of (cost_entry trips j)) p q d before) (another_pair p q before))) in
+      (let before : q < p = omega (arith, length-list_below (λ j. cost_key (cost_entry trips j)) p, below) in
+      rw (get_or-list_below (λ j. cost_key (cost_entry trips j)) p q d before) (another_pair p q before))) in
       cost_one (list_below flight_name (2 * n)) (list_below fleet_name 2) earlier (flight_name (p / 2)) (fleet_name (p % 2)) (p / 2) (p % 2) cost
       (flight_is_name (p / 2) (omega arith)) (fleet_is_name (p % 2)) (numbered flight_name (2 * n) (p / 2) (flights_differ (2 * n) (omega arith)) (omega arith))
       (numbered fleet_name 2 (p % 2) fleets_differ (omega arith)) (omega (arith, small)) new

@@ -1,7 +1,7 @@
 -- The tables that the texts of round trips read as.
 use Rattle.std.proofs.Common.{◌≡◌, ℕ, ◌+◌, ◌-◌, ◌*◌, ◌<◌, ◌≤◌, false, List, length, map, refl, sym, subst, arith}
 use Rattle.csv_fields.specs.Record.{records_of}
-use Rattle.fleet_model.specs.Windows.{departures_of}
+use Rattle.fleet_model.specs.Windows.{departures_of_legs}
 use Rattle.fleet_model.specs.Limits.{AreCosts, AreLegs, AreSettings, AreThroughs}
 use Rattle.fleet_model.specs.declared.parts.Fleet.{Fleet}
 use Rattle.fleet_model.specs.declared.parts.Leg.{Leg}
@@ -24,8 +24,8 @@ use Rattle.station_table.specs.Stations.{code_of}
 use Rattle.station_table.proofs.StationsFit.{stations_keep}
 use Rattle.sums.specs.Places.{list_below}
 use Rattle.table_maker.specs.Fields.{flight_name}
-use Rattle.table_maker.specs.Laws.{bytes_of}
-use Rattle.table_maker.specs.Made.{tables_of}
+use Rattle.table_maker.specs.Laws.{made_bytes}
+use Rattle.table_maker.specs.Made.{tables_of_trips}
 use Rattle.table_maker.specs.Trips.{spokes_for, trip_of}
 use Rattle.table_maker.specs.declared.trips.RoundTrip.{RoundTrip}
 use Rattle.table_maker.proofs.MadeEntries.{AreTrips, IsRoundTrip, cost_entry, fleet_entry, leg_entry, station_entry, through_entry}
@@ -51,7 +51,7 @@ abbrev pub through_list : List RoundTrip → List Through
 through_list trips = list_below (through_entry trips) (length trips - 1)
 
 abbrev bytes : List RoundTrip → TableBytes
-bytes trips = bytes_of (tables_of trips)
+bytes trips = made_bytes (tables_of_trips trips)
 
 module _ (trips : List RoundTrip) (settings : Settings) (one : settings.period ≡ 1) (are : AreTrips trips) where
   each_fits : (i : ℕ) → i < length trips → IsRoundTrip (stations_for trips - 1) (trip_of trips i)
@@ -61,7 +61,7 @@ module _ (trips : List RoundTrip) (settings : Settings) (one : settings.period �
   stations_few = omega (arith, are.few)
 
   pub legs_read : LegsRead (map code_of (station_list trips)) settings (records_of (bytes trips).legs) (leg_list settings trips)
-  unfolding tables_of
+  unfolding tables_of_trips
   legs_read =
       subst (λ names. LegsRead names settings (records_of (bytes trips).legs) (leg_list settings trips)) (sym (map-list_below code_of station_entry (stations_for trips)))
       (legs_back trips (length trips) (stations_for trips) are.few stations_few each_fits settings one)
@@ -70,13 +70,13 @@ module _ (trips : List RoundTrip) (settings : Settings) (one : settings.period �
   flights_are = map-list_below flight_of (leg_entry settings trips) (2 * length trips)
 
   pub costs_read : CostsRead (map flight_of (leg_list settings trips)) (map fleet_name_of (fleet_list trips)) (records_of (bytes trips).costs) (cost_list trips)
-  unfolding tables_of
+  unfolding tables_of_trips
   costs_read =
       subst (λ flights. CostsRead flights (map fleet_name_of (fleet_list trips)) (records_of (bytes trips).costs) (cost_list trips)) (sym flights_are)
       (costs_back trips (length trips) (stations_for trips) are.few stations_few each_fits)
 
   pub throughs_read : ThroughsRead (map flight_of (leg_list settings trips)) (bytes trips).throughs (through_list trips)
-  unfolding tables_of
+  unfolding tables_of_trips
   throughs_read =
       subst (λ flights. ThroughsRead flights (bytes trips).throughs (through_list trips)) (sym flights_are)
       (throughs_back trips (length trips) (stations_for trips) are.few stations_few each_fits)
@@ -99,17 +99,17 @@ module _ (trips : List RoundTrip) (settings : Settings) (one : settings.period �
       costs = cost_list trips;
       throughs = through_list trips;
       settings = settings;
-      departures = departures_of (leg_list settings trips);
+      departures = departures_of_legs (leg_list settings trips);
       windows = false;
       optional = false;
       in_range =
-          tables_fit (station_list trips) (fleet_list trips) (leg_list settings trips) (cost_list trips) (through_list trips) settings (departures_of (leg_list settings trips))
+          tables_fit (station_list trips) (fleet_list trips) (leg_list settings trips) (cost_list trips) (through_list trips) settings (departures_of_legs (leg_list settings trips))
           (stations_keep _ (station_list trips) (stations_back (stations_for trips) stations_few)) (fleets_keep _ (fleet_list trips) (fleets_back (length trips) are.few))
           legs_fit costs_fit throughs_fit settings_fit refl (legs_plain (map code_of (station_list trips)) settings (records_of (bytes trips).legs) (leg_list settings trips) legs_read);
     }
 
     pub schedule_reads : Reads (bytes trips) settings made_schedule
-    unfolding tables_of
+    unfolding tables_of_trips
     schedule_reads = record {
       stations = stations_back (stations_for trips) stations_few;
       fleets = fleets_back (length trips) are.few;

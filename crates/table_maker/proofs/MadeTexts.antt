@@ -5,14 +5,14 @@ use Rattle.std.specs.Fmt.{decimal}
 use Rattle.csv.specs.Reading.{strip_bom}
 use Rattle.csv_fields.specs.Record.{records_of}
 use Rattle.fleet_model.specs.declared.parts.Settings.{Settings}
-use Rattle.fleet_tables.specs.Costs.{CostsRead, cost_header, cost_read, flight_of, pair_of}
+use Rattle.fleet_tables.specs.Costs.{CostsRead, cost_header, cost_key, cost_read, flight_of}
 use Rattle.fleet_tables.specs.Fleets.{FleetsRead, fleet_header, fleet_name_of, fleet_read}
 use Rattle.sched_read.specs.Legs.{LegsRead, leg_header, leg_read}
 use Rattle.sched_read.specs.Throughs.{ThroughsRead, connection_of, through_header, through_read}
 use Rattle.station_table.specs.Stations.{StationsRead, code_of, station_header, station_read}
 use Rattle.sums.specs.Places.{list_below}
 use Rattle.table_maker.specs.Fields.{fleet_name, flight_name, is_out, maintains, station_code}
-use Rattle.table_maker.specs.Records.{back_fields, cost_fields, fleet_fields, leg_fields, out_fields, station_fields, table_text, through_fields}
+use Rattle.table_maker.specs.Records.{back_fields, cost_fields, fleet_fields, made_leg_fields, made_station_fields, out_fields, table_text, through_fields}
 use Rattle.table_maker.specs.Trips.{trip_of}
 use Rattle.table_maker.specs.declared.trips.RoundTrip.{RoundTrip}
 use Rattle.table_maker.proofs.FieldForms.{clock_kept, flag_kept, name_kept, number_is_name}
@@ -32,7 +32,7 @@ flight_plain leg few = (name_kept (flight_name leg) (flight_is_name leg few)).pl
 number_plain : (n : ℕ) → n < 10000 → IsPlain (decimal n)
 number_plain n small = (name_kept (decimal n) (number_is_name n small)).plain
 
-station_plain : (k : ℕ) → k ≤ 676 → IsPlainRow (station_fields k)
+station_plain : (k : ℕ) → k ≤ 676 → IsPlainRow (made_station_fields k)
 station_plain k few = (code_plain k few, (refl, ((flag_kept (maintains k)).plain, tt)))
 
 fleet_plain : (trips k : ℕ) → trips ≤ 500 → IsPlainRow (fleet_fields trips k)
@@ -66,13 +66,13 @@ unfolding strip_bom table_text
 no_mark_throughs fields_at n = refl
 
 -- by the header without limits of parking
-pub stations_back : (stations : ℕ) → stations ≤ 200 → StationsRead (records_of (table_text station_header station_fields stations)) (list_below station_entry stations)
+pub stations_back : (stations : ℕ) → stations ≤ 200 → StationsRead (records_of (table_text station_header made_station_fields stations)) (list_below station_entry stations)
 stations_back stations few =
-    let back = table_back station_fields station_header stations (no_mark_stations station_fields stations) (refl, (refl, (refl, tt))) (λ k below. station_plain k (omega arith)) in
+    let back = table_back made_station_fields station_header stations (no_mark_stations made_station_fields stations) (refl, (refl, (refl, tt))) (λ k below. station_plain k (omega arith)) in
     record {
       found = form.Old;
       allowed = refl;
-      table = rows_read code_of (station_read form.Old) station_header _ station_fields station_entry stations back (λ k below. station_reads k (omega arith));
+      table = rows_read code_of (station_read form.Old) station_header _ made_station_fields station_entry stations back (λ k below. station_reads k (omega arith));
     }
 
 pub fleets_back : (trips : ℕ) → trips ≤ 500 → FleetsRead (records_of (table_text fleet_header (fleet_fields trips) 2)) (list_below (fleet_entry trips) 2)
@@ -81,7 +81,7 @@ fleets_back trips few =
     rows_read fleet_name_of fleet_read fleet_header _ (fleet_fields trips) (fleet_entry trips) 2 back (λ k below. fleet_reads trips k few below)
 
 module _ (trips : List RoundTrip) (n stations : ℕ) (few : n ≤ 500) (there : stations ≤ 200) (fit : (i : ℕ) → i < n → IsRoundTrip (stations - 1) (trip_of trips i)) where
-  leg_plain : (l : ℕ) → l < 2 * n → IsPlainRow (leg_fields trips l)
+  leg_plain : (l : ℕ) → l < 2 * n → IsPlainRow (made_leg_fields trips l)
   leg_plain l within =
       let trip = fit (l / 2) (omega arith) in
       flown_plain (flight_name l) (is_out l) (trip_of trips (l / 2)) (omega (arith, trip.there)) (flight_plain l (omega arith))
@@ -98,13 +98,13 @@ module _ (trips : List RoundTrip) (n stations : ℕ) (few : n ≤ 500) (there : 
 
   -- by the header without days, which a period of one day allows
   pub legs_back : (settings : Settings) → settings.period ≡ 1
-      → LegsRead (list_below station_code stations) settings (records_of (table_text leg_header (leg_fields trips) (2 * n))) (list_below (leg_entry settings trips) (2 * n))
+      → LegsRead (list_below station_code stations) settings (records_of (table_text leg_header (made_leg_fields trips) (2 * n))) (list_below (leg_entry settings trips) (2 * n))
   legs_back settings one =
-      let back = table_back (leg_fields trips) leg_header (2 * n) (no_mark_legs (leg_fields trips) (2 * n)) (refl, (refl, (refl, (refl, (refl, tt))))) leg_plain in
+      let back = table_back (made_leg_fields trips) leg_header (2 * n) (no_mark_legs (made_leg_fields trips) (2 * n)) (refl, (refl, (refl, (refl, (refl, tt))))) leg_plain in
       record {
         found = form.Old;
         allowed = rw one refl;
-        table = rows_read flight_of (leg_read (list_below station_code stations) settings form.Old) leg_header _ (leg_fields trips) (leg_entry settings trips) (2 * n) back
+        table = rows_read flight_of (leg_read (list_below station_code stations) settings form.Old) leg_header _ (made_leg_fields trips) (leg_entry settings trips) (2 * n) back
             (leg_reads trips n stations few there fit settings one);
       }
 
@@ -112,7 +112,7 @@ module _ (trips : List RoundTrip) (n stations : ℕ) (few : n ≤ 500) (there : 
       : CostsRead (list_below flight_name (2 * n)) (list_below fleet_name 2) (records_of (table_text cost_header (cost_fields trips) (4 * n))) (list_below (cost_entry trips) (4 * n))
   costs_back =
       let back = table_back (cost_fields trips) cost_header (4 * n) (no_mark_costs (cost_fields trips) (4 * n)) (refl, (refl, (refl, tt))) cost_plain in
-      rows_read pair_of (cost_read (list_below flight_name (2 * n)) (list_below fleet_name 2)) cost_header _ (cost_fields trips) (cost_entry trips) (4 * n) back
+      rows_read cost_key (cost_read (list_below flight_name (2 * n)) (list_below fleet_name 2)) cost_header _ (cost_fields trips) (cost_entry trips) (4 * n) back
       (cost_reads trips n stations few there fit)
 
   pub throughs_back : ThroughsRead (list_below flight_name (2 * n)) (table_text through_header (through_fields trips) (n - 1)) (list_below (through_entry trips) (n - 1))

@@ -7,7 +7,7 @@ use Rattle.std.proofs.lemmas.List.FromFn.{take-map-range_with_len}
 use Rattle.std.proofs.lemmas.List.Sums.{position_or_len_is}
 use Rattle.sums.specs.Places.{list_below}
 use Rattle.sums.proofs.Places.{get_or-list_below, length-list_below}
-use Rattle.table_rows.specs.Names.{is_among, number_of}
+use Rattle.table_rows.specs.Names.{is_among, number_of_name}
 use Rattle.table_rows.specs.Rows.{Fields, TableReads}
 use Rattle.table_rows.proofs.FrontReading.{bytes_eq-self}
 use Rattle.table_rows.proofs.Numbered.{bytes_eq-differ}
@@ -25,7 +25,7 @@ fresh name_at n k differ within = list_any_none (bytes_eq (name_at k)) (list_bel
     let one = differ.each k j within (omega arith) same in absurd (omega (arith, one)))))
 
 -- each name has its number
-pub numbered : (name_at : ℕ → List ℕ) (n j : ℕ) → Differ name_at n → j < n → number_of (name_at j) (list_below name_at n) ≡ Some j
+pub numbered : (name_at : ℕ → List ℕ) (n j : ℕ) → Differ name_at n → j < n → number_of_name (name_at j) (list_below name_at n) ≡ Some j
 numbered name_at n j differ within =
     let names = list_below name_at n in
     let count = length-list_below name_at n in

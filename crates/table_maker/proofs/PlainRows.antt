@@ -9,7 +9,7 @@ use Rattle.csv.specs.Writing.{default_writer, fields_text, is_blank, needs_byte,
 use Rattle.csv.specs.declared.parser.State.TheVariants as st
 use Rattle.csv.proofs.RoundTrip.{read-write-many}
 use Rattle.csv_fields.specs.Record.{records_of}
-use Rattle.plan_text.specs.Text.{lines_of, record_line}
+use Rattle.plan_text.specs.Text.{record_line, record_lines}
 use Rattle.sums.specs.Places.{list_below}
 use Rattle.table_rows.specs.Rows.{Fields}
 use Rattle.table_maker.specs.Records.{table_text}
@@ -50,28 +50,28 @@ module _ (fields_at : ℕ → Fields) where
   rows_past first n = map fields_at (range_with_len first n)
 
   lines_back : (n first turns : ℕ) → ((k : ℕ) → k < first + n → IsPlainRow (fields_at k)) → n ≤ turns
-      → records_from default_config turns st.StartRecord (lines_of (rows_past first n)) ≡ rows_past first n
+      → records_from default_config turns st.StartRecord (record_lines (rows_past first n)) ≡ rows_past first n
   unfolding records_from next_record
   lines_back zero first zero plain enough = refl
   lines_back zero first (suc turns) plain enough = refl
   lines_back (suc n) first zero plain enough = absurd (omega arith)
   lines_back (suc n) first (suc turns) plain enough =
-      rw (line_back (fields_at first) (lines_of (rows_past (first + 1) n)) (plain first (omega arith)))
+      rw (line_back (fields_at first) (record_lines (rows_past (first + 1) n)) (plain first (omega arith)))
       (ap (λ rows. fields_at first ∷ rows) (lines_back n (first + 1) turns (λ k below. plain k (omega arith)) (omega arith)))
 
   -- a line has a byte
-  lines_length : (n first : ℕ) → n ≤ length (lines_of (rows_past first n))
+  lines_length : (n first : ℕ) → n ≤ length (record_lines (rows_past first n))
   lines_length zero first = omega arith
   lines_length (suc n) first =
       let more = lines_length n (first + 1) in
-      omega (arith, length-append (record_line (fields_at first)) (lines_of (rows_past (first + 1) n)), length-append {A = ℕ}, more)
+      omega (arith, length-append (record_line (fields_at first)) (record_lines (rows_past (first + 1) n)), length-append {A = ℕ}, more)
 
   text_back : (header : Fields) (n turns : ℕ) → IsPlainRow header → ((k : ℕ) → k < n → IsPlainRow (fields_at k)) → n < turns
       → records_from default_config turns st.StartRecord (table_text header fields_at n) ≡ header ∷ list_below fields_at n
   unfolding records_from table_text
   text_back header n zero first plain enough = absurd (omega arith)
   text_back header n (suc turns) first plain enough =
-      rw (line_back header (lines_of (list_below fields_at n)) first)
+      rw (line_back header (record_lines (list_below fields_at n)) first)
       (ap (λ rows. header ∷ rows) (lines_back n 0 turns (λ k below. plain k (omega arith)) (omega arith)))
 
   -- the records of a table's text are its header and its rows
@@ -81,4 +81,4 @@ module _ (fields_at : ℕ → Fields) where
   table_back header n no_mark first plain =
       let long = lines_length n 0 in
       rw no_mark (text_back header n (length (table_text header fields_at n) + 1) first plain
-      (omega (arith, length-append (record_line header) (lines_of (list_below fields_at n)), long)))
+      (omega (arith, length-append (record_line header) (record_lines (list_below fields_at n)), long)))

@@ -10,12 +10,12 @@ use Rattle.fleet_model.specs.Period.{minute_of_day}
 use Rattle.fleet_model.specs.declared.parts.Settings.{Settings}
 use Rattle.fleet_tables.specs.Costs.{cost_read}
 use Rattle.fleet_tables.specs.Fleets.{fleet_read}
-use Rattle.sched_read.specs.Legs.{block_between, day_of, from_day_start, leg_between, leg_read}
+use Rattle.sched_read.specs.Legs.{block_between, day_read, from_day_start, leg_between, leg_read}
 use Rattle.sched_read.specs.Throughs.{through_read}
 use Rattle.sched_read.proofs.OneDay.{one_day}
 use Rattle.station_table.specs.Stations.{station_read}
 use Rattle.table_rows.specs.Fields.{as_natural, natural_of}
-use Rattle.table_rows.specs.Names.{is_among, number_of}
+use Rattle.table_rows.specs.Names.{is_among, number_of_name}
 use Rattle.table_rows.specs.declared.forms.Form.TheVariants as form
 use Rattle.table_maker.specs.Fields.{clock_text}
 use Rattle.table_maker.proofs.FieldForms.{clock_kept, clock_reads, code_reads, flag_kept, flag_reads, hyphen_is_text, name_kept, name_reads, natural_reads, number_is_name, whole_reads}
@@ -41,12 +41,12 @@ fleet_one earlier name aircraft turn form enough short fresh few =
     (rw (natural_reads turn MAX_GROUND_MINUTES (omega arith) (omega arith), fresh, lt-leb MAX_FLEETS (length earlier) few) refl)
 
 -- the day of a record that has none
-first_day : (settings : Settings) → settings.period ≡ 1 → day_of settings (codes "1") ≡ Ok 1
+first_day : (settings : Settings) → settings.period ≡ 1 → day_read settings (codes "1") ≡ Ok 1
 unfolding digits
 first_day settings one = ap as_natural (whole_reads 1 (pos 1) (pos settings.period) (omega arith) (omega (arith, ints)) (omega (arith, ints, one)))
 
 pub leg_one : (stations : List (List ℕ)) (settings : Settings) (earlier : List (List ℕ)) (flight from to : List ℕ) (a b leaves lands block : ℕ) → settings.period ≡ 1
-    → IsName flight → IsStationCode from → IsStationCode to → number_of from stations ≡ Some a → number_of to stations ≡ Some b → (a == b) ≡ false
+    → IsName flight → IsStationCode from → IsStationCode to → number_of_name from stations ≡ Some a → number_of_name to stations ≡ Some b → (a == b) ≡ false
     → is_among flight earlier ≡ false → length earlier < 1000 → block_between (minute_of_day leaves) (minute_of_day lands) ≡ block → (block == 0) ≡ false
     → leg_read stations settings form.Old earlier (flight ∷ from ∷ clock_text leaves ∷ to ∷ clock_text lands ∷ [])
     ≡ Ok (leg_between flight a b (from_day_start settings (minute_of_day leaves)) block)
@@ -60,7 +60,7 @@ leg_one stations settings earlier flight from to a b leaves lands block one form
     (rw (fresh, from_is, to_is, is, some, away, lt-leb MAX_LEGS (length earlier) few, one_day settings (minute_of_day leaves) one) refl))
 
 pub cost_one : (flights fleets earlier : List (List ℕ)) (flight fleet : List ℕ) (l f cost : ℕ) → IsName flight → IsName fleet
-    → number_of flight flights ≡ Some l → number_of fleet fleets ≡ Some f → cost < 10000 → is_among (l ∷ f ∷ []) earlier ≡ false
+    → number_of_name flight flights ≡ Some l → number_of_name fleet fleets ≡ Some f → cost < 10000 → is_among (l ∷ f ∷ []) earlier ≡ false
     → cost_read flights fleets earlier (flight ∷ fleet ∷ decimal cost ∷ []) ≡ Ok (record { leg = l; fleet = f; cost = pos cost })
 unfolding cost_read
 cost_one flights fleets earlier flight fleet l f cost form fleet_form leg_is fleet_is small fresh =
@@ -71,7 +71,7 @@ cost_one flights fleets earlier flight fleet l f cost form fleet_form leg_is fle
     (rw (whole_reads cost (neg_ℤ MAX_COST) MAX_COST small (omega (arith, ints)) (omega (arith, ints)), leg_is, fleet_is, fresh) refl)
 
 pub through_one : (flights earlier : List (List ℕ)) (arriving departing : List ℕ) (l m value : ℕ) → IsName arriving → IsName departing
-    → number_of arriving flights ≡ Some l → number_of departing flights ≡ Some m → value < 10000
+    → number_of_name arriving flights ≡ Some l → number_of_name departing flights ≡ Some m → value < 10000
     → is_among (l ∷ m ∷ []) earlier ≡ false → length earlier < 2000
     → through_read flights earlier (arriving ∷ departing ∷ decimal value ∷ []) ≡ Ok (record { arriving = l; departing = m; value = pos value })
 unfolding through_read

@@ -8,14 +8,14 @@ use Rattle.csv.specs.Machine.{line_feed}
 use Rattle.csv_fields.specs.Flag.{flag_text}
 use Rattle.fleet_tables.specs.Costs.{cost_header}
 use Rattle.fleet_tables.specs.Fleets.{fleet_header}
-use Rattle.plan_text.specs.Text.{lines_of, record_line}
+use Rattle.plan_text.specs.Text.{record_line, record_lines}
 use Rattle.sched_read.specs.Legs.{leg_header}
 use Rattle.sched_read.specs.Throughs.{through_header}
 use Rattle.station_table.specs.Stations.{station_header}
 use Rattle.table_maker.specs.Fields.{clock_text, fleet_name, flight_name, hub_code, is_out, maintains, spoke_code, station_code}
 use Rattle.table_maker.specs.Laws.{AreShort, MadeShort}
-use Rattle.table_maker.specs.Made.{made_tables, tables_of}
-use Rattle.table_maker.specs.Records.{back_fields, cost_fields, fleet_fields, leg_fields, out_fields, station_fields, table_text, through_fields}
+use Rattle.table_maker.specs.Made.{made_tables, tables_of_trips}
+use Rattle.table_maker.specs.Records.{back_fields, cost_fields, fleet_fields, made_leg_fields, made_station_fields, out_fields, table_text, through_fields}
 use Rattle.table_maker.specs.Trips.{spokes_for, trip_of, trips_drawn}
 use Rattle.table_maker.specs.declared.trips.RoundTrip.{RoundTrip}
 use Rattle.table_maker.proofs.DrawnTrips.{trips_fit}
@@ -83,7 +83,7 @@ flag_brief false = record { brief = omega arith }
 clock_brief : (minute : ℕ) → IsBrief (clock_text minute)
 clock_brief minute = record { brief = omega arith }
 
-station_short : (k : ℕ) → IsShortLine (station_fields k)
+station_short : (k : ℕ) → IsShortLine (made_station_fields k)
 station_short k = three_fields (station_code k) (codes "0") (flag_text (maintains k)) (code_brief k) (record { brief = omega arith }) (flag_brief (maintains k))
 
 fleet_short : (trips k : ℕ) → trips ≤ 500 → IsShortLine (fleet_fields trips k)
@@ -99,27 +99,27 @@ flown_short flight false trip brief =
     brief (code_brief (suc trip.spoke)) (clock_brief (trip.departs + trip.block + trip.stay)) (code_brief 0) (clock_brief (trip.departs + 2 * trip.block + trip.stay))
 
 module _ (fields_at : ℕ → Fields) where
-  lines_short : (n first : ℕ) → ((k : ℕ) → k < first + n → IsShortLine (fields_at k)) → length (lines_of (map fields_at (range_with_len first n))) ≤ 60 * n
+  lines_short : (n first : ℕ) → ((k : ℕ) → k < first + n → IsShortLine (fields_at k)) → length (record_lines (map fields_at (range_with_len first n))) ≤ 60 * n
   lines_short zero first each = omega arith
   lines_short (suc n) first each =
       let here = (each first (omega arith)).short in
       let more = lines_short n (first + 1) (λ k below. each k (omega arith)) in
-      omega (arith, length-append (record_line (fields_at first)) (lines_of (map fields_at (range_with_len (first + 1) n))), here, more)
+      omega (arith, length-append (record_line (fields_at first)) (record_lines (map fields_at (range_with_len (first + 1) n))), here, more)
 
   text_short : (header : Fields) (n : ℕ) → IsShortLine header → ((k : ℕ) → k < n → IsShortLine (fields_at k)) → length (table_text header fields_at n) ≤ 60 * (n + 1)
   unfolding table_text
   text_short header n first each =
       let more = lines_short n 0 (λ k below. each k (omega arith)) in
-      omega (arith, length-append (record_line header) (lines_of (map fields_at (range_with_len 0 n))), first.short, more)
+      omega (arith, length-append (record_line header) (record_lines (map fields_at (range_with_len 0 n))), first.short, more)
 
-trips_short : (trips : List RoundTrip) → AreTrips trips → AreShort (tables_of trips)
-unfolding tables_of
+trips_short : (trips : List RoundTrip) → AreTrips trips → AreShort (tables_of_trips trips)
+unfolding tables_of_trips
 trips_short trips are =
     let n = length trips in
     let few = are.few in
-    let stations = text_short station_fields station_header (1 + spokes_for n) (record { short = omega arith }) (λ k below. station_short k) in
+    let stations = text_short made_station_fields station_header (1 + spokes_for n) (record { short = omega arith }) (λ k below. station_short k) in
     let fleets = text_short (fleet_fields n) fleet_header 2 (record { short = omega arith }) (λ k below. fleet_short n k few) in
-    let legs = text_short (leg_fields trips) leg_header (2 * n) (record { short = omega arith })
+    let legs = text_short (made_leg_fields trips) leg_header (2 * n) (record { short = omega arith })
     (λ l below. flown_short (flight_name l) (is_out l) (trip_of trips (l / 2)) (flight_brief l (omega (arith, few)))) in
     let costs = text_short (cost_fields trips) cost_header (4 * n) (record { short = omega arith })
     (λ p below. three_fields (flight_name (p / 2)) (fleet_name (p % 2)) (decimal (slice_index (trip_of trips (p / 4)).costs (p % 4))) (flight_brief (p / 2) (omega (arith, few))) (fleet_brief (p % 2))

@@ -7,8 +7,8 @@ use Rattle.station_table.specs.Stations.{station_header}
 use Rattle.sums.specs.Places.{list_below}
 use Rattle.table_maker.specs.Draws.{state_after}
 use Rattle.table_maker.specs.Fields.{spoke_code}
-use Rattle.table_maker.specs.Made.{made_tables, tables_of}
-use Rattle.table_maker.specs.Records.{station_fields, table_text}
+use Rattle.table_maker.specs.Made.{made_tables, tables_of_trips}
+use Rattle.table_maker.specs.Records.{made_station_fields, table_text}
 use Rattle.table_maker.proofs.Lines.{text_grown}
 use Rattle.table_maker.specs.Trips.{round_trip, spokes_for, state_before, trip_drawn}
 use Rattle.table_maker.specs.declared.made.MadeTables.{MadeTables}
@@ -27,16 +27,16 @@ pub drawn_count : (number spokes count : ℕ) (trips : List RoundTrip) → trips
 drawn_count number spokes count trips are = ap length are ∙ length-map-range_with_len (trip_drawn number spokes) 0 count
 
 pub made_of_drawn : (number legs spokes : ℕ) (trips : List RoundTrip) (made : MadeTables) → trips ≡ list_below (trip_drawn number spokes) (legs / 2)
-    → spokes ≡ spokes_for (legs / 2) → made ≡ tables_of trips → made ≡ made_tables number legs
+    → spokes ≡ spokes_for (legs / 2) → made ≡ tables_of_trips trips → made ≡ made_tables number legs
 unfolding made_tables
 made_of_drawn number legs spokes trips made drawn are is =
-    is ∙ ap tables_of (drawn ∙ ap (λ n. list_below (trip_drawn number n) (legs / 2)) are)
+    is ∙ ap tables_of_trips (drawn ∙ ap (λ n. list_below (trip_drawn number n) (legs / 2)) are)
 
 -- one spoke's station more
-pub spoke_grown : (spoke : ℕ) (text grown code : List ℕ) → text ≡ table_text station_header station_fields (1 + spoke) → code ≡ spoke_code spoke
-    → grown ≡ text ++ record_line (code ∷ codes "0" ∷ flag_text (spoke % 3 == 0) ∷ []) → grown ≡ table_text station_header station_fields (1 + (spoke + 1))
+pub spoke_grown : (spoke : ℕ) (text grown code : List ℕ) → text ≡ table_text station_header made_station_fields (1 + spoke) → code ≡ spoke_code spoke
+    → grown ≡ text ++ record_line (code ∷ codes "0" ∷ flag_text (spoke % 3 == 0) ∷ []) → grown ≡ table_text station_header made_station_fields (1 + (spoke + 1))
 spoke_grown spoke text grown code so_far is added =
     let next : 1 + spoke ≡ suc spoke = omega arith in
-    let fields : code ∷ codes "0" ∷ flag_text (spoke % 3 == 0) ∷ [] ≡ station_fields (1 + spoke) = rw (next, is) refl in
+    let fields : code ∷ codes "0" ∷ flag_text (spoke % 3 == 0) ∷ [] ≡ made_station_fields (1 + spoke) = rw (next, is) refl in
     let last : 1 + spoke + 1 ≡ 1 + (spoke + 1) = omega arith in
-    text_grown station_header station_fields (1 + spoke) text grown so_far (added ∙ ap (λ row. text ++ record_line row) fields) ∙ ap (table_text station_header station_fields) last
+    text_grown station_header made_station_fields (1 + spoke) text grown so_far (added ∙ ap (λ row. text ++ record_line row) fields) ∙ ap (table_text station_header made_station_fields) last

@@ -9,8 +9,8 @@ use Rattle.table_maker.specs.Made.{CanBeMade, made_tables}
 use Rattle.table_maker.specs.declared.made.MadeTables.{MadeTables}
 
 -- the bytes of the five texts
-abbrev pub bytes_of : MadeTables → TableBytes
-bytes_of made = record { stations = made.stations; fleets = made.fleets; legs = made.legs; costs = made.costs; throughs = made.throughs }
+abbrev pub made_bytes : MadeTables → TableBytes
+made_bytes made = record { stations = made.stations; fleets = made.fleets; legs = made.legs; costs = made.costs; throughs = made.throughs }
 
 -- so many legs, all on the first fleet
 abbrev pub all_on_first : ℕ → List ℕ
@@ -19,7 +19,7 @@ all_on_first legs = replicate legs 0
 -- the texts read as tables, by these settings, and all legs on the first fleet are a legal assignment of them
 pub record AreFlyable (made : MadeTables) (legs : ℕ) (settings : Settings) : Type 0 where
   pub tables : Tables
-  pub reads : Reads (bytes_of made) settings tables
+  pub reads : Reads (made_bytes made) settings tables
   pub legal : IsLegal tables (all_on_first legs)
 
 -- by any settings of a period of one day

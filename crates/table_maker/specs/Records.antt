@@ -2,7 +2,7 @@
 use Rattle.std.specs.Prelude.{ℕ, zero, suc, ◌+◌, ◌*◌, ◌/◌, ◌%◌, if◌then◌else◌, List, [], ◌∷◌, codes, slice_index}
 use Rattle.std.specs.Fmt.{decimal}
 use Rattle.csv_fields.specs.Flag.{flag_text}
-use Rattle.plan_text.specs.Text.{lines_of}
+use Rattle.plan_text.specs.Text.{record_lines}
 use Rattle.sums.specs.Places.{list_below}
 use Rattle.table_maker.specs.Fields.{clock_text, fleet_name, flight_name, hub_code, is_out, maintains, spoke_code, station_code}
 use Rattle.table_maker.specs.Trips.{trip_of}
@@ -11,10 +11,10 @@ use Rattle.table_rows.specs.Rows.{Fields}
 
 -- the text of a header and so many records
 unfoldable pub table_text : Fields → (ℕ → Fields) → ℕ → List ℕ
-table_text header fields_at count = lines_of (header ∷ list_below fields_at count)
+table_text header fields_at count = record_lines (header ∷ list_below fields_at count)
 
-abbrev pub station_fields : ℕ → Fields
-station_fields station = station_code station ∷ codes "0" ∷ flag_text (maintains station) ∷ []
+abbrev pub made_station_fields : ℕ → Fields
+made_station_fields station = station_code station ∷ codes "0" ∷ flag_text (maintains station) ∷ []
 
 -- F1 has an aircraft for each of so many round trips, and F2 for every other one
 abbrev pub fleet_fields : ℕ → ℕ → Fields
@@ -29,8 +29,8 @@ abbrev pub back_fields : RoundTrip → Fields
 back_fields trip =
     spoke_code trip.spoke ∷ clock_text (trip.departs + trip.block + trip.stay) ∷ hub_code ∷ clock_text (trip.departs + 2 * trip.block + trip.stay) ∷ []
 
-abbrev pub leg_fields : List RoundTrip → ℕ → Fields
-leg_fields trips leg = flight_name leg ∷ (if is_out leg then out_fields (trip_of trips (leg / 2)) else back_fields (trip_of trips (leg / 2)))
+abbrev pub made_leg_fields : List RoundTrip → ℕ → Fields
+made_leg_fields trips leg = flight_name leg ∷ (if is_out leg then out_fields (trip_of trips (leg / 2)) else back_fields (trip_of trips (leg / 2)))
 
 -- pairs go by leg, then fleet
 abbrev pub cost_fields : List RoundTrip → ℕ → Fields

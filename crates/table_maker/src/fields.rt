@@ -1,7 +1,7 @@
 //! The fields of made records.
 ghost use Rattle.std.specs.Prelude.{◌≡◌, ◌++◌, ◌∷◌, IfOk, OnOk, map, string_bytes};
 ghost use Rattle.csv.specs.Writing.{comma};
-ghost use Rattle.plan_text.specs.Text.{line_of};
+ghost use Rattle.plan_text.specs.Text.{record_line};
 ghost use Rattle.table_maker.specs.Fields.{clock_text, fleet_name, flight_name, is_out, spoke_code};
 
 use entries::NoMemory;
@@ -61,7 +61,7 @@ pub fn clock_text(minute: u32) -> [u8; 5]
 
 /// Appends the line of a record: a first field and others, with a comma between each two, and a line feed.
 pub fn push_record(text: &mut Vec<u8>, first: &[u8], others: &[&[u8]]) -> Result<(), NoMemory>
-    ensures { OnOk result (text.new.items ≡ text.old.items ++ line_of (first.now ∷ map (λ field. field.now) others.now)) }
+    ensures { OnOk result (text.new.items ≡ text.old.items ++ record_line (first.now ∷ map (λ field. field.now) others.now)) }
 {
     text.extend_from_slice(first)?;
     for field in others {

@@ -1,5 +1,5 @@
 ghost use Rattle.std.specs.Prelude.{◌≡◌, ◌≤◌, IfOk, length};
-ghost use Rattle.table_maker.specs.Made.{CanBeMade, made_tables, tables_of};
+ghost use Rattle.table_maker.specs.Made.{CanBeMade, made_tables, tables_of_trips};
 ghost use Rattle.table_maker.specs.Trips.{spokes_for};
 
 use crate::texts::{costs_text, fleets_text, legs_text, stations_text, throughs_text};
@@ -34,10 +34,10 @@ pub fn make_tables(alloc: Global, number: u32, legs: u32) -> Result<MadeTables, 
 }
 
 /// The tables of these round trips.
-#[tactic(auto, unfolding(crate::specs::Made::tables_of))]
+#[tactic(auto, unfolding(crate::specs::Made::tables_of_trips))]
 fn tables_of(alloc: Global, trips: &[RoundTrip]) -> Result<MadeTables, NoMemory>
     requires { length trips.now ≤ 500 }
-    ensures { IfOk result (λ made. made ≡ tables_of trips.now) }
+    ensures { IfOk result (λ made. made ≡ tables_of_trips trips.now) }
 {
     let stations = stations_text(alloc, spokes_for(trips.len()))?;
     let fleets = fleets_text(alloc, trips.len())?;

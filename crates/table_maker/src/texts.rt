@@ -4,12 +4,12 @@ ghost use Rattle.std.specs.Fmt.{decimal};
 ghost use Rattle.csv_fields.specs.Flag.{flag_text};
 ghost use Rattle.fleet_tables.specs.Costs.{cost_header};
 ghost use Rattle.fleet_tables.specs.Fleets.{fleet_header};
-ghost use Rattle.plan_text.specs.Text.{line_of};
+ghost use Rattle.plan_text.specs.Text.{record_line};
 ghost use Rattle.sched_read.specs.Legs.{leg_header};
 ghost use Rattle.sched_read.specs.Throughs.{through_header};
 ghost use Rattle.station_table.specs.Stations.{station_header};
 ghost use Rattle.table_maker.specs.Fields.{fleet_name, flight_name, is_out};
-ghost use Rattle.table_maker.specs.Records.{back_fields, cost_fields, fleet_fields, leg_fields, out_fields, station_fields, table_text, through_fields};
+ghost use Rattle.table_maker.specs.Records.{back_fields, cost_fields, fleet_fields, made_leg_fields, made_station_fields, out_fields, table_text, through_fields};
 
 use crate::fields::{HUB, clock_text, fleet_name, flight_name, is_out, push_record, spoke_code};
 use crate::trips::RoundTrip;
@@ -18,7 +18,7 @@ use std::alloc::Global;
 
 /// The stations: the hub, and so many spokes.
 pub fn stations_text(alloc: Global, spokes: u8) -> Result<Vec<u8>, NoMemory>
-    ensures { IfOk result (λ text. text.items ≡ table_text station_header station_fields (1 + spokes)) }
+    ensures { IfOk result (λ text. text.items ≡ table_text station_header made_station_fields (1 + spokes)) }
 {
     let mut text = Vec::new(alloc);
     text.extend_from_slice(b"code,extra,maintenance\n")?;
@@ -43,7 +43,7 @@ pub fn fleets_text(alloc: Global, trips: usize) -> Result<Vec<u8>, NoMemory>
 /// The legs: of each round trip the flight out, and then the flight back.
 pub fn legs_text(alloc: Global, trips: &[RoundTrip]) -> Result<Vec<u8>, NoMemory>
     requires { length trips.now ≤ 500 }
-    ensures { IfOk result (λ text. text.items ≡ table_text leg_header (leg_fields trips.now) (2 * length trips.now)) }
+    ensures { IfOk result (λ text. text.items ≡ table_text leg_header (made_leg_fields trips.now) (2 * length trips.now)) }
 {
     let mut text = Vec::new(alloc);
     text.extend_from_slice(b"flight,from,dep,to,arr\n")?;
@@ -81,7 +81,7 @@ pub fn throughs_text(alloc: Global, trips: &[RoundTrip]) -> Result<Vec<u8>, NoMe
 
 /// Appends the record of a station.
 fn push_station(text: &mut Vec<u8>, code: &[u8], maintains: bool) -> Result<(), NoMemory>
-    ensures { OnOk result (text.new.items ≡ text.old.items ++ line_of (code.now ∷ codes "0" ∷ flag_text maintains ∷ [])) }
+    ensures { OnOk result (text.new.items ≡ text.old.items ++ record_line (code.now ∷ codes "0" ∷ flag_text maintains ∷ [])) }
 {
     let flag = if maintains {
         b"yes".as_slice()
@@ -99,7 +99,7 @@ fn push_fleet(
     aircraft: usize,
     turn: &[u8],
 ) -> Result<(), NoMemory>
-    ensures { OnOk result (text.new.items ≡ text.old.items ++ line_of (fleet_name fleet ∷ decimal aircraft ∷ turn.now ∷ [])) }
+    ensures { OnOk result (text.new.items ≡ text.old.items ++ record_line (fleet_name fleet ∷ decimal aircraft ∷ turn.now ∷ [])) }
 {
     let aircraft = aircraft.to_string(alloc)?;
     push_record(text, fleet_name(fleet), &[aircraft.as_bytes(), turn])
@@ -107,7 +107,7 @@ fn push_fleet(
 
 /// Appends the record of a leg of a round trip.
 fn push_leg(alloc: Global, text: &mut Vec<u8>, leg: usize, trip: &RoundTrip) -> Result<(), NoMemory>
-    ensures { OnOk result (text.new.items ≡ text.old.items ++ line_of (flight_name leg ∷ (if is_out leg then out_fields trip.now else back_fields trip.now))) }
+    ensures { OnOk result (text.new.items ≡ text.old.items ++ record_line (flight_name leg ∷ (if is_out leg then out_fields trip.now else back_fields trip.now))) }
 {
     let flight = flight_name(alloc, leg)?;
     let spoke = spoke_code(trip.spoke);
@@ -132,7 +132,7 @@ fn push_leg(alloc: Global, text: &mut Vec<u8>, leg: usize, trip: &RoundTrip) -> 
 
 /// Appends the record of what a pair costs.
 fn push_cost(alloc: Global, text: &mut Vec<u8>, pair: usize, cost: u16) -> Result<(), NoMemory>
-    ensures { OnOk result (text.new.items ≡ text.old.items ++ line_of (flight_name (pair / 2) ∷ fleet_name (pair % 2) ∷ decimal cost ∷ [])) }
+    ensures { OnOk result (text.new.items ≡ text.old.items ++ record_line (flight_name (pair / 2) ∷ fleet_name (pair % 2) ∷ decimal cost ∷ [])) }
 {
     let flight = flight_name(alloc, pair / 2)?;
     let cost = cost.to_string(alloc)?;
@@ -146,7 +146,7 @@ fn push_cost(alloc: Global, text: &mut Vec<u8>, pair: usize, cost: u16) -> Resul
 /// Appends the record of a through pair: from a round trip's flight back to the next one's flight out.
 fn push_through(alloc: Global, text: &mut Vec<u8>, trip: usize, value: u16) -> Result<(), NoMemory>
     requires { trip ≤ 500 }
-    ensures { OnOk result (text.new.items ≡ text.old.items ++ line_of (flight_name (2 * trip + 1) ∷ flight_name (2 * trip + 2) ∷ decimal value ∷ [])) }
+    ensures { OnOk result (text.new.items ≡ text.old.items ++ record_line (flight_name (2 * trip + 1) ∷ flight_name (2 * trip + 2) ∷ decimal value ∷ [])) }
 {
     let arriving = flight_name(alloc, 2 * trip + 1)?;
     let departing = flight_name(alloc, 2 * trip + 2)?;

@@ -13,8 +13,8 @@ use Rattle.std.proofs.lemmas.List.Sums.{prefix_len_passes, prefix_len_stops}
 use Rattle.std.proofs.lemmas.Slice.Eq.{bytes_eq-Decides}
 use Rattle.sums.specs.Places.{list_below}
 use Rattle.sums.proofs.Places.{get_or-list_below, length-list_below, list_below-agree, list_below-more}
-use Rattle.table_rows.specs.ByNumber.{AreNumbered, by_number, key_at, number_in}
-use Rattle.table_rows.specs.Names.{is_among, number_of}
+use Rattle.table_rows.specs.ByNumber.{AreNumbered, by_number, key_at, number_of_key}
+use Rattle.table_rows.specs.Names.{is_among, number_of_name}
 
 both_ways : (b : Bool) → b ≡ true → not b ≡ true → ⊥
 both_ways true is isnt = true≢false (sym isnt)
@@ -74,14 +74,14 @@ else_is false x y e = refl
 
 -- a look-up by a test that tells the keys by their lists
 pub lookup_by_list : {K : Type 0} (list_of : K → List ℕ) (test : K → Bool) (list : List ℕ) → ((key : K) → test key ≡ bytes_eq list (list_of key)) → (entries : List (K × ℕ))
-    → lookup test entries ≡ number_in list_of entries list
+    → lookup test entries ≡ number_of_key list_of entries list
 lookup_by_list list_of test list same [] = refl
 lookup_by_list list_of test list same (entry ∷ entries) = rw (same entry.0, lookup_by_list list_of test list same entries) refl
 
 -- the number of a key is its place among the keys by number
 pub number_is_place : {K : Type 0} (list_of : K → List ℕ) (entries : List (K × ℕ)) → AreNumbered list_of entries → (list : List ℕ)
-    → number_in list_of entries list ≡ number_of list (by_number list_of entries)
-number_is_place list_of entries are list = by_number_of (number_in list_of entries list) refl
+    → number_of_key list_of entries list ≡ number_of_name list (by_number list_of entries)
+number_is_place list_of entries are list = by_number_of (number_of_key list_of entries list) refl
   where
     key : ℕ → List ℕ
     key n = unwrap_or (key_at list_of entries n) []
@@ -93,17 +93,17 @@ number_is_place list_of entries are list = by_number_of (number_in list_of entri
     at k within = get_or-list_below (λ n. unwrap_or (key_at list_of entries n) []) (length entries) k [] within
 
     -- what has another number is another list
-    other : (k : ℕ) → k < length entries → number_in list_of entries list ≢ Some k → bytes_eq list (unwrap_or (key_at list_of entries k) []) ≡ false
+    other : (k : ℕ) → k < length entries → number_of_key list_of entries list ≢ Some k → bytes_eq list (unwrap_or (key_at list_of entries k) []) ≡ false
     other k within differs = by_key (key_at list_of entries k) refl
       where
         by_key : (found : Option (List ℕ)) → key_at list_of entries k ≡ found → bytes_eq list (unwrap_or found []) ≡ false
         by_key None e = absurd (true≢false (sym (lt-ltb k (length entries) within) ∙ sym (are.below_count k) ∙ ap is_some e))
         by_key (Some name) e = elim (cases_Bool (bytes_eq list name)) [
-          | inl same ↦ absurd (differs (subst (λ l. number_in list_of entries l ≡ Some k) (sym ((bytes_eq-Decides list name).0 same)) (are.numbered k name e)))
+          | inl same ↦ absurd (differs (subst (λ l. number_of_key list_of entries l ≡ Some k) (sym ((bytes_eq-Decides list name).0 same)) (are.numbered k name e)))
           | inr apart ↦ apart
         ]
 
-    by_number_of : (number : Option ℕ) → number_in list_of entries list ≡ number → number ≡ number_of list (by_number list_of entries)
+    by_number_of : (number : Option ℕ) → number_of_key list_of entries list ≡ number → number ≡ number_of_name list (by_number list_of entries)
     by_number_of None e = sym (position_none (bytes_eq list) (by_number list_of entries) [] (λ k within.
         let inside : k < length entries = omega (arith, long) in
         ap (bytes_eq list) (at k inside) ∙ other k inside (λ is. (let never : None ≡ Some k = sym e ∙ is in cc))))
@@ -120,7 +120,7 @@ number_is_place list_of entries are list = by_number_of (number_in list_of entri
 
 -- a key has a number exactly where it is among the keys
 pub numbered_among : {K : Type 0} (list_of : K → List ℕ) (entries : List (K × ℕ)) → AreNumbered list_of entries → (list : List ℕ)
-    → is_some (number_in list_of entries list) ≡ is_among list (by_number list_of entries)
+    → is_some (number_of_key list_of entries list) ≡ is_among list (by_number list_of entries)
 numbered_among list_of entries are list =
     ap is_some (number_is_place list_of entries are list) ∙ is_some-position (bytes_eq list) (by_number list_of entries)
 
@@ -141,19 +141,19 @@ head_absent true x rest e = (let never : Some x ≡ None = e in cc)
 head_absent false x rest e = (refl, e)
 
 module _ {K : Type 0} (list_of : K → List ℕ) (cmp : K → K → Ordering) (key : K) (number : ℕ) where
-  number_inserted : (entries : List (K × ℕ)) → lookup (is_at (cmp key)) entries ≡ None → (list : List ℕ) → (bytes_eq list (list_of key) ≡ true → number_in list_of entries list ≡ None)
-      → number_in list_of (insert_entry cmp entries key number) list ≡ (if bytes_eq list (list_of key) then Some number else number_in list_of entries list)
+  number_inserted : (entries : List (K × ℕ)) → lookup (is_at (cmp key)) entries ≡ None → (list : List ℕ) → (bytes_eq list (list_of key) ≡ true → number_of_key list_of entries list ≡ None)
+      → number_of_key list_of (insert_entry cmp entries key number) list ≡ (if bytes_eq list (list_of key) then Some number else number_of_key list_of entries list)
   number_inserted [] absent list alone = refl
   number_inserted (entry ∷ entries) absent list alone =
       by_order (number_inserted entries (head_absent _ _ _ absent).1 list (no_rest _ _ _ _ alone)) (cmp key entry.0) (head_absent _ _ _ absent).0
     where
-      by_order : number_in list_of (insert_entry cmp entries key number) list ≡ (if bytes_eq list (list_of key) then Some number else number_in list_of entries list)
+      by_order : number_of_key list_of (insert_entry cmp entries key number) list ≡ (if bytes_eq list (list_of key) then Some number else number_of_key list_of entries list)
           → (order : Ordering) → is_eq order ≡ false
-          → number_in list_of (match_ordering order ((key, number) ∷ entry ∷ entries) ((entry.0, number) ∷ entries) (entry ∷ insert_entry cmp entries key number)) list
-          ≡ (if bytes_eq list (list_of key) then Some number else number_in list_of (entry ∷ entries) list)
+          → number_of_key list_of (match_ordering order ((key, number) ∷ entry ∷ entries) ((entry.0, number) ∷ entries) (entry ∷ insert_entry cmp entries key number)) list
+          ≡ (if bytes_eq list (list_of key) then Some number else number_of_key list_of (entry ∷ entries) list)
       by_order rest Less apart = refl
       by_order rest Equal apart = absurd (true≢false apart)
-      by_order rest Greater apart = found (bytes_eq list (list_of key)) (bytes_eq list (list_of entry.0)) number entry.1 (number_in list_of entries list) _ alone rest
+      by_order rest Greater apart = found (bytes_eq list (list_of key)) (bytes_eq list (list_of entry.0)) number entry.1 (number_of_key list_of entries list) _ alone rest
 
   key_inserted : (entries : List (K × ℕ)) → lookup (is_at (cmp key)) entries ≡ None → (n : ℕ) → ((n == number) ≡ true → key_at list_of entries n ≡ None)
       → key_at list_of (insert_entry cmp entries key number) n ≡ (if n == number then Some (list_of key) else key_at list_of entries n)
@@ -173,7 +173,7 @@ module _ {K : Type 0} (list_of : K → List ℕ) (cmp : K → K → Ordering) (k
 pub record IsNextKey {K : Type 0} (list_of : K → List ℕ) (cmp : K → K → Ordering) (old new : List (K × ℕ)) (key : K) : Type 0 where
   pub are : AreNumbered list_of old
   pub absent : lookup (is_at (cmp key)) old ≡ None
-  pub unnumbered : number_in list_of old (list_of key) ≡ None
+  pub unnumbered : number_of_key list_of old (list_of key) ≡ None
   pub entries : new ≡ insert_entry cmp old key (length old)
   pub longer : length new ≡ length old + 1
 
@@ -211,7 +211,7 @@ next_key list_of cmp old new key lists number are same view apart last grown = r
     none None e = refl
     none (Some n) e = absurd (true≢false e)
 
-    unnumbered : number_in list_of old (list_of key) ≡ None
+    unnumbered : number_of_key list_of old (list_of key) ≡ None
     unnumbered = none _ (numbered_among list_of old are (list_of key) ∙ ap (is_among (list_of key)) view ∙ apart)
 
     absent : lookup (is_at (cmp key)) old ≡ None
@@ -225,11 +225,11 @@ module _ {K : Type 0} (list_of : K → List ℕ) (cmp : K → K → Ordering) (o
       none None e = refl
       none (Some x) e = absurd (true≢false e)
 
-  alone : (list : List ℕ) → bytes_eq list (list_of key) ≡ true → number_in list_of old list ≡ None
-  alone list same = subst (λ l. number_in list_of old l ≡ None) (sym ((bytes_eq-Decides list (list_of key)).0 same)) next.unnumbered
+  alone : (list : List ℕ) → bytes_eq list (list_of key) ≡ true → number_of_key list_of old list ≡ None
+  alone list same = subst (λ l. number_of_key list_of old l ≡ None) (sym ((bytes_eq-Decides list (list_of key)).0 same)) next.unnumbered
 
-  numbers : (list : List ℕ) → number_in list_of new list ≡ (if bytes_eq list (list_of key) then Some (length old) else number_in list_of old list)
-  numbers list = ap (λ entries. number_in list_of entries list) next.entries ∙ number_inserted list_of cmp key (length old) old next.absent list (alone list)
+  numbers : (list : List ℕ) → number_of_key list_of new list ≡ (if bytes_eq list (list_of key) then Some (length old) else number_of_key list_of old list)
+  numbers list = ap (λ entries. number_of_key list_of entries list) next.entries ∙ number_inserted list_of cmp key (length old) old next.absent list (alone list)
 
   keys : (n : ℕ) → key_at list_of new n ≡ (if n == length old then Some (list_of key) else key_at list_of old n)
   keys n = ap (λ entries. key_at list_of entries n) next.entries ∙ key_inserted list_of cmp key (length old) old next.absent n (past n)
@@ -263,7 +263,7 @@ module _ {K : Type 0} (list_of : K → List ℕ) (cmp : K → K → Ordering) (o
       more : (n : ℕ) → (n == length old) ≡ false → nat_lt n (length old) ≡ nat_lt n (length new)
       more n apart = (let long = next.longer in grind (arith, nat_tests))
 
-      older : (n : ℕ) (list : List ℕ) → number_in list_of old list ≡ Some n → number_in list_of new list ≡ Some n
+      older : (n : ℕ) (list : List ℕ) → number_of_key list_of old list ≡ Some n → number_of_key list_of new list ≡ Some n
       older n list is = elim (cases_Bool (bytes_eq list (list_of key))) [
         | inl same ↦ (let never : None ≡ Some n = sym (alone list same) ∙ is in cc)
         | inr apart ↦ numbers list ∙ else_is (bytes_eq list (list_of key)) _ _ apart ∙ is

@@ -3,7 +3,7 @@ use Rattle.std.proofs.Common.{◌≡◌, ◌≢◌, ◌⊎◌, ℕ, Bool, true, 
 use Rattle.fleet_model.specs.declared.refusals.LoadError.{LoadError}
 use Rattle.fleet_model.specs.declared.refusals.TableFile.{TableFile}
 use Rattle.fleet_model.specs.declared.refusals.TheConstants.{WRONG_HEADER}
-use Rattle.table_rows.specs.Forms.{FormBad, FormReads, IsAllowed, LacksForm}
+use Rattle.table_rows.specs.Forms.{FormBad, FormReads, IsAllowedForm, LacksForm}
 use Rattle.table_rows.specs.Outcome.{IsFirstFault, headless}
 use Rattle.table_rows.specs.Rows.{Fields, IsUnder, LacksHeader, TableBad, TableReads}
 use Rattle.table_rows.specs.declared.forms.Form.{Form}
@@ -49,7 +49,7 @@ module _ {E : Type 0} (key : E → List ℕ) (read : Form → List (List ℕ) �
   abbrev pub FormEnd : List Fields → Type 0
   FormEnd records = ((entries : List E) × FormReads key read header old_allowed records entries) ⊎ ((row : ℕ) × (kind : ℕ) × FormBad key read header old_allowed records row kind)
 
-  found_end : (records rest : List Fields) (found : Form) → IsAllowed old_allowed found → IsUnder (header found) records rest → FormEnd records
+  found_end : (records rest : List Fields) (found : Form) → IsAllowedForm old_allowed found → IsUnder (header found) records rest → FormEnd records
   found_end records rest found allowed under = elim (rows_end_exists key (read found) rest) [
     | inl all ↦ inl (all.0, record { found = found; allowed = allowed; table = record { rest = rest; under = under; rows = all.1 } })
     | inr fault ↦ inr (fault.0, fault.1, inr (record { found = found; allowed = allowed; below = record { rest = rest; under = under; rows = fault.2 } }))
@@ -61,7 +61,7 @@ module _ {E : Type 0} (key : E → List ℕ) (read : Form → List (List ℕ) �
     | inr not_new ↦ by_old old_allowed refl not_new (header_or_not (header form.Old) records)
   ]
     where
-      lacking : LacksHeader (header form.New) records → ((IsAllowed old_allowed form.Old) → LacksHeader (header form.Old) records) → LacksForm header old_allowed records
+      lacking : LacksHeader (header form.New) records → ((IsAllowedForm old_allowed form.Old) → LacksHeader (header form.Old) records) → LacksForm header old_allowed records
       lacking not_new not_old form.Old allowed = not_old allowed
       lacking not_new not_old form.New allowed = not_new
 

@@ -4,14 +4,14 @@ use Rattle.std.proofs.lemmas.Bool.{cases_lt}
 use Rattle.std.proofs.lemmas.List.{get_or_append_left, length-append, take-append-le}
 use Rattle.std.proofs.lemmas.Bool.Decides.{nat_tests}
 use Rattle.std.proofs.Math.Seq.{take-append_seam, get_or-append_seam}
-use Rattle.table_rows.specs.Rows.{Fields, FrontReads, row_at}
+use Rattle.table_rows.specs.Rows.{Fields, FrontReads, record_at}
 
 module _ {E : Type 0} (key : E → List ℕ) (read : List (List ℕ) → Fields → Result E ℕ) where
   pub front_none : (rows : List Fields) → FrontReads key read rows []
   front_none rows = record { each = λ k d within. absurd (omega arith) }
 
   pub front_push : (rows : List Fields) (entries : List E) (entry : E) → FrontReads key read rows entries
-      → read (map key entries) (row_at rows (length entries)) ≡ Ok entry → FrontReads key read rows (entries ++ entry ∷ [])
+      → read (map key entries) (record_at rows (length entries)) ≡ Ok entry → FrontReads key read rows (entries ++ entry ∷ [])
   front_push rows entries entry reads more = record {
     each = λ k d within. elim (cases_lt k (length entries)) [
       | inl before ↦ let whole : k ≤ length entries = omega arith in rw (take-append-le, get_or_append_left entries (entry ∷ []) d k before) (reads.each k d before)

@@ -4,7 +4,7 @@ use Rattle.std.proofs.lemmas.List.{get_or-map, get_or-take, length-map, length-t
 use Rattle.std.proofs.lemmas.List.Folds.{list_any_at}
 use mathlib.Core.Bool.{false≢true}
 use Rattle.table_rows.specs.Names.{is_among}
-use Rattle.table_rows.specs.Rows.{Fields, FrontReads, row_at}
+use Rattle.table_rows.specs.Rows.{Fields, FrontReads, record_at}
 use Rattle.table_rows.proofs.FrontReading.{bytes_eq-self}
 use Rattle.table_rows.proofs.OneReading.{first_of_some}
 
@@ -12,14 +12,14 @@ module _ {E : Type 0} (key : E → List ℕ) (read : List (List ℕ) → Fields 
   -- each entry has what a record that reads as it shows
   pub front_each : (P : E → Type 0) → ((earlier : List (List ℕ)) (fields : Fields) (entry : E) → read earlier fields ≡ Ok entry → P entry)
       → (rows : List Fields) (entries : List E) → FrontReads key read rows entries → All P entries
-  front_each P shown rows entries reads = λ k d within. shown (map key (take k entries)) (row_at rows k) (slice_index_or entries k d) (reads.each k d within)
+  front_each P shown rows entries reads = λ k d within. shown (map key (take k entries)) (record_at rows k) (slice_index_or entries k d) (reads.each k d within)
 
   -- where a record reads only below other keys, no two entries share a key
   pub front_differ : ((earlier : List (List ℕ)) (fields : Fields) (entry : E) → read earlier fields ≡ Ok entry → is_among (key entry) earlier ≡ false)
       → (rows : List Fields) (entries : List E) → FrontReads key read rows entries → AllPairs (λ a b. key a ≢ key b) entries
   front_differ fresh rows entries reads = λ i j d order within same.
       let earlier = take j entries in
-      let new = fresh (map key earlier) (row_at rows j) (slice_index_or entries j d) (reads.each j d within) in
+      let new = fresh (map key earlier) (record_at rows j) (slice_index_or entries j d) (reads.each j d within) in
       let there : i < length earlier = omega (arith, length-take-le j entries (omega arith)) in
       let at : slice_index_or (map key earlier) i [] ≡ key (slice_index_or entries j d) =
       get_or-map key earlier i d [] there ∙ (rw (get_or-take j entries i d order) same) in
@@ -34,5 +34,5 @@ module _ {E : Type 0} (key : E → List ℕ) (read : List (List ℕ) → Fields 
       by_last zero none = omega arith
       by_last (suc n) some =
           let d = first_of_some entries (omega arith) in
-          let below = room (map key (take n entries)) (row_at rows n) (slice_index_or entries n d) (reads.each n d (omega arith)) in
+          let below = room (map key (take n entries)) (record_at rows n) (slice_index_or entries n d) (reads.each n d (omega arith)) in
           omega (arith, length-map (take n entries) key, length-take-le n entries (omega arith), below)

@@ -4,7 +4,7 @@ use Rattle.std.proofs.lemmas.Slice.Eq.{bytes_eq-Decides}
 use Rattle.std.proofs.lemmas.Bool.{cases_lt}
 use mathlib.Core.Bool.{false≢true}
 use Rattle.std.proofs.lemmas.List.{length-append, take_all, take_more_same}
-use Rattle.table_rows.specs.Rows.{Fields, FrontReads, IsUnder, LacksHeader, RowsBad, RowsRead, TableBad, TableReads, row_at}
+use Rattle.table_rows.specs.Rows.{Fields, FrontReads, IsUnder, LacksHeader, RowsBad, RowsRead, TableBad, TableReads, record_at}
 use Rattle.fleet_model.specs.declared.refusals.TheConstants.{WRONG_HEADER}
 use Rattle.table_rows.proofs.FrontReading.{front_none, front_push}
 
@@ -57,18 +57,18 @@ module _ {E : Type 0} (key : E → List ℕ) (read : List (List ℕ) → Fields 
       let before = front_same rows a b reads_a reads_b n (omega arith) (omega arith) in
       let at_a = reads_a.each n d within_a in
       let at_b = reads_b.each n d within_b in
-      let same : read (map key (take n a)) (row_at rows n) ≡ read (map key (take n b)) (row_at rows n) = ap (λ es. read (map key es) (row_at rows n)) before in
+      let same : read (map key (take n a)) (record_at rows n) ≡ read (map key (take n b)) (record_at rows n) = ap (λ es. read (map key es) (record_at rows n)) before in
       let here : slice_index_or a n d ≡ slice_index_or b n d = cc in
       rw (← add-one n) (take_more_same a b n d within_a within_b before here)
 
   -- where the first records read as entries, none of these records has a fault
   pub front_no_fault : (rows : List Fields) (a b : List E) (kind : ℕ) → FrontReads key read rows a → FrontReads key read rows b → length b < length a
-      → read (map key b) (row_at rows (length b)) ≡ Err kind → ⊥
+      → read (map key b) (record_at rows (length b)) ≡ Err kind → ⊥
   front_no_fault rows a b kind reads_a reads_b shorter fault =
       let d = first_of_some a (omega arith) in
       let same : take (length b) a ≡ b = front_same rows a b reads_a reads_b (length b) (omega arith) (omega arith) ∙ take_all (length b) b (omega arith) in
       let at = reads_a.each (length b) d shorter in
-      let here : read (map key b) (row_at rows (length b)) ≡ Ok (slice_index_or a (length b) d) = ap (λ es. read (map key es) (row_at rows (length b))) (sym same) ∙ at in
+      let here : read (map key b) (record_at rows (length b)) ≡ Ok (slice_index_or a (length b) d) = ap (λ es. read (map key es) (record_at rows (length b))) (sym same) ∙ at in
       cc
 
   pub rows_read_same : (rows : List Fields) (a b : List E) → RowsRead key read rows a → RowsRead key read rows b → a ≡ b
@@ -85,7 +85,7 @@ module _ {E : Type 0} (key : E → List ℕ) (read : List (List ℕ) → Fields 
       | inl longer ↦ absurd (front_no_fault rows a.before b.before other_kind a.reads b.reads longer b.fault)
       | inr no_longer ↦
           let same : a.before ≡ b.before = sym (take_all (length b.before) a.before (omega arith)) ∙ front_same rows a.before b.before a.reads b.reads (length b.before) (omega arith) (omega arith) ∙ take_all (length b.before) b.before (omega arith) in
-          let fault : read (map key a.before) (row_at rows (length a.before)) ≡ Err other_kind = rw same b.fault in
+          let fault : read (map key a.before) (record_at rows (length a.before)) ≡ Err other_kind = rw same b.fault in
           let kinds : kind ≡ other_kind = cc in
           (omega (arith, ap length same, a.number, b.number), kinds)
     ]
@@ -105,7 +105,7 @@ module _ {E : Type 0} (key : E → List ℕ) (read : List (List ℕ) → Fields 
 
   rest_end : (rows : List Fields) (n : ℕ) (entries : List E) → FrontReads key read rows entries → n + length entries ≡ length rows → RowsEnd rows
   rest_end rows zero entries reads all = inl (entries, record { all = omega arith; reads = reads })
-  rest_end rows (suc n) entries reads all = elim (answer_of (map key entries) (row_at rows (length entries))) [
+  rest_end rows (suc n) entries reads all = elim (answer_of (map key entries) (record_at rows (length entries))) [
     | inl found ↦ rest_end rows n (entries ++ found.0 ∷ []) (front_push key read rows entries found.0 reads found.1) (omega (arith, length-append entries (found.0 ∷ [])))
     | inr found ↦ inr (length entries + 2, found.0, record { before = entries; within = omega arith; reads = reads; fault = found.1; number = refl })
   ]

@@ -13,7 +13,7 @@ use Rattle.std.specs.Char.{IsAsciiUppercase, is_ascii_uppercase}
 use Rattle.std.specs.List.{list_all}
 use Rattle.std.specs.Bool.{Decides}
 use Rattle.table_rows.specs.Fields.{as_natural, known, natural_of, of_width, refused_where, well_formed}
-use Rattle.table_rows.specs.Names.{number_of}
+use Rattle.table_rows.specs.Names.{number_of_name}
 
 -- what two records read as is the same
 pub same_answer : {B : Type 0} (a b : B) → ◌≡◌ {A = Result B ℕ} (Ok a) (Ok b) → a ≡ b
@@ -82,5 +82,5 @@ unfolding clock_time_of
 time_within field minute ok = grind (arith, nat_tests)
 
 -- the place of a name is one of the list
-pub number_within : (name : List ℕ) (names : List (List ℕ)) (n : ℕ) → number_of name names ≡ Some n → n < length names
+pub number_within : (name : List ℕ) (names : List (List ℕ)) (n : ℕ) → number_of_name name names ≡ Some n → n < length names
 number_within name names n found = grind (arith, nat_tests)

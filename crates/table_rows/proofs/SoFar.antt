@@ -1,7 +1,7 @@
 -- The loop that reads the records of a table: what the first of them read as.
 use Rattle.std.proofs.Common.{◌≡◌, ℕ, ◌+◌, ◌<◌, ◌≤◌, List, [], ◌∷◌, ◌++◌, length, map, slice_index_or, Vec, Global, Result, Err, refl, sym, ap, ◌∙◌, inl, arith}
 use Rattle.std.proofs.lemmas.List.{get_or-map, length-append, length-map, map-append}
-use Rattle.table_rows.specs.Rows.{Fields, FrontReads, LacksHeader, RowsBad, RowsRead, TableBad, fields_in, row_at, rows_in}
+use Rattle.table_rows.specs.Rows.{Fields, FrontReads, LacksHeader, RowsBad, RowsRead, TableBad, fields_in, record_at, rows_in}
 use Rattle.fleet_model.specs.declared.refusals.LoadError.{LoadError}
 use Rattle.fleet_model.specs.declared.refusals.TableFile.{TableFile}
 use Rattle.table_rows.specs.declared.faults.RecordError.{RecordError}
@@ -11,7 +11,7 @@ use Rattle.table_rows.proofs.FrontReading.{front_none, front_push}
 
 -- the fields at a place of the rows that a vector holds
 pub row_found : (rows : List (Vec (Vec ℕ Global) Global)) (place : ℕ) (row : Vec (Vec ℕ Global) Global) (fields : List (Vec ℕ Global))
-    → place < length rows → row ≡ slice_index_or rows place row → fields ≡ row.items → fields_in fields ≡ row_at (rows_in rows) place
+    → place < length rows → row ≡ slice_index_or rows place row → fields ≡ row.items → fields_in fields ≡ record_at (rows_in rows) place
 row_found rows place row fields within found is =
     rw (is, get_or-map (λ (r : Vec (Vec ℕ Global) Global). fields_in r.items) rows place row [] within) (ap (λ (r : Vec (Vec ℕ Global) Global). fields_in r.items) found)
 
@@ -34,7 +34,7 @@ module _ {E : Type 0} (key : E → List ℕ) (read : List (List ℕ) → Fields 
 
   -- the reader reads as it did at the start
   pub so_far_push : (now : List (List ℕ) → Fields → Result E ℕ) (rows : List Fields) (place : ℕ) (keys new : List (List ℕ)) (entries grown : List E) (entry : E) (fields : Fields) → now ≡ read
-      → ReadSoFar rows place keys entries → fields ≡ row_at rows place → IsNewEntry key now keys new fields entry → grown ≡ entries ++ entry ∷ [] → ReadSoFar rows (place + 1) new grown
+      → ReadSoFar rows place keys entries → fields ≡ record_at rows place → IsNewEntry key now keys new fields entry → grown ≡ entries ++ entry ∷ [] → ReadSoFar rows (place + 1) new grown
   so_far_push now rows place keys new entries grown entry fields same so_far row more added = rw added (record {
     count = omega (arith, length-append {A = E}, so_far.count);
     numbered = more.numbered ∙ ap (λ ks. ks ++ key entry ∷ []) so_far.numbered ∙ sym (map-append key entries (entry ∷ []));
@@ -42,7 +42,7 @@ module _ {E : Type 0} (key : E → List ℕ) (read : List (List ℕ) → Fields 
   })
 
   pub so_far_bad : (rows : List Fields) (place kind : ℕ) (keys : List (List ℕ)) (entries : List E) (fields : Fields) → ReadSoFar rows place keys entries
-      → place < length rows → fields ≡ row_at rows place → read keys fields ≡ Err kind → RowsBad key read rows (place + 2) kind
+      → place < length rows → fields ≡ record_at rows place → read keys fields ≡ Err kind → RowsBad key read rows (place + 2) kind
   so_far_bad rows place kind keys entries fields so_far within row fault = record {
     before = entries;
     within = omega (arith, so_far.count);
@@ -56,7 +56,7 @@ module _ {E : Type 0} (key : E → List ℕ) (read : List (List ℕ) → Fields 
 
   -- the refusal of a record that doesn't read is the first fault of the rows
   pub so_far_refused : (now : List (List ℕ) → Fields → Result E ℕ) (file : TableFile) (rows : List Fields) (place : ℕ) (keys : List (List ℕ)) (entries : List E) (fields : Fields) (error : RecordError)
-      → now ≡ read → ReadSoFar rows place keys entries → place < length rows → fields ≡ row_at rows place → IsFaultOf (now keys fields) error
+      → now ≡ read → ReadSoFar rows place keys entries → place < length rows → fields ≡ record_at rows place → IsFaultOf (now keys fields) error
       → IsFirstFault file (RowsBad key read rows) (refusal_at file place error)
   so_far_refused now file rows place keys entries fields (refused.Bad kind) same so_far within row fault =
       (refl, so_far_bad rows place kind keys entries fields so_far within row (rw (← same) fault))

@@ -8,8 +8,8 @@ abbrev pub is_among : List ℕ → List (List ℕ) → Bool
 is_among name names = list_any (bytes_eq name) names
 
 -- the place of the name in the list, where it is there
-abbrev pub number_of : List ℕ → List (List ℕ) → Option ℕ
-number_of name names = position (bytes_eq name) names
+abbrev pub number_of_name : List ℕ → List (List ℕ) → Option ℕ
+number_of_name name names = position (bytes_eq name) names
 
 -- the bytes of a name
 abbrev pub bytes_of : Vec ℕ Global → List ℕ

@@ -16,8 +16,8 @@ abbrev pub rows_in : List (Vec (Vec ℕ Global) Global) → List Fields
 rows_in rows = map (λ row. fields_in row.items) rows
 
 -- the record at a place
-abbrev pub row_at : List Fields → ℕ → Fields
-row_at rows k = slice_index_or rows k []
+abbrev pub record_at : List Fields → ℕ → Fields
+record_at rows k = slice_index_or rows k []
 
 -- the first record is the header, and the rest stands below it
 abbrev pub IsUnder : Fields → List Fields → List Fields → Type 0
@@ -32,7 +32,7 @@ LacksHeader header records = (rest : List Fields) → records ≢ header ∷ res
 module _ {E : Type 0} (key : E → List ℕ) (read : List (List ℕ) → Fields → Result E ℕ) where
   -- the first records read as these entries, one each, below the keys of the entries before it
   pub record FrontReads (rows : List Fields) (entries : List E) : Type 0 where
-    pub each : (k : ℕ) (d : E) → k < length entries → read (map key (take k entries)) (row_at rows k) ≡ Ok (slice_index_or entries k d)
+    pub each : (k : ℕ) (d : E) → k < length entries → read (map key (take k entries)) (record_at rows k) ≡ Ok (slice_index_or entries k d)
 
   -- all records read as these entries
   pub record RowsRead (rows : List Fields) (entries : List E) : Type 0 where
@@ -45,7 +45,7 @@ module _ {E : Type 0} (key : E → List ℕ) (read : List (List ℕ) → Fields 
     pub before : List E
     pub within : length before < length rows
     pub reads : FrontReads rows before
-    pub fault : read (map key before) (row_at rows (length before)) ≡ Err kind
+    pub fault : read (map key before) (record_at rows (length before)) ≡ Err kind
     pub number : row ≡ length before + 2
 
   -- the records of a file are its header and records that read as these entries

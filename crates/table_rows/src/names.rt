@@ -1,5 +1,5 @@
 ghost use Rattle.std.specs.Prelude.{◌≡◌, ◌++◌, ◌↔◌, [], ◌∷◌, length, not, if◌then◌else◌, IfOk, IsTrue, OnErr};
-ghost use Rattle.table_rows.specs.Names.{is_among, number_of};
+ghost use Rattle.table_rows.specs.Names.{is_among, number_of_name};
 
 use entries::NoMemory;
 use std::alloc::Global;
@@ -64,7 +64,7 @@ impl Names {
 
     /// The number of a name, where it is there.
     pub fn number(&self, name: &[u8]) -> Option<usize>
-        ensures { result ≡ number_of name.now self.now }
+        ensures { result ≡ number_of_name name.now self.now }
     {
         self.numbers.get(name).copied()
     }

@@ -12,7 +12,7 @@ use Rattle.fleet_tables.specs.Costs.{flight_of}
 use Rattle.fleet_tables.specs.Fleets.{fleet_name_of}
 use Rattle.station_table.specs.Stations.{code_of}
 use Rattle.table_rows.specs.Fields.{as_natural, known}
-use Rattle.table_rows.specs.Names.{is_among, number_of}
+use Rattle.table_rows.specs.Names.{is_among, number_of_name}
 use Rattle.table_rows.specs.Rows.{Fields, RowsRead}
 use Rattle.table_rows.specs.declared.forms.Form.{Form}
 use Rattle.table_rows.proofs.Kept.{front_differ, front_each, front_few}
@@ -50,14 +50,14 @@ at_known t field at reads = by_form (length field == 0) (is_ok (station_code_of 
     flights = map flight_of t.legs
 
     by_form : (none code : Bool)
-        → (if none then Ok None else if code then known (number_of field stations) UNKNOWN_STATION (λ s. Ok (Some (place.Stands s))) else known (number_of field flights) UNKNOWN_FLIGHT (λ l. Ok (Some (place.Flies l)))) ≡ Ok at
+        → (if none then Ok None else if code then known (number_of_name field stations) UNKNOWN_STATION (λ s. Ok (Some (place.Stands s))) else known (number_of_name field flights) UNKNOWN_FLIGHT (λ l. Ok (Some (place.Flies l)))) ≡ Ok at
         → IsPlaceIfAny t at
     by_form true code read = subst (IsPlaceIfAny t) (same_answer None at read) tt
     by_form false true read =
-        let s = known_ok (number_of field stations) UNKNOWN_STATION _ at read in
+        let s = known_ok (number_of_name field stations) UNKNOWN_STATION _ at read in
         subst (IsPlaceIfAny t) (same_answer (Some (place.Stands s.0)) at s.2) (subst (λ n. s.0 < n) (length-map t.stations code_of) (number_within field stations s.0 s.1))
     by_form false false read =
-        let l = known_ok (number_of field flights) UNKNOWN_FLIGHT _ at read in
+        let l = known_ok (number_of_name field flights) UNKNOWN_FLIGHT _ at read in
         subst (IsPlaceIfAny t) (same_answer (Some (place.Flies l.0)) at l.2) (subst (λ n. l.0 < n) (length-map t.legs flight_of) (number_within field flights l.0 l.1))
 
 -- what a record that reads as a tail below others shows
@@ -77,7 +77,7 @@ new_tail t header earlier fields tail reads =
     let form = form_ok (at_form_of wide.0.3) _ tail left.2 in
     let fresh = not_refused (is_among wide.0.0 earlier) DUPLICATE _ tail form.2 in
     let at = read_on_ok (at_of (map code_of t.stations) (map flight_of t.legs) wide.0.3) _ tail fresh.1 in
-    let fleet_known = known_ok (number_of wide.0.1 (map fleet_name_of t.fleets)) UNKNOWN_FLEET _ tail at.2 in
+    let fleet_known = known_ok (number_of_name wide.0.1 (map fleet_name_of t.fleets)) UNKNOWN_FLEET _ tail at.2 in
     let room = not_refused (nat_le MAX_TAILS (length earlier)) TOO_MANY _ tail fleet_known.2 in
     let made : TailState = record { name = wide.0.0; fleet = fleet_known.0; left = left.0; at = at.0 } in
     let same = same_answer made tail room.1 in

@@ -13,7 +13,7 @@ use Rattle.fleet_tables.specs.Fleets.{fleet_name_of}
 use Rattle.station_table.specs.Stations.{code_of}
 use Rattle.table_rows.specs.Fields.{as_natural, four_of, known, of_width, refused_where, three_of, well_formed}
 use Rattle.table_rows.specs.Forms.{FormBad, FormReads, header_in}
-use Rattle.table_rows.specs.Names.{is_among, number_of}
+use Rattle.table_rows.specs.Names.{is_among, number_of_name}
 use Rattle.table_rows.specs.Rows.{Fields}
 use Rattle.table_rows.specs.declared.forms.Form.{Form}
 use Rattle.table_rows.specs.declared.forms.Form.TheVariants as form
@@ -57,8 +57,8 @@ at_form_of field = if length field == 0 then Ok tt else name_of field
 abbrev pub at_of : List (List ℕ) → List (List ℕ) → List ℕ → Result (Option Place) ℕ
 at_of stations flights field =
     if length field == 0 then Ok None
-    else if is_ok (station_code_of field) then known (number_of field stations) UNKNOWN_STATION (λ s. Ok (Some (place.Stands s)))
-    else known (number_of field flights) UNKNOWN_FLIGHT (λ l. Ok (Some (place.Flies l)))
+    else if is_ok (station_code_of field) then known (number_of_name field stations) UNKNOWN_STATION (λ s. Ok (Some (place.Stands s)))
+    else known (number_of_name field flights) UNKNOWN_FLIGHT (λ l. Ok (Some (place.Flies l)))
 
 -- a value that is read goes on
 abbrev pub read_on : {A B : Type 0} → Result A ℕ → (A → Result B ℕ) → Result B ℕ
@@ -77,7 +77,7 @@ tail_read fleets stations flights header earlier fields =
     well_formed (at_form_of at) (λ _.
     refused_where (is_among tail earlier) DUPLICATE
     (read_on (at_of stations flights at) (λ p.
-    known (number_of fleet fleets) UNKNOWN_FLEET (λ f.
+    known (number_of_name fleet fleets) UNKNOWN_FLEET (λ f.
     refused_where (nat_le MAX_TAILS (length earlier)) TOO_MANY
     (Ok (record { name = tail; fleet = f; left = nights; at = p })))))))))))
 

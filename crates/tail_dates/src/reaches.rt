@@ -6,7 +6,7 @@ ghost use Rattle.fleet_model.specs.Schedule.{days_in, fleets_in};
 ghost use Rattle.fleet_model.specs.Use.{used_of};
 ghost use Rattle.ground_turns.specs.Maps.{IsTour, turn_after};
 ghost use Rattle.ground_turns.specs.Nights.{IsKeptFor, can_maintain, nights_in_turn, nights_of_tour};
-ghost use Rattle.lines_of_flying.specs.Lines.{AreLegs, BeginsAfterStart};
+ghost use Rattle.lines_of_flying.specs.Lines.{AreLegsOfTables, BeginsAfterStart};
 ghost use Rattle.tail_dates.specs.Late.{AreLessThan};
 ghost use Rattle.tail_dates.specs.Reaches.{AreReaches, IsReach, maintenance_nights, start_line};
 ghost use Rattle.tail_dates.specs.Rounds.{HasMaintenance};
@@ -82,7 +82,7 @@ fn maintenance_nights(
     tour: &[u32],
 ) -> Result<Vec<bool>, NoMemory>
     requires fleet { fleet < fleets_in tables.now }
-    requires known { AreLegs tables.now tour.now }
+    requires known { AreLegsOfTables tables.now tour.now }
     ensures { IfOk result (λ nights. nights.items ≡ maintenance_nights tables.now fleet tour.now) }
 {
     let mut nights = Vec::new(alloc);
@@ -101,7 +101,7 @@ fn push_nights(
     place: usize,
 ) -> Result<(), NoMemory>
     requires fleet { fleet < fleets_in tables.now }
-    requires known { AreLegs tables.now tour.now }
+    requires known { AreLegsOfTables tables.now tour.now }
     requires place { place < length tour.now }
     ensures { OnOk result (nights.new.items ≡ nights.old.items ++ map (can_maintain tables.now) (nights_in_turn tables.now fleet (turn_after tour.now place))) }
 {

@@ -5,7 +5,7 @@ ghost use Rattle.fleet_model.specs.Legal.{IsAssignment};
 ghost use Rattle.fleet_model.specs.Schedule.{days_in, fleets_in};
 ghost use Rattle.fleet_model.specs.Use.{used_of};
 ghost use Rattle.ground_turns.specs.Maps.{IsTour, turn_after};
-ghost use Rattle.lines_of_flying.specs.Lines.{AreLegs, BeginsAfterStart};
+ghost use Rattle.lines_of_flying.specs.Lines.{AreLegsOfTables, BeginsAfterStart};
 ghost use Rattle.tail_dates.specs.Places.{AreStartPlaces, places_in_turn, places_of_tour};
 
 use crate::place_numbers::number_of;
@@ -56,7 +56,7 @@ fn places_of_tour(
     tour: &[u32],
 ) -> Result<Vec<Place>, NoMemory>
     requires fleet { fleet < fleets_in tables.now }
-    requires known { AreLegs tables.now tour.now }
+    requires known { AreLegsOfTables tables.now tour.now }
     ensures { IfOk result (λ places. places.items ≡ places_of_tour tables.now fleet tour.now) }
 {
     let mut places = Vec::new(alloc);
@@ -75,7 +75,7 @@ fn push_turn(
     place: usize,
 ) -> Result<(), NoMemory>
     requires fleet { fleet < fleets_in tables.now }
-    requires known { AreLegs tables.now tour.now }
+    requires known { AreLegsOfTables tables.now tour.now }
     requires place { place < length tour.now }
     ensures { OnOk result (places.new.items ≡ places.old.items ++ places_in_turn tables.now fleet (turn_after tour.now place)) }
 {

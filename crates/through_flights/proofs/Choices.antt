@@ -11,14 +11,14 @@ use Rattle.fleet_model.specs.Counts.{weights_of}
 use Rattle.fleet_model.specs.Schedule.{fleets_in, legs_in}
 use Rattle.fleet_model.specs.Use.{IsBalanced}
 use Rattle.fleet_model.specs.Plain.{IsPlain}
-use Rattle.ground_turns.specs.Maps.{AreClean, HasTurn, IsHeld, turn_at}
-use Rattle.ground_turns.specs.Throughs.{IsThroughSet, IsThroughTurn, value_of, value_of_set}
+use Rattle.ground_turns.specs.Maps.{AreClean, HasTurn, IsHeldByMap, turn_at}
+use Rattle.ground_turns.specs.Throughs.{IsThroughSet, IsThroughTurn, through_value, value_of_set}
 use Rattle.ground_turns.proofs.Fits.{fits_where_clean}
 use Rattle.ground_turns.proofs.SomeMap.{some_fits}
 use Rattle.through_flights.specs.declared.worths.TheConstants.{CLEAN_WORTH}
-use Rattle.through_flights.specs.Choice.{AreListed, turns_below}
+use Rattle.through_flights.specs.Choice.{AreThroughsListed, turns_below}
 use Rattle.through_flights.specs.Chosen.{chosen_value, is_chosen}
-use Rattle.through_flights.specs.Worths.{AreTurnWorths, pair_of}
+use Rattle.through_flights.specs.Worths.{AreTurnWorths, through_pair}
 use Rattle.through_flights.proofs.CleanMatchings.{all_clean, goes_on}
 use Rattle.through_flights.proofs.FittingMaps.{fitting, has, turns}
 use Rattle.through_flights.proofs.Followers.{AreFollowers, are_followers, follower}
@@ -32,7 +32,7 @@ fails_at_most a b e = grind (arith, nat_tests)
 pub matched_followers : (t : Tables) (a : List ℕ) (f : ℕ) (worths : List (List ℕ)) (rows columns next : ℕ → ℕ) → IsPlain t → IsBalanced t (weights_of a) → f < fleets_in t
     → AreTurnWorths t a f worths → IsOneToOne next (length worths) → AreDuals worths rows columns → AreTight worths rows columns next (length worths) → AreFollowers t a f next
 matched_followers t a f worths rows columns next plain balanced f_lt w one duals tight =
-    let held : IsHeld t a f [] = some_fits t a f plain balanced f_lt in
+    let held : IsHeldByMap t a f [] = some_fits t a f plain balanced f_lt in
     let clean : AreClean t a f held.turns = (fits_where_clean t a f held.turns held.fitting.map).0 held.fitting in
     let known = are_followers t a f held.turns held.fitting.map clean in
     let here : IsOneToOne next (legs_in t) = subst (IsOneToOne next) w.size one in
@@ -49,7 +49,7 @@ module _ (t : Tables) (a : List ℕ) (f : ℕ) (worths : List (List ℕ)) (colum
   chosen : List Connection
   chosen = turns_below (is_chosen worths columns) (slice_index columns) (legs_in t)
 
-  a_through : (l : ℕ) → l < legs_in t → is_chosen worths columns l ≡ true → IsThroughTurn t a f (pair_of l (slice_index columns l))
+  a_through : (l : ℕ) → l < legs_in t → is_chosen worths columns l ≡ true → IsThroughTurn t a f (through_pair l (slice_index columns l))
   a_through l lt e = (w.each l (slice_index columns l) lt (known.one_to_one.within l lt)).above (ltb-true _ _ e)
 
   entry : (k : ℕ) → k < length chosen → IsListed (is_chosen worths columns) (slice_index columns) (legs_in t) (turn_at chosen k)
@@ -87,20 +87,20 @@ module _ (t : Tables) (a : List ℕ) (f : ℕ) (worths : List (List ℕ)) (colum
   }
 
   -- the value of a chosen leg's pair
-  worth_is : (l : ℕ) → l < legs_in t → is_chosen worths columns l ≡ true → unwrap_or (value_of t (pair_of l (slice_index columns l))) (pos 0) ≡ pos (chosen_value worths columns l)
+  worth_is : (l : ℕ) → l < legs_in t → is_chosen worths columns l ≡ true → unwrap_or (through_value t (through_pair l (slice_index columns l))) (pos 0) ≡ pos (chosen_value worths columns l)
   worth_is l lt e =
       let through = (w.each l (slice_index columns l) lt (known.one_to_one.within l lt)).through (a_through l lt e) in
-      value _ _ _ through refl (listed_some t (pair_of l (slice_index columns l)))
+      value _ _ _ through refl (listed_some t (through_pair l (slice_index columns l)))
     where
       value : (worth listed : ℕ) (z : ℤ) → worth ≡ CLEAN_WORTH + listed → listed ≡ unsigned_abs z → pos 0 ≤ℤ z → z ≡ pos (worth - CLEAN_WORTH)
       value worth listed z e g some = omega (arith, ints)
 
-  listed : AreListed t chosen
+  listed : AreThroughsListed t chosen
   listed = record {
     rising = rise;
     above = λ k lt.
         let e = entry k lt in
-        subst (λ turn. pos 0 <ℤ unwrap_or (value_of t turn) (pos 0)) (sym e.is)
+        subst (λ turn. pos 0 <ℤ unwrap_or (through_value t turn) (pos 0)) (sym e.is)
         (subst (λ z. pos 0 <ℤ z) (sym (worth_is e.leg e.within e.passing)) (more _ _ (ltb-true _ _ e.passing)));
   }
     where
@@ -115,9 +115,9 @@ module _ (t : Tables) (a : List ℕ) (f : ℕ) (worths : List (List ℕ)) (colum
   unfolding chosen
   through_set pairs n size e = subst (IsThroughSet t a f) (sym (e ∙ ap (turns_below (is_chosen worths columns) (slice_index columns)) size)) is_set
 
-  pub are_listed : (pairs : List Connection) (n : ℕ) → n ≡ legs_in t → pairs ≡ turns_below (is_chosen worths columns) (slice_index columns) n → AreListed t pairs
+  pub are_listed : (pairs : List Connection) (n : ℕ) → n ≡ legs_in t → pairs ≡ turns_below (is_chosen worths columns) (slice_index columns) n → AreThroughsListed t pairs
   unfolding chosen
-  are_listed pairs n size e = subst (AreListed t) (sym (e ∙ ap (turns_below (is_chosen worths columns) (slice_index columns)) size)) listed
+  are_listed pairs n size e = subst (AreThroughsListed t) (sym (e ∙ ap (turns_below (is_chosen worths columns) (slice_index columns)) size)) listed
 
   pub set_value : (pairs : List Connection) (n : ℕ) (value : ℤ) → n ≡ legs_in t → pairs ≡ turns_below (is_chosen worths columns) (slice_index columns) n
       → value ≡ pos (sum_below (chosen_value worths columns) n) → value ≡ value_of_set t pairs

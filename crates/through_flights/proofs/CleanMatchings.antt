@@ -11,7 +11,7 @@ use Rattle.fleet_model.specs.declared.tables.Tables.{Tables}
 use Rattle.fleet_model.specs.Counts.{choice_at}
 use Rattle.fleet_model.specs.Schedule.{legs_in}
 use Rattle.through_flights.specs.declared.worths.TheConstants.{CLEAN_WORTH, MAX_VALUE}
-use Rattle.through_flights.specs.Worths.{AreTurnWorths, IsTurnWorth, pair_of}
+use Rattle.through_flights.specs.Worths.{AreTurnWorths, IsTurnWorth, through_pair}
 use Rattle.through_flights.proofs.Followers.{AreFollowers, GoesOn}
 
 constant : (c n : ℕ) → sum_below (λ k. c) n ≡ n * c
@@ -75,7 +75,7 @@ all_clean t a f worths rows columns next follower w one duals tight known leg lt
         chain a b c d e p q = omega arith
 
 -- so each leg of the fleet goes on in a clean turn
-pub goes_on : (t : Tables) (a : List ℕ) (f : ℕ) (pair_worth leg next : ℕ) → IsTurnWorth t a f (pair_of leg next) pair_worth → pair_worth ≢ 0 → GoesOn t a f leg next
+pub goes_on : (t : Tables) (a : List ℕ) (f : ℕ) (pair_worth leg next : ℕ) → IsTurnWorth t a f (through_pair leg next) pair_worth → pair_worth ≢ 0 → GoesOn t a f leg next
 goes_on t a f pair_worth leg next w some = elim w.known [
   | inl none ↦ absurd (some none)
   | inr rest ↦ elim rest [

@@ -11,7 +11,7 @@ use Rattle.ground_turns.specs.Turns.{IsClean}
 use Rattle.ground_turns.proofs.Fits.{fits_where_clean}
 use Rattle.ground_turns.proofs.FleetTurns.{each_turn, next_is_map}
 use Rattle.ground_turns.proofs.Totals.{some_counted}
-use Rattle.through_flights.specs.Worths.{pair_of}
+use Rattle.through_flights.specs.Worths.{through_pair}
 use Rattle.through_flights.proofs.Followers.{AreFollowers, weight_one}
 
 module _ (t : Tables) (a : List ℕ) (f : ℕ) (next : ℕ → ℕ) (known : AreFollowers t a f next) where
@@ -36,7 +36,7 @@ module _ (t : Tables) (a : List ℕ) (f : ℕ) (next : ℕ → ℕ) (known : Are
   unfolding turns
   goes_by_next = each_turn a f next (λ turn. turn.departing ≡ next turn.arriving) (legs_in t) (λ l lt own. refl)
 
-  pub has : (l : ℕ) → l < legs_in t → choice_at a l ≡ f → HasTurn turns (pair_of l (next l))
+  pub has : (l : ℕ) → l < legs_in t → choice_at a l ≡ f → HasTurn turns (through_pair l (next l))
   has l lt own =
       let counted : arrivals_of turns l ≡ 1 = map.arrives l lt ∙ weight_one _ _ own in
       let found = some_counted (λ k. (turn_at turns k).arriving == l) (length turns) (one_is_some _ counted) in
@@ -44,5 +44,5 @@ module _ (t : Tables) (a : List ℕ) (f : ℕ) (next : ℕ → ℕ) (known : Are
       record {
         place = found.0;
         within = found.1;
-        there = ap (λ x. pair_of x (turn_at turns found.0).departing) same ∙ ap (pair_of l) (goes_by_next found.0 found.1 ∙ ap next same);
+        there = ap (λ x. through_pair x (turn_at turns found.0).departing) same ∙ ap (through_pair l) (goes_by_next found.0 found.1 ∙ ap next same);
       }

@@ -13,11 +13,11 @@ use Rattle.fleet_model.specs.Plain.{IsPlain}
 use Rattle.ground_turns.specs.Maps.{AreClean, IsSuccessorMap, arrivals_of, departures_of, turn_at}
 use Rattle.ground_turns.proofs.FleetTurns.{pick, picked}
 use Rattle.ground_turns.proofs.Totals.{some_counted}
-use Rattle.through_flights.specs.Worths.{IsCleanTurn, pair_of}
+use Rattle.through_flights.specs.Worths.{IsCleanTurn, through_pair}
 
 -- a leg of the fleet goes on in a clean turn, and another one stands at itself
 pub record GoesOn (t : Tables) (a : List ℕ) (f leg next : ℕ) : Type 0 where
-  pub own : choice_at a leg ≡ f → IsCleanTurn t a f (pair_of leg next)
+  pub own : choice_at a leg ≡ f → IsCleanTurn t a f (through_pair leg next)
   pub other : choice_at a leg ≢ f → leg ≡ next
 
 -- on plain tables each leg goes on, no two with one leg
@@ -67,8 +67,8 @@ module _ (t : Tables) (a : List ℕ) (f : ℕ) (turns : List Connection) where
     goes_on l lt = record {
       own = λ own.
           let there = placed l lt own in
-          let same : turn_at turns (place l) ≡ pair_of l (follower l) =
-          ap (λ x. pair_of x (turn_at turns (place l)).departing) there.1 ∙ ap (pair_of l) (sym (own_follower l own)) in
+          let same : turn_at turns (place l) ≡ through_pair l (follower l) =
+          ap (λ x. through_pair x (turn_at turns (place l)).departing) there.1 ∙ ap (through_pair l) (sym (own_follower l own)) in
           subst (IsCleanTurn t a f) same (record { turn = map.each (place l) there.0; clean = clean.each (place l) there.0 });
       other = λ ne. sym (other_follower l ne);
     }

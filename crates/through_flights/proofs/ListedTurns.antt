@@ -10,16 +10,16 @@ use Rattle.sums.proofs.Naturals.{at_end, below_next, less_alike, plus_0}
 use Rattle.fleet_model.specs.declared.parts.Connection.{Connection}
 use Rattle.fleet_model.specs.declared.tables.Tables.{Tables}
 use Rattle.ground_turns.specs.Maps.{no_turn, turn_at}
-use Rattle.ground_turns.specs.Throughs.{value_of, worth_at}
+use Rattle.ground_turns.specs.Throughs.{through_value, through_worth_at}
 use Rattle.through_flights.specs.Choice.{turns_below}
-use Rattle.through_flights.specs.Worths.{pair_of}
+use Rattle.through_flights.specs.Worths.{through_pair}
 
 -- an entry is the turn of a leg that passes
 pub record IsListed (passes : ℕ → Bool) (next : ℕ → ℕ) (n : ℕ) (turn : Connection) : Type 0 where
   pub leg : ℕ
   pub within : leg < n
   pub passing : passes leg ≡ true
-  pub is : turn ≡ pair_of leg (next leg)
+  pub is : turn ≡ through_pair leg (next leg)
 
 append_one : (xs : List Connection) (y : Connection) (k : ℕ) → k < length (xs ++ y ∷ []) → length xs ≤ k → turn_at (xs ++ y ∷ []) k ≡ y
 append_one xs y k lt ge =
@@ -34,11 +34,11 @@ each_listed passes next zero k lt = absurd (omega arith)
 each_listed passes next (suc n) k lt = by_last (passes n) refl (each_listed passes next n) lt
   where
     by_last : (b : Bool) → passes n ≡ b → ((j : ℕ) → j < length (turns_below passes next n) → IsListed passes next n (turn_at (turns_below passes next n) j))
-        → k < length (turns_below passes next n ++ (if b then pair_of n (next n) ∷ [] else []))
-        → IsListed passes next (suc n) (turn_at (turns_below passes next n ++ (if b then pair_of n (next n) ∷ [] else [])) k)
+        → k < length (turns_below passes next n ++ (if b then through_pair n (next n) ∷ [] else []))
+        → IsListed passes next (suc n) (turn_at (turns_below passes next n ++ (if b then through_pair n (next n) ∷ [] else [])) k)
     by_last true e before lt = elim (cases_lt k (length (turns_below passes next n))) [
-      | inl less ↦ wider passes next n _ _ (get_or-append (turns_below passes next n) (pair_of n (next n) ∷ []) no_turn k less) (before k less)
-      | inr ge ↦ record { leg = n; within = last n; passing = e; is = append_one (turns_below passes next n) (pair_of n (next n)) k lt ge }
+      | inl less ↦ wider passes next n _ _ (get_or-append (turns_below passes next n) (through_pair n (next n) ∷ []) no_turn k less) (before k less)
+      | inr ge ↦ record { leg = n; within = last n; passing = e; is = append_one (turns_below passes next n) (through_pair n (next n)) k lt ge }
     ]
       where
         last : (n : ℕ) → n < suc n
@@ -60,16 +60,16 @@ rising passes next (suc n) j k order lt = by_last (passes n) (rising passes next
 
     by_last : (b : Bool) → ((j k : ℕ) → j < k → k < length (turns_below passes next n) → (turn_at (turns_below passes next n) j).arriving < (turn_at (turns_below passes next n) k).arriving)
         → ((j : ℕ) → j < length (turns_below passes next n) → IsListed passes next n (turn_at (turns_below passes next n) j))
-        → k < length (turns_below passes next n ++ (if b then pair_of n (next n) ∷ [] else []))
-        → (turn_at (turns_below passes next n ++ (if b then pair_of n (next n) ∷ [] else [])) j).arriving
-        < (turn_at (turns_below passes next n ++ (if b then pair_of n (next n) ∷ [] else [])) k).arriving
+        → k < length (turns_below passes next n ++ (if b then through_pair n (next n) ∷ [] else []))
+        → (turn_at (turns_below passes next n ++ (if b then through_pair n (next n) ∷ [] else [])) j).arriving
+        < (turn_at (turns_below passes next n ++ (if b then through_pair n (next n) ∷ [] else [])) k).arriving
     by_last true before listed lt = elim (cases_lt k (length (turns_below passes next n))) [
-      | inl less ↦ less_alike _ _ _ _ (ap (λ x. x.arriving) (get_or-append (turns_below passes next n) (pair_of n (next n) ∷ []) no_turn j (lt_trans order less)))
-          (ap (λ x. x.arriving) (get_or-append (turns_below passes next n) (pair_of n (next n) ∷ []) no_turn k less)) (before j k order less)
+      | inl less ↦ less_alike _ _ _ _ (ap (λ x. x.arriving) (get_or-append (turns_below passes next n) (through_pair n (next n) ∷ []) no_turn j (lt_trans order less)))
+          (ap (λ x. x.arriving) (get_or-append (turns_below passes next n) (through_pair n (next n) ∷ []) no_turn k less)) (before j k order less)
       | inr ge ↦
-          let less : j < length (turns_below passes next n) = earlier _ _ _ _ order lt (length-append (turns_below passes next n) (pair_of n (next n) ∷ [])) in
-          less_alike _ _ _ _ (ap (λ x. x.arriving) (get_or-append (turns_below passes next n) (pair_of n (next n) ∷ []) no_turn j less))
-          (ap (λ x. x.arriving) (append_one (turns_below passes next n) (pair_of n (next n)) k lt ge)) (before_n _ (listed j less))
+          let less : j < length (turns_below passes next n) = earlier _ _ _ _ order lt (length-append (turns_below passes next n) (through_pair n (next n) ∷ [])) in
+          less_alike _ _ _ _ (ap (λ x. x.arriving) (get_or-append (turns_below passes next n) (through_pair n (next n) ∷ []) no_turn j less))
+          (ap (λ x. x.arriving) (append_one (turns_below passes next n) (through_pair n (next n)) k lt ge)) (before_n _ (listed j less))
     ]
       where
         earlier : (j k a b : ℕ) → j < k → k < a → a ≡ b + 1 → j < b
@@ -84,39 +84,39 @@ rising passes next (suc n) j k order lt = by_last (passes n) (rising passes next
 
 -- the values of a list of turns
 values : Tables → List Connection → ℤ
-values t turns = sum_below_ℤ (worth_at t turns) (length turns)
+values t turns = sum_below_ℤ (through_worth_at t turns) (length turns)
 
 value : Tables → Connection → ℤ
-value t turn = unwrap_or (value_of t turn) (pos 0)
+value t turn = unwrap_or (through_value t turn) (pos 0)
 
 values_one : (t : Tables) (xs : List Connection) (y : Connection) → values t (xs ++ y ∷ []) ≡ values t xs +ℤ value t y
 unfolding values value
 values_one t xs y =
-    ap (sum_below_ℤ (worth_at t (xs ++ y ∷ []))) (length-append xs (y ∷ []) ∙ add-one (length xs))
-    ∙ ap (λ z. z +ℤ unwrap_or (value_of t (turn_at (xs ++ y ∷ []) (length xs))) (pos 0))
-    (sum_below_ℤ-same (worth_at t (xs ++ y ∷ [])) (worth_at t xs) (length xs) (λ k lt. ap (λ turn. unwrap_or (value_of t turn) (pos 0)) (get_or-append xs (y ∷ []) no_turn k lt)))
-    ∙ ap (λ turn. sum_below_ℤ (worth_at t xs) (length xs) +ℤ unwrap_or (value_of t turn) (pos 0)) (get_or-append_seam xs y [] no_turn)
+    ap (sum_below_ℤ (through_worth_at t (xs ++ y ∷ []))) (length-append xs (y ∷ []) ∙ add-one (length xs))
+    ∙ ap (λ z. z +ℤ unwrap_or (through_value t (turn_at (xs ++ y ∷ []) (length xs))) (pos 0))
+    (sum_below_ℤ-same (through_worth_at t (xs ++ y ∷ [])) (through_worth_at t xs) (length xs) (λ k lt. ap (λ turn. unwrap_or (through_value t turn) (pos 0)) (get_or-append xs (y ∷ []) no_turn k lt)))
+    ∙ ap (λ turn. sum_below_ℤ (through_worth_at t xs) (length xs) +ℤ unwrap_or (through_value t turn) (pos 0)) (get_or-append_seam xs y [] no_turn)
 
 values_none : (t : Tables) (xs : List Connection) → values t (xs ++ []) ≡ values t xs
 unfolding values
 values_none t xs =
-    ap (sum_below_ℤ (worth_at t (xs ++ []))) (length-append xs [] ∙ plus_0 (length xs))
-    ∙ sum_below_ℤ-same (worth_at t (xs ++ [])) (worth_at t xs) (length xs) (λ k lt. ap (λ turn. unwrap_or (value_of t turn) (pos 0)) (get_or-append xs [] no_turn k lt))
+    ap (sum_below_ℤ (through_worth_at t (xs ++ []))) (length-append xs [] ∙ plus_0 (length xs))
+    ∙ sum_below_ℤ-same (through_worth_at t (xs ++ [])) (through_worth_at t xs) (length xs) (λ k lt. ap (λ turn. unwrap_or (through_value t turn) (pos 0)) (get_or-append xs [] no_turn k lt))
 
 -- the turns are worth what the legs' pairs are
 pub values_below : (t : Tables) (passes : ℕ → Bool) (next worth : ℕ → ℕ) (n : ℕ)
-    → ((l : ℕ) → l < n → passes l ≡ true → unwrap_or (value_of t (pair_of l (next l))) (pos 0) ≡ pos (worth l))
+    → ((l : ℕ) → l < n → passes l ≡ true → unwrap_or (through_value t (through_pair l (next l))) (pos 0) ≡ pos (worth l))
     → ((l : ℕ) → l < n → passes l ≡ false → worth l ≡ 0)
-    → sum_below_ℤ (worth_at t (turns_below passes next n)) (length (turns_below passes next n)) ≡ pos (sum_below worth n)
+    → sum_below_ℤ (through_worth_at t (turns_below passes next n)) (length (turns_below passes next n)) ≡ pos (sum_below worth n)
 unfolding values value
 values_below t passes next worth zero chosen rest = refl
 values_below t passes next worth (suc n) chosen rest =
     by_last (passes n) (values_below t passes next worth n (λ l lt. chosen l (omega arith)) (λ l lt. rest l (omega arith))) (chosen n (omega arith)) (rest n (omega arith))
   where
     by_last : (b : Bool) → values t (turns_below passes next n) ≡ pos (sum_below worth n)
-        → (b ≡ true → value t (pair_of n (next n)) ≡ pos (worth n)) → (b ≡ false → worth n ≡ 0)
-        → values t (turns_below passes next n ++ (if b then pair_of n (next n) ∷ [] else [])) ≡ pos (sum_below worth n + worth n)
-    by_last true before here none = values_one t (turns_below passes next n) (pair_of n (next n)) ∙ add _ _ _ _ before (here refl)
+        → (b ≡ true → value t (through_pair n (next n)) ≡ pos (worth n)) → (b ≡ false → worth n ≡ 0)
+        → values t (turns_below passes next n ++ (if b then through_pair n (next n) ∷ [] else [])) ≡ pos (sum_below worth n + worth n)
+    by_last true before here none = values_one t (turns_below passes next n) (through_pair n (next n)) ∙ add _ _ _ _ before (here refl)
       where
         add : (x y : ℤ) (a b : ℕ) → x ≡ pos a → y ≡ pos b → x +ℤ y ≡ pos (a + b)
         add x y a b e f = omega (arith, ints)

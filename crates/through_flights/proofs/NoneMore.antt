@@ -15,11 +15,11 @@ use Rattle.fleet_model.specs.declared.tables.Tables.{Tables}
 use Rattle.fleet_model.specs.Counts.{choice_at, weights_of}
 use Rattle.fleet_model.specs.Schedule.{leg_on, legs_in}
 use Rattle.ground_turns.specs.Maps.{AreClean, IsSuccessorMap, arrivals_of, departures_of, turn_at}
-use Rattle.ground_turns.specs.Throughs.{IsThroughSet, value_of, value_of_set, worth_at}
+use Rattle.ground_turns.specs.Throughs.{IsThroughSet, through_value, through_worth_at, value_of_set}
 use Rattle.ground_turns.proofs.Fits.{fits_where_clean}
 use Rattle.ground_turns.proofs.FleetTurns.{pick, picked}
 use Rattle.through_flights.proofs.Followers.{weight_one}
-use Rattle.through_flights.specs.Choice.{NoneIsWorthMore, ReachTurns, number_at, sum_of}
+use Rattle.through_flights.specs.Choice.{NoSetIsWorthMore, ReachTurns, leg_number, sum_of}
 
 -- one value as often as a test passes
 as_often : (p : ℕ → Bool) (value : ℤ) (n : ℕ) → sum_below_ℤ (λ k. where_true (p k) value) n ≡ pos (count_below p n) *ℤ value
@@ -40,10 +40,10 @@ by_place f place places count within =
     (λ s lt. as_often (λ k. place k == s) (f s) count)
 
 -- numbers of the fleet's legs, each as often as the leg stands in the map, sum to all numbers
-own_sum : (a : List ℕ) (f n : ℕ) (numbers : List ℤ) (times : ℕ → ℕ) → ((l : ℕ) → l < n → times l ≡ weights_of a (leg_on l f)) → ((l : ℕ) → l < n → choice_at a l ≢ f → number_at numbers l ≡ pos 0)
-    → sum_below_ℤ (λ l. pos (times l) *ℤ number_at numbers l) n ≡ sum_of numbers n
-own_sum a f n numbers times counts others = sum_below_ℤ-same (λ l. pos (times l) *ℤ number_at numbers l) (number_at numbers) n (λ l lt. elim (cases_eq (choice_at a l) f) [
-  | inl own ↦ ap (λ m. pos m *ℤ number_at numbers l) (counts l lt ∙ weight_one _ _ own) ∙ one-*ℤ (number_at numbers l)
+own_sum : (a : List ℕ) (f n : ℕ) (numbers : List ℤ) (times : ℕ → ℕ) → ((l : ℕ) → l < n → times l ≡ weights_of a (leg_on l f)) → ((l : ℕ) → l < n → choice_at a l ≢ f → leg_number numbers l ≡ pos 0)
+    → sum_below_ℤ (λ l. pos (times l) *ℤ leg_number numbers l) n ≡ sum_of numbers n
+own_sum a f n numbers times counts others = sum_below_ℤ-same (λ l. pos (times l) *ℤ leg_number numbers l) (leg_number numbers) n (λ l lt. elim (cases_eq (choice_at a l) f) [
+  | inl own ↦ ap (λ m. pos m *ℤ leg_number numbers l) (counts l lt ∙ weight_one _ _ own) ∙ one-*ℤ (leg_number numbers l)
   | inr ne ↦ ap (λ z. pos (times l) *ℤ z) (others l lt ne) ∙ *ℤ_comm (pos (times l)) (pos 0) ∙ zero-*ℤ (pos (times l)) ∙ sym (others l lt ne)
 ])
 
@@ -76,7 +76,7 @@ module _ (t : Tables) (a : List ℕ) (f : ℕ) (u v : List ℤ) (pairs : List Co
 
   -- what the numbers sum to at a turn of the map
   at_turn : ℕ → ℤ
-  at_turn k = number_at u (turn_at turns k).arriving +ℤ number_at v (turn_at turns k).departing
+  at_turn k = leg_number u (turn_at turns k).arriving +ℤ leg_number v (turn_at turns k).departing
 
   arrives_with : ℕ → ℕ → Bool
   arrives_with j k = (turn_at turns k).arriving == (turn_at pairs j).arriving
@@ -113,12 +113,12 @@ module _ (t : Tables) (a : List ℕ) (f : ℕ) (u v : List ℤ) (pairs : List Co
   unfolding at_turn
   some_at_turn k lt = reach.clean (turn_at turns k) (map.each k lt) (clean.each k lt)
 
-  worth_at_turn : (j : ℕ) → j < length pairs → worth_at t pairs j ≤ℤ at_turn (place j)
+  worth_at_turn : (j : ℕ) → j < length pairs → through_worth_at t pairs j ≤ℤ at_turn (place j)
   unfolding at_turn
   worth_at_turn j lt =
       let through = set.each j lt in
-      subst (λ turn. worth_at t pairs j ≤ℤ (number_at u turn.arriving +ℤ number_at v turn.departing)) (sym (placed j lt).1)
-      (reach.through (turn_at pairs j) (worth_at t pairs j) through (known (value_of t (turn_at pairs j)) through.listed))
+      subst (λ turn. through_worth_at t pairs j ≤ℤ (leg_number u turn.arriving +ℤ leg_number v turn.departing)) (sym (placed j lt).1)
+      (reach.through (turn_at pairs j) (through_worth_at t pairs j) through (known (through_value t (turn_at pairs j)) through.listed))
     where
       known : (o : Option ℤ) → IsSome o → o ≡ Some (unwrap_or o (pos 0))
       known (Some z) some = refl
@@ -127,23 +127,23 @@ module _ (t : Tables) (a : List ℕ) (f : ℕ) (u v : List ℤ) (pairs : List Co
   all_turns : sum_below_ℤ at_turn (length turns) ≡ sum_of u (legs_in t) +ℤ sum_of v (legs_in t)
   unfolding at_turn
   all_turns =
-      sum_below_ℤ-+ℤ (λ k. number_at u (turn_at turns k).arriving) (λ k. number_at v (turn_at turns k).departing) (length turns)
-      ∙ ap (λ z. z +ℤ sum_below_ℤ (λ k. number_at v (turn_at turns k).departing) (length turns))
-      (by_place (number_at u) (λ k. (turn_at turns k).arriving) (legs_in t) (length turns) (λ k lt. (map.each k lt).arriving)
+      sum_below_ℤ-+ℤ (λ k. leg_number u (turn_at turns k).arriving) (λ k. leg_number v (turn_at turns k).departing) (length turns)
+      ∙ ap (λ z. z +ℤ sum_below_ℤ (λ k. leg_number v (turn_at turns k).departing) (length turns))
+      (by_place (leg_number u) (λ k. (turn_at turns k).arriving) (legs_in t) (length turns) (λ k lt. (map.each k lt).arriving)
       ∙ own_sum a f (legs_in t) u (arrivals_of turns) map.arrives (λ l lt ne. (reach.others l lt ne).0))
       ∙ ap (λ z. sum_of u (legs_in t) +ℤ z)
-      (by_place (number_at v) (λ k. (turn_at turns k).departing) (legs_in t) (length turns) (λ k lt. (map.each k lt).departing)
+      (by_place (leg_number v) (λ k. (turn_at turns k).departing) (legs_in t) (length turns) (λ k lt. (map.each k lt).departing)
       ∙ own_sum a f (legs_in t) v (departures_of turns) map.departs (λ l lt ne. (reach.others l lt ne).1))
 
   pub at_most : value_of_set t pairs ≤ℤ (sum_of u (legs_in t) +ℤ sum_of v (legs_in t))
   unfolding value_of_set
   at_most =
-      subst (λ z. sum_below_ℤ (worth_at t pairs) (length pairs) ≤ℤ z) all_turns
-      (chain _ _ _ (sum_below_ℤ-le (worth_at t pairs) (λ j. at_turn (place j)) (length pairs) worth_at_turn)
+      subst (λ z. sum_below_ℤ (through_worth_at t pairs) (length pairs) ≤ℤ z) all_turns
+      (chain _ _ _ (sum_below_ℤ-le (through_worth_at t pairs) (λ j. at_turn (place j)) (length pairs) worth_at_turn)
       (part_at_most at_turn place (length turns) (length pairs) some_at_turn (λ j lt. (placed j lt).0) placed_once))
     where
       chain : (x y z : ℤ) → x ≤ℤ y → y ≤ℤ z → x ≤ℤ z
       chain x y z p q = omega (arith, ints)
 
-pub none_more : NoneIsWorthMore
+pub none_more : NoSetIsWorthMore
 none_more t a f u v pairs reach set = at_most t a f u v pairs reach set

@@ -15,7 +15,7 @@ use Rattle.fleet_model.specs.Counts.{choice_at}
 use Rattle.fleet_model.specs.Schedule.{legs_in}
 use Rattle.ground_turns.specs.Turns.{IsTurn}
 use Rattle.through_flights.specs.declared.worths.TheConstants.{CLEAN_WORTH}
-use Rattle.through_flights.specs.Choice.{ReachTurns, number_at, sum_of}
+use Rattle.through_flights.specs.Choice.{ReachTurns, leg_number, sum_of}
 use Rattle.through_flights.specs.Chosen.{chosen_value, own_number}
 use Rattle.through_flights.specs.Worths.{AreTurnWorths}
 use Rattle.through_flights.proofs.Followers.{AreFollowers}
@@ -34,8 +34,8 @@ other_is a f duals less l ne = choice (choice_at a l == f) _ (ne_eqb _ _ ne)
     choice b x e = rw e
 
 number_is : (a : List ℕ) (f : ℕ) (duals : List ℕ) (less n : ℕ) (numbers : List ℤ) → numbers ≡ list_below (own_number a f duals less) n → (l : ℕ) → l < n
-    → number_at numbers l ≡ own_number a f duals less l
-number_is a f duals less n numbers e l lt = ap (λ xs. number_at xs l) e ∙ get_or-list_below (own_number a f duals less) n l (pos 0) lt
+    → leg_number numbers l ≡ own_number a f duals less l
+number_is a f duals less n numbers e l lt = ap (λ xs. leg_number xs l) e ∙ get_or-list_below (own_number a f duals less) n l (pos 0) lt
 
 pub numbers_reach : (t : Tables) (a : List ℕ) (f : ℕ) (worths : List (List ℕ)) (rows columns : List ℕ) (u v : List ℤ) → AreTurnWorths t a f worths
     → AreDuals worths (slice_index rows) (slice_index columns) → u ≡ list_below (own_number a f rows CLEAN_WORTH) (legs_in t)
@@ -53,9 +53,9 @@ numbers_reach t a f worths rows columns u v w duals u_is v_is = record {
 }
   where
     both : (pair : Connection) → IsTurn t a f pair
-        → number_at u pair.arriving +ℤ number_at v pair.departing ≡ (pos (slice_index rows pair.arriving) -ℤ pos CLEAN_WORTH) +ℤ (pos (slice_index columns pair.departing) -ℤ pos 0)
+        → leg_number u pair.arriving +ℤ leg_number v pair.departing ≡ (pos (slice_index rows pair.arriving) -ℤ pos CLEAN_WORTH) +ℤ (pos (slice_index columns pair.departing) -ℤ pos 0)
     both pair turn =
-        ap (λ z. z +ℤ number_at v pair.departing) (number_is a f rows CLEAN_WORTH (legs_in t) u u_is pair.arriving turn.arriving ∙ own_is a f rows CLEAN_WORTH pair.arriving turn.comes_on)
+        ap (λ z. z +ℤ leg_number v pair.departing) (number_is a f rows CLEAN_WORTH (legs_in t) u u_is pair.arriving turn.arriving ∙ own_is a f rows CLEAN_WORTH pair.arriving turn.comes_on)
         ∙ ap (λ z. (pos (slice_index rows pair.arriving) -ℤ pos CLEAN_WORTH) +ℤ z)
         (number_is a f columns 0 (legs_in t) v v_is pair.departing turn.departing ∙ own_is a f columns 0 pair.departing turn.leaves_on)
 
@@ -137,9 +137,9 @@ module _ (t : Tables) (a : List ℕ) (f : ℕ) (worths : List (List ℕ)) (rows 
       → sum_of u (legs_in t) +ℤ sum_of v (legs_in t) ≡ pos (sum_below (chosen_value worths next) (legs_in t))
   numbers_sum u v u_is v_is =
       add _ _ _ _ _ _
-      (sum_below_ℤ-same (number_at u) (λ l. pos (row_part l) -ℤ pos (clean_part l)) (legs_in t) (λ l lt. number_is a f rows CLEAN_WORTH (legs_in t) u u_is l lt ∙ u_parts l)
+      (sum_below_ℤ-same (leg_number u) (λ l. pos (row_part l) -ℤ pos (clean_part l)) (legs_in t) (λ l lt. number_is a f rows CLEAN_WORTH (legs_in t) u u_is l lt ∙ u_parts l)
       ∙ sum_below_ℤ-of_differences row_part clean_part (legs_in t))
-      (sum_below_ℤ-same (number_at v) (λ l. pos (column_part l)) (legs_in t) (λ l lt. number_is a f columns 0 (legs_in t) v v_is l lt ∙ v_parts l)
+      (sum_below_ℤ-same (leg_number v) (λ l. pos (column_part l)) (legs_in t) (λ l lt. number_is a f columns 0 (legs_in t) v v_is l lt ∙ v_parts l)
       ∙ sum_below_ℤ-pos column_part (legs_in t))
       parts_sum
     where

@@ -6,18 +6,18 @@ use Rattle.fleet_model.specs.declared.parts.Connection.{Connection}
 use Rattle.fleet_model.specs.declared.parts.Through.{Through}
 use Rattle.fleet_model.specs.declared.tables.Tables.{Tables}
 use Rattle.fleet_model.specs.Counts.{choice_at}
-use Rattle.ground_turns.specs.Throughs.{is_of, value_in, value_of}
+use Rattle.ground_turns.specs.Throughs.{is_through_of, through_value, through_value_in}
 use Rattle.through_flights.specs.declared.worths.TheConstants.{CLEAN_WORTH, MAX_VALUE}
 use Rattle.through_flights.specs.Worths.{IsCleanTurn, IsShort, IsTurnWorth, listed_value}
 
 -- a value that is found is that of an entry
 value_found : (P : ℤ → Type 0) (entries : List Through) (pair : Connection) → P (pos 0) → ((k : ℕ) (d : Through) → k < length entries → P (slice_index_or entries k d).value)
-    → P (unwrap_or (value_in entries pair) (pos 0))
+    → P (unwrap_or (through_value_in entries pair) (pos 0))
 value_found P [] pair none each = none
 value_found P (entry ∷ entries) pair none each =
-    either (is_of pair entry) (value_found P entries pair none (λ k d lt. each (suc k) d (omega arith)))
+    either (is_through_of pair entry) (value_found P entries pair none (λ k d lt. each (suc k) d (omega arith)))
   where
-    either : (b : Bool) → P (unwrap_or (value_in entries pair) (pos 0)) → P (unwrap_or (if b then Some entry.value else value_in entries pair) (pos 0))
+    either : (b : Bool) → P (unwrap_or (through_value_in entries pair) (pos 0)) → P (unwrap_or (if b then Some entry.value else through_value_in entries pair) (pos 0))
     either true rest = each 0 entry (omega arith)
     either false rest = rest
 
@@ -29,7 +29,7 @@ listed_small t pair = value_found (λ z. unsigned_abs z ≤ MAX_VALUE) t.through
     small : (z : ℤ) → pos 0 ≤ℤ z → z ≤ℤ MAX_COST → unsigned_abs z ≤ MAX_VALUE
     small z no_less no_more = omega (arith, ints)
 
-pub listed_some : (t : Tables) (pair : Connection) → pos 0 ≤ℤ unwrap_or (value_of t pair) (pos 0)
+pub listed_some : (t : Tables) (pair : Connection) → pos 0 ≤ℤ unwrap_or (through_value t pair) (pos 0)
 listed_some t pair = value_found (λ z. pos 0 ≤ℤ z) t.throughs pair (omega (arith, ints)) (λ k d lt. (t.in_range.throughs_fit.each k d lt).no_less)
 
 -- a pair with a value above 0 is listed
@@ -45,7 +45,7 @@ through_worth t a f pair value is clean short = record {
   idle = λ idle. absurd (idle.other clean.turn.comes_on);
   known = inr (inr clean);
   above = λ more. record {
-    listed = listed_above (value_of t pair) (positive _ _ is (omega arith));
+    listed = listed_above (through_value t pair) (positive _ _ is (omega arith));
     turn = clean.turn;
     clean = clean.clean;
     no_night = short.no_night;

@@ -5,14 +5,14 @@ use Rattle.fleet_model.specs.declared.parts.Connection.{Connection}
 use Rattle.fleet_model.specs.declared.tables.Tables.{Tables}
 use Rattle.fleet_model.specs.Counts.{choice_at}
 use Rattle.fleet_model.specs.Schedule.{legs_in}
-use Rattle.ground_turns.specs.Throughs.{IsThroughTurn, value_of}
+use Rattle.ground_turns.specs.Throughs.{IsThroughTurn, through_value}
 use Rattle.ground_turns.specs.Turns.{IsClean, IsTurn, nights_waited, wait_of}
 use Rattle.best_matching.specs.Worths.{worth_at}
 use Rattle.through_flights.specs.declared.worths.TheConstants.{CLEAN_WORTH, MAX_VALUE}
 
 -- what two legs are worth as a through pair, and 0 where they are none
 abbrev pub listed_value : Tables → Connection → ℕ
-listed_value t pair = unsigned_abs (unwrap_or (value_of t pair) (pos 0))
+listed_value t pair = unsigned_abs (unwrap_or (through_value t pair) (pos 0))
 
 pub record IsCleanTurn (t : Tables) (a : List ℕ) (f : ℕ) (pair : Connection) : Type 0 where
   pub turn : IsTurn t a f pair
@@ -24,7 +24,7 @@ pub record IsShort (t : Tables) (f : ℕ) (pair : Connection) : Type 0 where
   pub short : wait_of t f pair ≤ t.settings.through_max
 
 -- a leg of another fleet, at itself
-pub record IsIdle (a : List ℕ) (f : ℕ) (pair : Connection) : Type 0 where
+pub record IsIdleLeg (a : List ℕ) (f : ℕ) (pair : Connection) : Type 0 where
   pub other : choice_at a pair.arriving ≢ f
   pub itself : pair.arriving ≡ pair.departing
 
@@ -33,15 +33,15 @@ pub record IsIdle (a : List ℕ) (f : ℕ) (pair : Connection) : Type 0 where
 pub record IsTurnWorth (t : Tables) (a : List ℕ) (f : ℕ) (pair : Connection) (worth : ℕ) : Type 0 where
   pub clean : IsCleanTurn t a f pair → CLEAN_WORTH ≤ worth
   pub through : IsThroughTurn t a f pair → worth ≡ CLEAN_WORTH + listed_value t pair
-  pub idle : IsIdle a f pair → worth ≡ CLEAN_WORTH
-  pub known : (worth ≡ 0) ⊎ (IsIdle a f pair ⊎ IsCleanTurn t a f pair)
+  pub idle : IsIdleLeg a f pair → worth ≡ CLEAN_WORTH
+  pub known : (worth ≡ 0) ⊎ (IsIdleLeg a f pair ⊎ IsCleanTurn t a f pair)
   pub above : CLEAN_WORTH < worth → IsThroughTurn t a f pair
   pub most : worth ≤ CLEAN_WORTH + MAX_VALUE
 
-abbrev pub pair_of : ℕ → ℕ → Connection
-pair_of arriving departing = record { arriving = arriving; departing = departing }
+abbrev pub through_pair : ℕ → ℕ → Connection
+through_pair arriving departing = record { arriving = arriving; departing = departing }
 
 pub record AreTurnWorths (t : Tables) (a : List ℕ) (f : ℕ) (worths : List (List ℕ)) : Type 0 where
   pub size : length worths ≡ legs_in t
   pub square : (arriving : ℕ) → arriving < legs_in t → length (slice_index_or worths arriving []) ≡ legs_in t
-  pub each : (arriving departing : ℕ) → arriving < legs_in t → departing < legs_in t → IsTurnWorth t a f (pair_of arriving departing) (worth_at worths arriving departing)
+  pub each : (arriving departing : ℕ) → arriving < legs_in t → departing < legs_in t → IsTurnWorth t a f (through_pair arriving departing) (worth_at worths arriving departing)

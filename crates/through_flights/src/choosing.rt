@@ -8,7 +8,7 @@ ghost use Rattle.fleet_model.specs.Legal.{IsLegal};
 ghost use Rattle.fleet_model.specs.Schedule.{fleets_in, legs_in};
 ghost use Rattle.fleet_model.specs.Plain.{IsPlain};
 ghost use Rattle.ground_turns.specs.Throughs.{IsThroughSet, value_of_set};
-ghost use Rattle.through_flights.specs.Choice.{AreListed, IsChoice, ReachTurns, sum_of, turns_below};
+ghost use Rattle.through_flights.specs.Choice.{AreThroughsListed, IsChoice, ReachTurns, sum_of, turns_below};
 ghost use Rattle.through_flights.specs.Chosen.{IsBestMatching, chosen_value, is_chosen, own_number};
 ghost use Rattle.through_flights.specs.Worths.{AreTurnWorths};
 ghost use Rattle.through_flights.specs.declared.worths.TheConstants.{CLEAN_WORTH, MAX_VALUE};
@@ -46,7 +46,7 @@ pub fn choose(
     requires plan { IsLegal tables.now plan.now }
     requires fleet { fleet < fleets_in tables.now }
     ensures through_set { IfOk result (λ chosen. IsThroughSet tables.now plan.now fleet chosen.pairs) }
-    ensures listed { IfOk result (λ chosen. AreListed tables.now chosen.pairs) }
+    ensures listed { IfOk result (λ chosen. AreThroughsListed tables.now chosen.pairs) }
     ensures value { IfOk result (λ chosen. chosen.value ≡ value_of_set tables.now chosen.pairs) }
     ensures reach { IfOk result (λ chosen. ReachTurns tables.now plan.now fleet chosen.u chosen.v) }
     ensures sums { IfOk result (λ chosen. sum_of chosen.u (legs_in tables.now) +ℤ sum_of chosen.v (legs_in tables.now) ≡ chosen.value) }

@@ -1,12 +1,12 @@
 //! The laws of the choice. Each function is a law: its contract is the statement, and it does nothing.
 ghost use Rattle.std.specs.Prelude.{◌≡◌};
-ghost use Rattle.through_flights.specs.Choice.{NoneIsWorthMore};
+ghost use Rattle.through_flights.specs.Choice.{NoSetIsWorthMore};
 ghost use Rattle.through_flights.specs.declared.worths.TheConstants.{CLEAN_WORTH, MAX_VALUE};
 
 /// No through set of a fleet is worth more than numbers sum to that reach its turns, and so none is worth more than the
 /// pairs that are chosen.
 pub fn none_is_worth_more()
-    ensures { NoneIsWorthMore }
+    ensures { NoSetIsWorthMore }
 {}
 
 /// What a clean turn is worth, and the greatest sum of through values, in numbers.

@@ -2,7 +2,7 @@
 ghost use Rattle.std.specs.Prelude.{◌≡◌, ◌<◌, ℕ, length, slice_index, IfOk};
 ghost use Rattle.sums.specs.Places.{list_below};
 ghost use Rattle.fleet_model.specs.Schedule.{legs_in};
-ghost use Rattle.through_flights.specs.Worths.{listed_value, pair_of};
+ghost use Rattle.through_flights.specs.Worths.{listed_value, through_pair};
 
 use entries::{Entries, NoMemory};
 use fleet_model::Tables;
@@ -11,7 +11,7 @@ use std::alloc::Global;
 /// What a leg is worth as a through pair with each leg after it, and 0 where they are none.
 pub fn values_from(alloc: Global, tables: &Tables, arriving: u32) -> Result<Entries<u64>, NoMemory>
     ensures size { IfOk result (λ values. length values ≡ legs_in tables.now) }
-    ensures each { IfOk result (λ values. (departing : ℕ) → departing < legs_in tables.now → slice_index values departing ≡ listed_value tables.now (pair_of arriving departing)) }
+    ensures each { IfOk result (λ values. (departing : ℕ) → departing < legs_in tables.now → slice_index values departing ≡ listed_value tables.now (through_pair arriving departing)) }
 {
     let mut values = zeros(alloc, tables.legs.len())?;
     let entries = tables.throughs.as_slice();

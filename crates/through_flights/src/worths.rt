@@ -3,7 +3,7 @@ ghost use Rattle.std.specs.Prelude.{◌≡◌, ◌<◌, ◌↔◌, ℕ, IsTrue, 
 ghost use Rattle.fleet_model.specs.Counts.{choice_at};
 ghost use Rattle.fleet_model.specs.Schedule.{legs_in};
 ghost use Rattle.through_flights.specs.Known.{AreFleetTurns};
-ghost use Rattle.through_flights.specs.Worths.{AreTurnWorths, IsCleanTurn, IsShort, IsTurnWorth, listed_value, pair_of};
+ghost use Rattle.through_flights.specs.Worths.{AreTurnWorths, IsCleanTurn, IsShort, IsTurnWorth, listed_value, through_pair};
 
 use crate::values::values_from;
 use entries::{Entries, NoMemory};
@@ -48,7 +48,7 @@ fn turn_worths_from(
     requires arriving { arriving < legs_in turns.now.tables.now }
     ensures size { IfOk result (λ worths. length worths ≡ legs_in turns.now.tables.now) }
     ensures each { IfOk result (λ worths. (departing : ℕ) → departing < legs_in turns.now.tables.now
-        → IsTurnWorth turns.now.tables.now turns.now.plan.now turns.now.fleet (pair_of arriving departing) (slice_index worths departing)) }
+        → IsTurnWorth turns.now.tables.now turns.now.plan.now turns.now.fleet (through_pair arriving departing) (slice_index worths departing)) }
 {
     let values = values_from(alloc, turns.tables, arriving)?;
     let mut worths = Vec::new(alloc);

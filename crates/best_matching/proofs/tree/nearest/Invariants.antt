@@ -1,10 +1,10 @@
 use Rattle.std.proofs.Common.{◌<◌, ◌≤◌, ℕ, length}
-use Rattle.best_matching.specs.Trees.{gap_at, turn_at}
+use Rattle.best_matching.specs.Trees.{gap_at, turn_of_column}
 use Rattle.best_matching.proofs.tree.nearest.Given as goal
 
 abbrev pub invariant-loop-column : goal.invariant-loop-column
 invariant-loop-column l = record {
   within : l.nearest < length l.tree.turns;
-  outside : length l.tree.turns ≤ turn_at l.tree l.nearest;
-  least : (column : ℕ) → column < l.column → length l.tree.turns ≤ turn_at l.tree column → gap_at l.tree l.nearest ≤ gap_at l.tree column;
+  outside : length l.tree.turns ≤ turn_of_column l.tree l.nearest;
+  least : (column : ℕ) → column < l.column → length l.tree.turns ≤ turn_of_column l.tree column → gap_at l.tree l.nearest ≤ gap_at l.tree column;
 }

@@ -1,6 +1,6 @@
 use Rattle.std.proofs.Common.{◌≡◌, ◌≢◌, length}
 use Rattle.best_matching.specs.Drafts.{IsPairing, column_of}
-use Rattle.best_matching.specs.Trees.{IsTurned, IsWay, from_at, turn_at}
+use Rattle.best_matching.specs.Trees.{IsTurned, IsWay, from_at, turn_of_column}
 use Rattle.best_matching.proofs.walk.walk_back.Given as goal
 
 abbrev pub invariant-loop-before : goal.invariant-loop-before
@@ -15,4 +15,4 @@ invariant-loop-before l = record {
 }
 
 abbrev pub decreases-loop-before : goal.decreases-loop-before
-decreases-loop-before l = turn_at l.tree (column_of l.draft l.free)
+decreases-loop-before l = turn_of_column l.tree (column_of l.draft l.free)

@@ -1,5 +1,5 @@
 use Rattle.std.proofs.Common.{◌++◌, ◌∙◌, ap, map, take_all}
-use Rattle.bound_cert.specs.ProofText.{charge_line, lines_of}
+use Rattle.bound_cert.specs.ProofText.{charge_line, text_of_lines}
 use Rattle.bound_cert.proofs.Lines.{entry_more}
 use Rattle.bound_cert.proofs.writing.push_charges.Goals as goal
 
@@ -14,4 +14,4 @@ loop-charge-preserved c =
 pub returns : goal.returns
 returns c =
     c.loop-charge.invariant
-    ∙ ap (λ charges. c.args.text.now.items ++ lines_of c.args.tables.now (map charge_line charges)) (take_all c.loop-charge.charge-index c.args.charges.now c.loop-charge-test.false)
+    ∙ ap (λ charges. c.args.text.now.items ++ text_of_lines c.args.tables.now (map charge_line charges)) (take_all c.loop-charge.charge-index c.args.charges.now c.loop-charge-test.false)

@@ -1,5 +1,5 @@
 use Rattle.std.proofs.Common.{◌++◌, ◌∙◌, ap, map, take_all}
-use Rattle.bound_cert.specs.ProofText.{at_line, lines_of}
+use Rattle.bound_cert.specs.ProofText.{at_line, text_of_lines}
 use Rattle.bound_cert.proofs.Lines.{entry_more}
 use Rattle.bound_cert.proofs.writing.push_steps.Goals as goal
 
@@ -14,4 +14,4 @@ loop-step-preserved c =
 pub returns : goal.returns
 returns c =
     c.loop-step.invariant
-    ∙ ap (λ steps. c.args.text.now.items ++ lines_of c.args.tables.now (map at_line steps)) (take_all c.loop-step.step-index c.args.steps.now c.loop-step-test.false)
+    ∙ ap (λ steps. c.args.text.now.items ++ text_of_lines c.args.tables.now (map at_line steps)) (take_all c.loop-step.step-index c.args.steps.now c.loop-step-test.false)

@@ -1,5 +1,5 @@
 use Rattle.std.proofs.Common.{◌++◌, ◌∙◌, ap, map, take_all}
-use Rattle.bound_cert.specs.ProofText.{lines_of, weight_line}
+use Rattle.bound_cert.specs.ProofText.{text_of_lines, weight_line}
 use Rattle.bound_cert.proofs.Lines.{entry_more}
 use Rattle.bound_cert.proofs.writing.push_weights.Goals as goal
 
@@ -14,4 +14,4 @@ loop-weight-preserved c =
 pub returns : goal.returns
 returns c =
     c.loop-weight.invariant
-    ∙ ap (λ weights. c.args.text.now.items ++ lines_of c.args.tables.now (map weight_line weights)) (take_all c.loop-weight.weight-index c.args.weights.now c.loop-weight-test.false)
+    ∙ ap (λ weights. c.args.text.now.items ++ text_of_lines c.args.tables.now (map weight_line weights)) (take_all c.loop-weight.weight-index c.args.weights.now c.loop-weight-test.false)

@@ -1,7 +1,7 @@
 use Rattle.std.proofs.Common.{sym, subst}
 use Rattle.fleet_model.specs.declared.tables.Tables.{Tables}
 use Rattle.fleet_model.specs.OtherSizes.{IsOtherSize}
-use Rattle.cert_check.specs.OtherSizes.{IsAsked, IsProofOf, StandsWith}
+use Rattle.cert_check.specs.OtherSizes.{IsAskedOfTree, IsProofOf, StandsWith}
 use Rattle.cert_check.proofs.Found.{answer_proves, answered, falls_at, stands_with}
 use Rattle.cert_check.proofs.OtherSizes.{bounds_there}
 use Rattle.cert_check.proofs.asking.whatif.Goals as goal
@@ -13,7 +13,7 @@ pub returns-then-walk-clause-asked : goal.returns-then-walk-clause-asked
 returns-then-walk-clause-asked c u is = falls_at _ _ _ u is _ _ _ _ c.new-walker.ensures.kept c.new-walker.ensures.number c.new-walker.ensures.bound c.if-walk.ensures.visited
 
 pub returns-clause-asked : goal.returns-clause-asked
-returns-clause-asked c u is = subst (IsAsked u c.args.tree.now) (sym c.answer.ensures) (answered u c.args.tree.now _ (stands c u is))
+returns-clause-asked c u is = subst (IsAskedOfTree u c.args.tree.now) (sym c.answer.ensures) (answered u c.args.tree.now _ (stands c u is))
 
 pub returns-clause-proof : goal.returns-clause-proof
 returns-clause-proof c u is =

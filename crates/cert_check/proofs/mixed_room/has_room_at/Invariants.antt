@@ -1,5 +1,5 @@
-use Rattle.cert_check.specs.MixedRules.{HasRoomUntil}
+use Rattle.cert_check.specs.MixedRules.{HasMixedRoomUntil}
 use Rattle.cert_check.proofs.mixed_room.has_room_at.Given as goal
 
 abbrev pub invariant-loop-before : goal.invariant-loop-before
-invariant-loop-before l = HasRoomUntil l.tables l.mixed l.station l.most l.before
+invariant-loop-before l = HasMixedRoomUntil l.tables l.mixed l.station l.most l.before

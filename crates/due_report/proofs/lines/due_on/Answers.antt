@@ -1,7 +1,7 @@
 use Rattle.std.proofs.Common.{◌≡◌, ◌++◌, ◌<◌, length, map, None, sym, subst, ap, ◌∙◌, add-one, arith}
 use Rattle.std.proofs.lemmas.List.{get_or_default}
 use Rattle.calendar_dates.specs.Days.{day_on}
-use Rattle.euler_rotation.specs.FleetRotations.{IsFleetRotation, IsFlown, last_made, no_rotation, rotation_of}
+use Rattle.euler_rotation.specs.FleetRotations.{IsFleetRotation, IsRotationFlown, last_made, no_rotation, rotation_of}
 use Rattle.due_report.specs.Lines.{fleet_due, fleets_due}
 use Rattle.due_report.specs.Placings.{IsPlacing, placing_of}
 use Rattle.due_report.proofs.lines.due_on.Goals as goal
@@ -38,7 +38,7 @@ push_due-requires-clause-tour c =
     let n = c.loop-fleet.fleet in
     let within : n < length rotations = omega arith in
     let made : c.index-rotations-fleet.result ≡ rotation_of rotations n = c.index-rotations-fleet.is ∙ get_or_default rotations n c.index-rotations-fleet.result no_rotation within in
-    subst (λ one. IsFlown c.args.tables.now c.args.plan.now n (last_made one)) (sym made) (c.requires.tours.each n within)
+    subst (λ one. IsRotationFlown c.args.tables.now c.args.plan.now n (last_made one)) (sym made) (c.requires.tours.each n within)
 
 pub push_due-requires-clause-placing : goal.push_due-requires-clause-placing
 push_due-requires-clause-placing c =

@@ -1,6 +1,6 @@
 use Rattle.std.proofs.Common.{◌≡◌, ◌<◌, length, subst, sym, ap, ◌∙◌, arith}
 use Rattle.std.proofs.lemmas.List.{get_or_default}
-use Rattle.euler_rotation.specs.FleetRotations.{IsFlown, IsKept, last_made, no_rotation, rotation_of}
+use Rattle.euler_rotation.specs.FleetRotations.{IsKept, IsRotationFlown, last_made, no_rotation, rotation_of}
 use Rattle.due_report.specs.Placings.{IsPlacing}
 use Rattle.due_report.proofs.Pushed.{placing_pushed}
 use Rattle.due_report.proofs.placing.placings.Goals as goal
@@ -24,7 +24,7 @@ placing-requires-clause-tour c =
     let within : n < length rotations = omega arith in
     let same : c.last.result.now ≡ last_made (rotation_of rotations n) =
     c.last.ensures ∙ ap last_made (c.index-rotations-fleet.is ∙ get_or_default rotations n c.index-rotations-fleet.result no_rotation within) in
-    subst (IsFlown c.args.tables.now c.args.plan.now n) (sym same) (c.requires.tours.each n within)
+    subst (IsRotationFlown c.args.tables.now c.args.plan.now n) (sym same) (c.requires.tours.each n within)
 
 pub placing-requires-clause-kept : goal.placing-requires-clause-kept
 placing-requires-clause-kept c =

@@ -2,9 +2,9 @@ use Rattle.std.proofs.Common.{◌∙◌, Some, inl, inr}
 use Rattle.std.specs.Prelude.{⊤}
 use Rattle.std.proofs.lemmas.Result.{err_from_is_err_and}
 use Rattle.command_words.specs.Words.{asked_by}
-use Rattle.fleet_cli.specs.Contents.{content_of}
+use Rattle.fleet_cli.specs.Contents.{file_content}
 use Rattle.fleet_cli.specs.Gathered.{ComesTo, IsAmong}
-use Rattle.fleet_cli.specs.Reading.{IsReached, IsRead, first_files, folder_of}
+use Rattle.fleet_cli.specs.Reading.{IsFileReached, IsRead, first_files, folder_of}
 use Rattle.fleet_cli.specs.declared.contents.Contents.{Contents}
 use Rattle.fleet_cli.proofs.AnswerFacts.{told_settled}
 use Rattle.fleet_cli.proofs.CallFacts.{reads_first, reads_plan}
@@ -15,10 +15,10 @@ use Rattle.fleet_cli.proofs.answers.answer_to.Goals as goal
 
 pub returns-in-Answered-clause-told : goal.returns-in-Answered-clause-told
 returns-in-Answered-clause-told g c =
-    told_settled _ (Some (asked_by c.args.command.now)) (content_of c.in-Ok.contents) (rw (c.folder-dir.ensures, c.as_slice.ensures, c.first_files-files.ensures) at c.in-Ok.ensures.told) _ (rw c.in-Answered.is at c.in_ok-answer-in-Ok.ensures)
+    told_settled _ (Some (asked_by c.args.command.now)) (file_content c.in-Ok.contents) (rw (c.folder-dir.ensures, c.as_slice.ensures, c.first_files-files.ensures) at c.in-Ok.ensures.told) _ (rw c.in-Answered.is at c.in_ok-answer-in-Ok.ensures)
 
 pub returns-in-Answered-clause-some : goal.returns-in-Answered-clause-some
-returns-in-Answered-clause-some g c = let settles = rw c.in-Answered.is at c.in_ok-answer-in-Ok.ensures in inr (content_of c.in-Ok.contents, settles.answers)
+returns-in-Answered-clause-some g c = let settles = rw c.in-Answered.is at c.in_ok-answer-in-Ok.ensures in inr (file_content c.in-Ok.contents, settles.answers)
 
 pub returns-in-Answered-clause-holds : goal.returns-in-Answered-clause-holds
 returns-in-Answered-clause-holds g c = c.in-Ok.ensures.holds
@@ -43,13 +43,13 @@ answer_with_plan-requires g c = let awaits = rw c.in-WantsPlan.is at c.in_ok-ans
 pub returns-in-WantsPlan-clause-told : goal.returns-in-WantsPlan-clause-told
 returns-in-WantsPlan-clause-told g c =
     let told = rw c.in-Ok.ensures.holds at c.answer_with_plan.ensures.told in
-    told (Some (asked_by c.args.command.now)) (content_of c.in-Ok.contents)
+    told (Some (asked_by c.args.command.now)) (file_content c.in-Ok.contents)
     (record { awaits = rw c.in-WantsPlan.is at c.in_ok-answer-in-Ok.ensures; folder = c.folder-dir.ensures; first = rw (c.folder-dir.ensures, c.as_slice.ensures, c.first_files-files.ensures) at c.in-Ok.ensures.told })
 
 pub returns-in-WantsPlan-clause-some : goal.returns-in-WantsPlan-clause-some
 returns-in-WantsPlan-clause-some g c =
     some_sooner _ _ (Some (asked_by c.args.command.now)) c.answer_with_plan.result (rose_before _ _ _ _ c.in-Ok.ensures.taken)
-    (c.answer_with_plan.ensures.some (Some (asked_by c.args.command.now)) (content_of c.in-Ok.contents) (rw c.in-WantsPlan.is at c.in_ok-answer-in-Ok.ensures))
+    (c.answer_with_plan.ensures.some (Some (asked_by c.args.command.now)) (file_content c.in-Ok.contents) (rw c.in-WantsPlan.is at c.in_ok-answer-in-Ok.ensures))
 
 pub returns-in-WantsPlan-clause-holds : goal.returns-in-WantsPlan-clause-holds
 returns-in-WantsPlan-clause-holds g c = c.answer_with_plan.ensures.holds ∙ c.in-Ok.ensures.holds
@@ -57,7 +57,7 @@ returns-in-WantsPlan-clause-holds g c = c.answer_with_plan.ensures.holds ∙ c.i
 pub returns-in-WantsPlan-clause-calls : goal.returns-in-WantsPlan-clause-calls
 returns-in-WantsPlan-clause-calls g c =
     let awaits = rw c.in-WantsPlan.is at c.in_ok-answer-in-Ok.ensures in
-    reads_plan (Some (asked_by c.args.command.now)) (content_of c.in-Ok.contents) _ _ _ awaits.wanted (rw (c.as_slice.ensures, c.first_files-files.ensures) at c.in-Ok.ensures.calls) c.answer_with_plan.ensures.calls
+    reads_plan (Some (asked_by c.args.command.now)) (file_content c.in-Ok.contents) _ _ _ awaits.wanted (rw (c.as_slice.ensures, c.first_files-files.ensures) at c.in-Ok.ensures.calls) c.answer_with_plan.ensures.calls
 
 pub returns-in-WantsPlan-clause-faults : goal.returns-in-WantsPlan-clause-faults
 returns-in-WantsPlan-clause-faults g c = rw c.in-Ok.ensures.faults at c.answer_with_plan.ensures.faults
@@ -65,7 +65,7 @@ returns-in-WantsPlan-clause-faults g c = rw c.in-Ok.ensures.faults at c.answer_w
 pub returns-in-WantsPlan-clause-blamed : goal.returns-in-WantsPlan-clause-blamed
 returns-in-WantsPlan-clause-blamed g c =
     let blamed = rw c.in-Ok.ensures.holds at c.answer_with_plan.ensures.blamed in
-    fails_sooner _ _ _ _ _ _ c.answer_with_plan.result c.in-Ok.ensures.stays_steady (blamed (Some (asked_by c.args.command.now)) (content_of c.in-Ok.contents)
+    fails_sooner _ _ _ _ _ _ c.answer_with_plan.result c.in-Ok.ensures.stays_steady (blamed (Some (asked_by c.args.command.now)) (file_content c.in-Ok.contents)
     (record { awaits = rw c.in-WantsPlan.is at c.in_ok-answer-in-Ok.ensures; folder = c.folder-dir.ensures; first = rw (c.folder-dir.ensures, c.as_slice.ensures, c.first_files-files.ensures) at c.in-Ok.ensures.told }))
 
 pub returns-in-WantsPlan-clause-stays_steady : goal.returns-in-WantsPlan-clause-stays_steady
@@ -77,7 +77,7 @@ pub returns-in-Err-clause-told : goal.returns-in-Err-clause-told
 returns-in-Err-clause-told g c =
     let asked = Some (asked_by c.args.command.now) in
     told_stopped Contents asked c.in-Err.stop c.stopped.result c.stopped.ensures _
-    (weaker_long Contents _ (folder_of asked) (λ held. ComesTo held (folder_of asked) (first_files asked)) (IsReached asked) _ c.in-Err.stop (λ held f comes. inl comes) (rw (c.folder-dir.ensures, c.as_slice.ensures, c.first_files-files.ensures) at c.in-Err.ensures.told))
+    (weaker_long Contents _ (folder_of asked) (λ held. ComesTo held (folder_of asked) (first_files asked)) (IsFileReached asked) _ c.in-Err.stop (λ held f comes. inl comes) (rw (c.folder-dir.ensures, c.as_slice.ensures, c.first_files-files.ensures) at c.in-Err.ensures.told))
 
 pub returns-in-Err-clause-some : goal.returns-in-Err-clause-some
 returns-in-Err-clause-some g c =
@@ -89,7 +89,7 @@ pub returns-in-Err-clause-blamed : goal.returns-in-Err-clause-blamed
 returns-in-Err-clause-blamed g c =
     let asked = Some (asked_by c.args.command.now) in
     stopped_as Contents c.in-Err.stop c.stopped.result ⊤ _ c.stopped.ensures
-    (weaker_fails Contents _ _ (folder_of asked) (IsAmong (first_files asked)) (IsRead asked) (λ held. ComesTo held (folder_of asked) (first_files asked)) (IsReached asked) _ c.in-Err.stop (λ f among. inl among) (λ held f comes. inl comes)
+    (weaker_fails Contents _ _ (folder_of asked) (IsAmong (first_files asked)) (IsRead asked) (λ held. ComesTo held (folder_of asked) (first_files asked)) (IsFileReached asked) _ c.in-Err.stop (λ f among. inl among) (λ held f comes. inl comes)
     (rw (c.folder-dir.ensures, c.as_slice.ensures, c.first_files-files.ensures) at c.in-Err.ensures.blamed))
 
 pub returns-in-Err-clause-calls : goal.returns-in-Err-clause-calls

@@ -3,7 +3,7 @@ use Rattle.std.specs.Prelude.{⊤}
 use Rattle.std.proofs.lemmas.Result.{err_from_is_err_and}
 use Rattle.plan_desk.specs.declared.file.DeskFile.TheVariants as file
 use Rattle.fleet_cli.specs.Contents.{with_plan}
-use Rattle.fleet_cli.specs.Reading.{IsReached, IsRead, folder_of}
+use Rattle.fleet_cli.specs.Reading.{IsFileReached, IsRead, folder_of}
 use Rattle.fleet_cli.specs.declared.contents.Contents.{Contents}
 use Rattle.fleet_cli.proofs.AnswerFacts.{told_awaited, told_reached}
 use Rattle.fleet_cli.proofs.FrontFacts.{held_if}
@@ -42,7 +42,7 @@ returns-in_ok-tell_with_plan-in-Ok-clause-stays_steady g c = c.in-Ok.ensures.sta
 pub returns-in-Err-clause-told : goal.returns-in-Err-clause-told
 returns-in-Err-clause-told g c = λ call bytes there.
     told_stopped Contents call c.in-Err.stop c.stopped.result c.stopped.ensures _
-    (too_long file.Plan _ Contents _ (folder_of call) (IsReached call) _ _ (λ _ _. ⊤) c.in-Err.stop (told_reached _ call bytes there.first c.args.checking.now there.awaits) (rw there.folder at c.in-Err.ensures.told) c.in-Err.ensures.within)
+    (too_long file.Plan _ Contents _ (folder_of call) (IsFileReached call) _ _ (λ _ _. ⊤) c.in-Err.stop (told_reached _ call bytes there.first c.args.checking.now there.awaits) (rw there.folder at c.in-Err.ensures.told) c.in-Err.ensures.within)
 
 pub returns-in-Err-clause-some : goal.returns-in-Err-clause-some
 returns-in-Err-clause-some g c = λ call bytes awaits.
@@ -61,7 +61,7 @@ returns-in-Err-clause-faults g c = stopped_as _ c.in-Err.stop c.stopped.result _
 pub returns-in-Err-clause-blamed : goal.returns-in-Err-clause-blamed
 returns-in-Err-clause-blamed g c = λ call bytes there.
     stopped_as Contents c.in-Err.stop c.stopped.result ⊤ _ c.stopped.ensures
-    (fails file.Plan _ Contents _ (folder_of call) (IsRead call) (IsReached call) _ _ _ c.in-Err.stop (inr (bytes, there.awaits.wanted)) (λ steady. steady) (told_reached _ call bytes there.first c.args.checking.now there.awaits)
+    (fails file.Plan _ Contents _ (folder_of call) (IsRead call) (IsFileReached call) _ _ _ c.in-Err.stop (inr (bytes, there.awaits.wanted)) (λ steady. steady) (told_reached _ call bytes there.first c.args.checking.now there.awaits)
     c.in-Err.ensures.blamed (rw there.folder at c.in-Err.ensures.missing))
 
 pub returns-in-Err-clause-stays_steady : goal.returns-in-Err-clause-stays_steady

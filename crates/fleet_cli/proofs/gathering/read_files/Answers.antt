@@ -3,7 +3,7 @@ use Rattle.std.proofs.lemmas.Result.{err_from_is_err_and}
 use Rattle.fleet_cli.proofs.CallFacts.{after_one_more, one_more_call}
 use Rattle.fleet_cli.proofs.FrontFacts.{at_place, comes_to_if, front_put_if}
 use Rattle.fleet_cli.proofs.StopFacts.{called, fails, rose_before, too_long}
-use Rattle.fleet_cli.specs.Contents.{content_of}
+use Rattle.fleet_cli.specs.Contents.{file_content}
 use Rattle.fleet_cli.specs.Gathered.{ComesTo, IsAmong}
 use Rattle.fleet_cli.proofs.gathering.read_files.Goals as goal
 
@@ -12,7 +12,7 @@ returns-in_err-bytes-clause-told g c =
     let p = err_from_is_err_and c.from_residual.result c.from_residual.ensures.1 in
     let invariant = c.loop-file.invariant in
     rw (p.1, p.2) (too_long _ _ _ (g.D.Desk.holds c.args.desk.now) c.args.dir.now (λ held. ComesTo held c.args.dir.now c.args.files.now) _ _ _ c.in_err-bytes.field-0.0
-    (comes_to_if _ _ _ c.loop-file.file-index _ (content_of c.loop-file.contents) invariant.front c.loop-file-test.true) (rw invariant.holds at c.in_err-bytes.ensures.told) c.in_err-bytes.ensures.within)
+    (comes_to_if _ _ _ c.loop-file.file-index _ (file_content c.loop-file.contents) invariant.front c.loop-file-test.true) (rw invariant.holds at c.in_err-bytes.ensures.told) c.in_err-bytes.ensures.within)
 
 pub returns-in_err-bytes-clause-too_long : goal.returns-in_err-bytes-clause-too_long
 returns-in_err-bytes-clause-too_long g c =
@@ -25,7 +25,7 @@ returns-in_err-bytes-clause-blamed g c =
     let p = err_from_is_err_and c.from_residual.result c.from_residual.ensures.1 in
     let invariant = c.loop-file.invariant in
     rw (p.1, p.2) (fails _ _ _ (g.D.Desk.holds c.args.desk.now) c.args.dir.now (IsAmong c.args.files.now) (λ held. ComesTo held c.args.dir.now c.args.files.now) _ _ _ c.in_err-bytes.field-0.0
-    (at_place c.args.files.now c.loop-file.file-index _ c.loop-file-test.true) invariant.steady (comes_to_if _ _ _ c.loop-file.file-index _ (content_of c.loop-file.contents) invariant.front c.loop-file-test.true)
+    (at_place c.args.files.now c.loop-file.file-index _ c.loop-file-test.true) invariant.steady (comes_to_if _ _ _ c.loop-file.file-index _ (file_content c.loop-file.contents) invariant.front c.loop-file-test.true)
     c.in_err-bytes.ensures.blamed (rw invariant.holds at c.in_err-bytes.ensures.missing))
 
 pub returns-in_err-bytes-clause-calls : goal.returns-in_err-bytes-clause-calls

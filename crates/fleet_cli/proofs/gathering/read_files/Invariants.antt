@@ -1,6 +1,6 @@
 use Rattle.std.proofs.Common.{◌≡◌, ◌≤◌, IfSome, length}
 use Rattle.plan_desk.specs.Counts.{more_times}
-use Rattle.fleet_cli.specs.Contents.{content_of}
+use Rattle.fleet_cli.specs.Contents.{file_content}
 use Rattle.fleet_cli.specs.Gathered.{FrontHeld}
 use Rattle.fleet_cli.proofs.gathering.read_files.Given as goal
 
@@ -12,5 +12,5 @@ invariant-loop-file g l = record {
   calls : g.D.Desk.calls l.desk ≡ more_times l.file-index (g.D.Desk.calls l.fn.desk);
   within : l.file-index ≤ length l.files;
   steady : g.D.Desk.is_steady l.fn.desk → g.D.Desk.is_steady l.desk;
-  front : IfSome (g.D.Desk.holds l.fn.desk) (λ held. FrontHeld held l.dir l.files l.file-index (content_of l.contents));
+  front : IfSome (g.D.Desk.holds l.fn.desk) (λ held. FrontHeld held l.dir l.files l.file-index (file_content l.contents));
 }

@@ -3,7 +3,7 @@ use Rattle.sums.specs.Below.{count_below, sum_below}
 use Rattle.fleet_model.specs.Counts.{choice_at}
 use Rattle.stand_counts.specs.Flights.{laps_by, need_by}
 use Rattle.island_cut.specs.Islands.{is_uneven, joined_legs}
-use Rattle.island_cut.specs.Spare.{aircraft_in, joined}
+use Rattle.island_cut.specs.Spare.{aircraft_in, joined_flights}
 use Rattle.island_cut.proofs.Told.{at_most_one, byte_is, by_first, by_second, even_found, islands_told, need_found, station_needs, uneven_more}
 use Rattle.island_cut.proofs.idles.has_islands.Goals as goal
 
@@ -37,8 +37,8 @@ returns-then-uneven-eq0 c =
 pub returns-else-uneven-eq0 : goal.returns-else-uneven-eq0
 returns-else-uneven-eq0 c =
     let t = c.args.tables.now in
-    by_first c.loop-station.uneven (c.loop-station.needed + laps_by t (joined c.args.tables.now (choice_at c.args.plan.now)) == aircraft_in t) c.if-uneven-eq0.false
-    ∙ islands_told t (choice_at c.args.plan.now) c.requires.pairs c.requires.quickest c.loop-station.uneven c.loop-station.needed (laps_by t (joined c.args.tables.now (choice_at c.args.plan.now))) (aircraft_in t)
+    by_first c.loop-station.uneven (c.loop-station.needed + laps_by t (joined_flights c.args.tables.now (choice_at c.args.plan.now)) == aircraft_in t) c.if-uneven-eq0.false
+    ∙ islands_told t (choice_at c.args.plan.now) c.requires.pairs c.requires.quickest c.loop-station.uneven c.loop-station.needed (laps_by t (joined_flights c.args.tables.now (choice_at c.args.plan.now))) (aircraft_in t)
     (c.loop-station.invariant.uneven ∙ ap (count_below (is_uneven t (joined_legs t))) (omega (arith, c.loop-station-test.false, c.loop-station.auto.station-end, c.station_count-station-end.ensures)))
     (c.loop-station.invariant.needed ∙ ap (sum_below (need_by t (joined_legs t))) (omega (arith, c.loop-station-test.false, c.loop-station.auto.station-end, c.station_count-station-end.ensures)))
     refl refl c.requires.day

@@ -1,13 +1,13 @@
 use Rattle.std.proofs.Common.{rules, arith}
 use Rattle.std.proofs.lemmas.List.Sorted.{IsPartitionPoint-from_clause}
 use Rattle.island_cut.specs.Islands.{idle_at}
-use Rattle.island_cut.specs.Lookup.{comes_before}
+use Rattle.island_cut.specs.Lookup.{idle_before}
 use Rattle.island_cut.proofs.FirstIdles.{partitioned}
 use Rattle.island_cut.proofs.lookup.parting.Goals as goal
 
 pub returns : goal.returns
 returns c =
-    let point = IsPartitionPoint-from_clause (λ e. comes_before e c.args.station c.args.minute) _ _ c.partition_point.ensures.partitioned
+    let point = IsPartitionPoint-from_clause (λ e. idle_before e c.args.station c.args.minute) _ _ c.partition_point.ensures.partitioned
     (partitioned c.args.idles.now c.args.station c.args.minute c.requires) (λ a r q k. search rules) in
     record {
       within = c.partition_point.ensures.bound;

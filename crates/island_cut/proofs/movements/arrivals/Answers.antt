@@ -5,7 +5,7 @@ use Rattle.fleet_model.specs.OwnTimes.{own_pair}
 use Rattle.fleet_model.specs.Schedule.{leg_of, period_of}
 use Rattle.fleet_model.specs.Times.{ready_minute}
 use Rattle.stand_counts.specs.Flights.{arrived_by, coming_by}
-use Rattle.island_cut.specs.Spare.{joined}
+use Rattle.island_cut.specs.Spare.{joined_flights}
 use Rattle.island_cut.proofs.Raised.{counts_at_end, leg_more}
 use Rattle.island_cut.proofs.movements.arrivals.Goals as goal
 
@@ -17,7 +17,7 @@ loop-leg-preserved c =
     let leg = leg_of c.args.tables.now c.loop-leg.leg in
     record {
       counts = c.raise_from.ensures.counts;
-      value = leg_more (period_of c.args.tables.now) (coming_by c.args.tables.now (joined c.args.tables.now (choice_at c.args.plan.now)) c.args.station) _ _ (leg.to == c.args.station) (ready_minute c.args.tables.now (own_pair c.args.tables.now c.loop-leg.leg (choice_at c.args.plan.now c.loop-leg.leg))) c.there_from-from.result c.loop-leg.leg
+      value = leg_more (period_of c.args.tables.now) (coming_by c.args.tables.now (joined_flights c.args.tables.now (choice_at c.args.plan.now)) c.args.station) _ _ (leg.to == c.args.station) (ready_minute c.args.tables.now (own_pair c.args.tables.now c.loop-leg.leg (choice_at c.args.plan.now c.loop-leg.leg))) c.there_from-from.result c.loop-leg.leg
           (c.there_from-from.ensures.value ∙ ap (λ f. if leg.to == c.args.station then ready_minute c.args.tables.now (own_pair c.args.tables.now c.loop-leg.leg f) else period_of c.args.tables.now) c.choice.ensures) c.loop-leg.invariant.value (λ m. refl) c.raise_from.ensures.raised;
     }
 
@@ -28,5 +28,5 @@ pub returns-clause-value : goal.returns-clause-value
 unfolding arrived_by
 returns-clause-value c = record {
   each = λ m within.
-      c.loop-leg.invariant.value m within ∙ ap (sum_below (coming_by c.args.tables.now (joined c.args.tables.now (choice_at c.args.plan.now)) c.args.station m)) (omega (arith, c.loop-leg.auto.leg-end, c.loop-leg-test.false, c.leg_count-leg-end.ensures));
+      c.loop-leg.invariant.value m within ∙ ap (sum_below (coming_by c.args.tables.now (joined_flights c.args.tables.now (choice_at c.args.plan.now)) c.args.station m)) (omega (arith, c.loop-leg.auto.leg-end, c.loop-leg-test.false, c.leg_count-leg-end.ensures));
 }

@@ -1,5 +1,5 @@
 use Rattle.std.proofs.Common.{subst}
-use Rattle.euler_rotation.specs.Answers.{IsComplete, IsRotation}
+use Rattle.euler_rotation.specs.Answers.{IsRotation, IsRotationComplete}
 use Rattle.plan_rotations.proofs.making.rotated.Goals as goal
 
 pub returns : goal.returns
@@ -9,5 +9,5 @@ returns c =
     let pairs = c.args.pairs.now in
     record {
       right = subst (λ visits. IsRotation t plan c.args.fleet pairs c.args.days visits c.in_ok-rotate.field-0) c.from.ensures c.in_ok-rotate.ensures.rotation;
-      complete = subst (λ visits. IsComplete t plan c.args.fleet pairs c.args.days visits c.in_ok-rotate.field-0) c.from.ensures c.in_ok-rotate.ensures.complete;
+      complete = subst (λ visits. IsRotationComplete t plan c.args.fleet pairs c.args.days visits c.in_ok-rotate.field-0) c.from.ensures c.in_ok-rotate.ensures.complete;
     }

@@ -1,6 +1,6 @@
 use Rattle.std.proofs.Common.{◌≢◌, ◌++◌, sym, ap, ◌∙◌}
 use Rattle.csv.specs.declared.writer.QuoteStyle.TheVariants as style
-use Rattle.plan_text.specs.CsvText.{text_in}
+use Rattle.plan_text.specs.CsvText.{written_text}
 use Rattle.plan_text.proofs.CsvWriting.{csv_text-one}
 use Rattle.plan_text.proofs.record_writer.put_record.Goals as goal
 
@@ -10,5 +10,5 @@ returns-in-Ok c =
     let grown = rw c.requires.setup at (c.in-Ok.ensures.bytes c.requires.fields c.requires.wrote plain) in
     record {
       between = record { setup = c.in-Ok.ensures.setup ∙ c.requires.setup; fields = c.in-Ok.ensures.ended; wrote = c.in-Ok.ensures.clean };
-      text = grown ∙ ap (λ t. text_in c.args.writer.now ++ t) (sym (csv_text-one _));
+      text = grown ∙ ap (λ t. written_text c.args.writer.now ++ t) (sym (csv_text-one _));
     }

@@ -1,5 +1,5 @@
 use Rattle.std.proofs.Common.{◌≡◌, ◌∷◌, [], ◌∙◌, sym, rules}
-use Rattle.plan_text.specs.CsvText.{HasWritten, csv_text, text_in}
+use Rattle.plan_text.specs.CsvText.{HasWritten, csv_text, written_text}
 use Rattle.plan_text.specs.Text.{leg_record, plan_records}
 use Rattle.plan_text.proofs.CsvWriting.{leg_more}
 use Rattle.plan_text.proofs.Lines.{written_as_csv}
@@ -15,5 +15,5 @@ loop-leg-preserved c =
 
 pub returns-in-Ok : goal.returns-in-Ok
 returns-in-Ok c =
-    let all : text_in c.loop-leg.writer ≡ csv_text (plan_records c.args.tables.now c.args.plan.now) = search rules in
+    let all : written_text c.loop-leg.writer ≡ csv_text (plan_records c.args.tables.now c.args.plan.now) = search rules in
     c.in-Ok.ensures.ok ∙ all ∙ sym (written_as_csv c.args.tables.now c.args.plan.now c.requires)

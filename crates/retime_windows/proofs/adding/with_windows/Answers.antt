@@ -1,5 +1,5 @@
 use Rattle.std.proofs.Common.{ap, ◌∙◌}
-use Rattle.fleet_model.specs.Windows.{departures_of}
+use Rattle.fleet_model.specs.Windows.{departures_of_legs}
 use Rattle.retime_windows.proofs.TablesWith.{given, given_few, windows_fit}
 use Rattle.retime_windows.proofs.adding.with_windows.Goals as goal
 
@@ -13,5 +13,5 @@ invariant_of-result c =
     let now = given c.args.tables c.args.windows.now c.minutes-period.result c.into_vec-legs.result.items c.give_times.new.legs.items c.minutes-period.ensures c.into_vec-legs.ensures c.give_times.ensures in
     record {
       in_range = rw (c.from_vec.ensures, c.from_vec-2.ensures)
-          (windows_fit c.args.tables c.args.windows.now c.requires c.give_times.new.legs.items c.in_ok-departures.departures.items now (c.in_ok-departures.ensures ∙ ap departures_of c.deref.ensures.value));
+          (windows_fit c.args.tables c.args.windows.now c.requires c.give_times.new.legs.items c.in_ok-departures.departures.items now (c.in_ok-departures.ensures ∙ ap departures_of_legs c.deref.ensures.value));
     }

@@ -1,5 +1,5 @@
 use Rattle.std.proofs.Common.{ap, ◌∙◌}
-use Rattle.fleet_model.specs.Windows.{departures_of}
+use Rattle.fleet_model.specs.Windows.{departures_of_legs}
 use Rattle.retime_windows.proofs.SettledFit.{settled_few, settled_fit}
 use Rattle.retime_windows.proofs.settling.settled_tables.Goals as goal
 
@@ -8,7 +8,7 @@ departures_of-requires c = settled_few c.args.tables.now c.args.plan.now c.deref
 
 pub invariant_of-result : goal.invariant_of-result
 invariant_of-result c =
-    let departures = c.in_ok-departures.ensures ∙ ap departures_of c.deref.ensures.value in
+    let departures = c.in_ok-departures.ensures ∙ ap departures_of_legs c.deref.ensures.value in
     record {
       in_range = rw (c.from_vec.ensures, c.from_vec-2.ensures, c.from_vec-3.ensures, c.from_vec-4.ensures, c.from_vec-5.ensures, c.from_vec-6.ensures)
           (settled_fit c.args.tables.now c.args.plan.now _ _ _ _ _ _ c.requires.costs (c.in_ok-stations.ensures ∙ c.as_slice.ensures) (c.in_ok-fleets.ensures ∙ c.as_slice-2.ensures)

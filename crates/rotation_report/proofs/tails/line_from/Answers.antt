@@ -2,7 +2,7 @@ use Rattle.std.proofs.Common.{◌≡◌, ℕ, ◌+◌, ◌*◌, ◌%◌, ◌<◌
 use Rattle.std.proofs.lemmas.List.{get_or_default}
 use Rattle.std.proofs.lemmas.Nat.{mod_below}
 use Rattle.fleet_model.specs.Schedule.{days_in}
-use Rattle.lines_of_flying.specs.Lines.{AreLegs}
+use Rattle.lines_of_flying.specs.Lines.{AreLegsOfTables}
 use Rattle.rotation_report.specs.Tails.{line_from}
 use Rattle.rotation_report.proofs.tails.line_from.Goals as goal
 
@@ -44,5 +44,5 @@ returns-clause-value c =
 pub returns-clause-legs : goal.returns-clause-legs
 returns-clause-legs c =
     let value : c.as_slice.result.now ≡ line_from c.args.tables.now c.args.flown.now c.args.day c.args.first = returns-clause-value c in
-    subst (AreLegs c.args.tables.now) (sym value)
+    subst (AreLegsOfTables c.args.tables.now) (sym value)
     (c.requires.flown.legs _ (place_within c.args.flown.now.lines c.args.first c.args.day (c.args.flown.now.used * days_in c.args.tables.now) c.requires.first c.requires.flown.each_day))

@@ -1,7 +1,7 @@
 use Rattle.std.proofs.Common.{◌≡◌, ◌++◌, ◌<◌, length, map, sym, subst, ap, ◌∙◌, add-one, arith}
 use Rattle.std.proofs.lemmas.List.{get_or_default}
 use Rattle.calendar_dates.specs.Days.{day_on}
-use Rattle.euler_rotation.specs.FleetRotations.{IsFleetRotation, IsFlown, last_made, no_rotation, rotation_of}
+use Rattle.euler_rotation.specs.FleetRotations.{IsFleetRotation, IsRotationFlown, last_made, no_rotation, rotation_of}
 use Rattle.rotation_report.specs.Tails.{fleet_tails, fleets_tails}
 use Rattle.rotation_report.proofs.tails.tails_on.Goals as goal
 
@@ -29,7 +29,7 @@ push_tails-requires-clause-tour c =
     let n = c.loop-fleet.fleet in
     let within : n < length c.args.rotations.now = omega arith in
     let same : c.index-rotations-fleet.result ≡ rotation_of c.args.rotations.now n = c.index-rotations-fleet.is ∙ get_or_default c.args.rotations.now n c.index-rotations-fleet.result no_rotation within in
-    subst (λ made. IsFlown c.args.tables.now c.args.plan.now n (last_made made)) (sym same) (c.requires.tours.each n within)
+    subst (λ made. IsRotationFlown c.args.tables.now c.args.plan.now n (last_made made)) (sym same) (c.requires.tours.each n within)
 
 pub returns : goal.returns
 returns c =

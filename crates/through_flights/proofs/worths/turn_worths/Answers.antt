@@ -1,6 +1,6 @@
 use Rattle.std.proofs.Common.{◌≡◌, ◌<◌, ℕ, [], length, slice_index, sym, ◌∙◌, ap, subst, arith}
 use Rattle.fleet_model.specs.Schedule.{legs_in}
-use Rattle.through_flights.specs.Worths.{IsTurnWorth, pair_of}
+use Rattle.through_flights.specs.Worths.{IsTurnWorth, through_pair}
 use Rattle.through_flights.proofs.Pushing.{one_longer, pushed}
 use Rattle.through_flights.proofs.worths.turn_worths.Goals as goal
 
@@ -10,7 +10,7 @@ loop-arriving-preserved c = record {
   square = pushed (λ k row. length row ≡ legs_in c.args.turns.now.tables.now) [] _ _ _ _
       c.in_ok-push.ensures.items c.loop-arriving.invariant.size c.loop-arriving.invariant.square c.in_ok-turn_worths_from.ensures.size;
   each = λ arriving departing lt departing_lt. pushed (λ k row. (j : ℕ) → j < legs_in c.args.turns.now.tables.now
-      → IsTurnWorth c.args.turns.now.tables.now c.args.turns.now.plan.now c.args.turns.now.fleet (pair_of k j) (slice_index row j)) [] _ _ _ _
+      → IsTurnWorth c.args.turns.now.tables.now c.args.turns.now.plan.now c.args.turns.now.fleet (through_pair k j) (slice_index row j)) [] _ _ _ _
       c.in_ok-push.ensures.items c.loop-arriving.invariant.size (λ k less j j_lt. c.loop-arriving.invariant.each k j less j_lt)
       c.in_ok-turn_worths_from.ensures.each arriving lt departing departing_lt;
 }

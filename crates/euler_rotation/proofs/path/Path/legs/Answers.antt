@@ -1,6 +1,6 @@
 use Rattle.std.proofs.Common.{◌∙◌, ap, refl}
 use Rattle.std.proofs.lemmas.List.{take_all}
-use Rattle.euler_rotation.specs.Walks.{legs_of}
+use Rattle.euler_rotation.specs.Walks.{legs_of_path}
 use Rattle.euler_rotation.proofs.Marks.{legs_in_order, legs_listed, one_leg_more}
 use Rattle.euler_rotation.proofs.path.Path.legs.Goals as goal
 
@@ -17,4 +17,4 @@ pub returns : goal.returns
 returns c =
     c.from_vec.ensures ∙ c.loop-level.invariant
     ∙ ap legs_in_order (take_all c.loop-level.level-index c.deref-level-items.result.now c.loop-level-test.false ∙ c.deref-level-items.ensures.value)
-    ∙ legs_listed c.self.inside.levels.items ∙ ap legs_of c.self.view_is
+    ∙ legs_listed c.self.inside.levels.items ∙ ap legs_of_path c.self.view_is

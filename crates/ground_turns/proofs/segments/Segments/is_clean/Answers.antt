@@ -1,5 +1,5 @@
 use Rattle.std.proofs.Common.{◌≡◌, ◌-◌, length, ap, arith}
-use Rattle.ground_turns.specs.Segments.{minutes_of}
+use Rattle.ground_turns.specs.Segments.{span_of}
 use Rattle.ground_turns.proofs.OneSegment.{told_not, told_round, waits_later}
 use Rattle.ground_turns.proofs.segments.Segments.is_clean.Goals as goal
 
@@ -10,12 +10,12 @@ returns-then-ready-departure c =
 
 pub returns-then-is_one : goal.returns-then-is_one
 returns-then-is_one c =
-    let whole : c.len.result - 1 ≡ minutes_of c.args.self.now = omega (arith, c.len.ensures, c.self.inside.numbers.ok, ap length c.self.view_is) in
+    let whole : c.len.result - 1 ≡ span_of c.args.self.now = omega (arith, c.len.ensures, c.self.inside.numbers.ok, ap length c.self.view_is) in
     told_round c.args.self.now c.args.ready c.args.departure (c.len.result - 1) c.is_one-else-ready-departure.result c.is_one-then-is_one.result whole
     c.if-ready-departure.false c.requires.ready c.is_one-else-ready-departure.ensures c.if-is_one.true c.is_one-then-is_one.ensures
 
 pub returns-else-is_one : goal.returns-else-is_one
 returns-else-is_one c =
-    let whole : c.len.result - 1 ≡ minutes_of c.args.self.now = omega (arith, c.len.ensures, c.self.inside.numbers.ok, ap length c.self.view_is) in
+    let whole : c.len.result - 1 ≡ span_of c.args.self.now = omega (arith, c.len.ensures, c.self.inside.numbers.ok, ap length c.self.view_is) in
     told_not c.args.self.now c.args.ready c.args.departure (c.len.result - 1) c.is_one-else-ready-departure.result whole
     c.if-ready-departure.false c.requires.ready c.is_one-else-ready-departure.ensures c.if-is_one.false

@@ -1,8 +1,8 @@
 use Rattle.std.proofs.Common.{◌≡◌, [], length, sym, subst, ap, ◌∙◌, arith, rules}
 use Rattle.std.specs.Prelude.{◌≤◌, ℕ, List, map, replicate}
 use Rattle.fleet_model.specs.declared.limits.TheConstants.{MAX_TRIPLES}
-use Rattle.retime_windows.specs.Counted.{AreCounted, AreFleetCounts}
-use Rattle.retime_windows.specs.Keys.{key_of, triples_by}
+use Rattle.retime_windows.specs.Counted.{AreFleetCounts, AreWindowsCounted}
+use Rattle.retime_windows.specs.Keys.{triples_by, window_key}
 use Rattle.retime_windows.specs.declared.window.Window.{Window}
 use Rattle.retime_windows.proofs.NoneYet.{counts_known, first_triples, none_counted}
 use Rattle.retime_windows.proofs.seen.Seen.none.Goals as goal
@@ -22,7 +22,7 @@ invariant_of-result c =
     let value : c.triples_of-triples.result ≡ triples_by fleets [] = c.triples_of-triples.ensures ∙ ap (λ fs. triples_by fs []) c.deref.ensures.value in
     record {
       fleets_known = known;
-      counted = subst (λ (ws : List Window). AreCounted (map key_of ws) (length fleets) c.in_ok-on_leg.on_leg.items) (sym empty) (subst (AreCounted [] (length fleets)) (sym zeros) (none_counted (length fleets)));
-      triples_are = value ∙ ap (λ (ws : List Window). triples_by fleets (map key_of ws)) (sym empty);
+      counted = subst (λ (ws : List Window). AreWindowsCounted (map window_key ws) (length fleets) c.in_ok-on_leg.on_leg.items) (sym empty) (subst (AreWindowsCounted [] (length fleets)) (sym zeros) (none_counted (length fleets)));
+      triples_are = value ∙ ap (λ (ws : List Window). triples_by fleets (map window_key ws)) (sym empty);
       few_triples = omega (arith, value, few fleets _ c.in_ok-fleets.ensures (first_triples c.args.tables.now));
     }

@@ -1,10 +1,10 @@
 use Rattle.std.proofs.Common.{arith, map, ◌∙◌}
 use Rattle.std.proofs.lemmas.Grind.{get_or_default_zero}
-use Rattle.retime_windows.specs.Keys.{key_of}
+use Rattle.retime_windows.specs.Keys.{window_key}
 use Rattle.retime_windows.proofs.Counting.{triples_more}
 use Rattle.retime_windows.proofs.seen.Seen.triples_with.Goals as goal
 
 pub returns : goal.returns
 returns c =
     let here = c.index.ensures ∙ get_or_default_zero c.args.self.now.fleets.items c.args.leg _ c.requires.leg in
-    omega (arith, here, c.args.self.now.triples_are, triples_more c.args.self.now.fleets.items (map key_of c.args.self.now.windows.items) c.args.leg c.args.minutes c.requires.leg)
+    omega (arith, here, c.args.self.now.triples_are, triples_more c.args.self.now.fleets.items (map window_key c.args.self.now.windows.items) c.args.leg c.args.minutes c.requires.leg)
