@@ -5,14 +5,15 @@ use Rattle.std.proofs.lemmas.List.Elements.{All-nil}
 use Rattle.fleet_model.specs.Kept.{Domains}
 use Rattle.fleet_model.specs.Whole.{KeepAllowed}
 use Rattle.fleet_model.specs.declared.tables.Tables.{Tables}
+use Rattle.plan_judge.specs.LegalPlans.{IsLegalPlan}
+use Rattle.plan_judge.specs.declared.legal_plans.LegalPlan.{LegalPlan}
 use Rattle.dual_bound.specs.declared.prices.Prices.{Prices}
 use Rattle.node_bounding.specs.Causes.{zero_prices}
 use Rattle.node_bounding.specs.Examined.{IsExamined, IsFoundHere, IsFresh}
 use Rattle.branch_bound.specs.History.{Chronicle, IsAtLevel, IsChronicleTold, IsNumbered, IsPlanPlaced, IsPut, IsRightAt, IsSearch, IsSingle}
 use Rattle.branch_bound.specs.Ranks.{AreRanks, IsRankIn, IsWaitingAt, ranks_with}
-use Rattle.node_bounding.specs.Subproblems.{IsNoMore, IsPlan, IsRightState, cost_of_plan, node_of}
+use Rattle.node_bounding.specs.Subproblems.{IsNoMore, IsRightState, cost_of_plan, node_of}
 use Rattle.branch_bound.specs.Search.{at}
-use Rattle.node_bounding.specs.declared.plans.Plan.{Plan}
 use Rattle.branch_bound.specs.declared.search.Search.{Search}
 use Rattle.node_bounding.specs.declared.states.State.{State}
 use Rattle.node_bounding.specs.declared.states.State.TheVariants as state
@@ -27,7 +28,7 @@ no_level t keeps (state.Stopped s) fresh = λ worth rounded. tt
 no_level t keeps (state.Waiting f) fresh = λ worth rounded. tt
 no_level t keeps (state.Split f) fresh = absurd fresh
 
-module _ (t : Tables) (root : Domains) (best : Option Plan) (before after : Search) (above : Prices) (one : State) (allowed : KeepAllowed t root) (above_is : above ≡ zero_prices t)
+module _ (t : Tables) (root : Domains) (best : Option LegalPlan) (before after : Search) (above : Prices) (one : State) (allowed : KeepAllowed t root) (above_is : above ≡ zero_prices t)
     (best_is : before.best ≡ best) (splits_is : before.splits ≡ 0) (made_is : before.made.items ≡ []) (keys_is : before.waiting.keys ≡ [])
     (is : IsExamined t before.pivots None best root above one) (put : IsPut before after None one) where
   abbrev begins : Chronicle
@@ -53,7 +54,7 @@ module _ (t : Tables) (root : Domains) (best : Option Plan) (before after : Sear
     place = by_place is.place;
   }
     where
-      at_here : (x : Option Plan) → IsFoundHere t root (node_of one) x → IfSome x (λ plan. IsPlanPlaced t plan 1 begins)
+      at_here : (x : Option LegalPlan) → IsFoundHere t root (node_of one) x → IfSome x (λ plan. IsPlanPlaced t plan 1 begins)
       at_here None here = tt
       at_here (Some plan) here = record { number = 0; within = omega arith; end = here }
 
@@ -75,7 +76,7 @@ module _ (t : Tables) (root : Domains) (best : Option Plan) (before after : Sear
       let best_after : after.best ≡ best = put.best ∙ best_is in
       let count : length after.made.items ≡ 1 = ap length all_is in
       record {
-        plan = subst (λ x. IfSome x (IsPlan t)) (sym best_after) is.plan;
+        plan = subst (λ x. IfSome x (IsLegalPlan t)) (sym best_after) is.plan;
         within = omega (arith, put.splits, splits_is);
         count = omega (arith, count, put.splits, splits_is);
         chronicle = begins;

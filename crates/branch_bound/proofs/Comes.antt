@@ -7,6 +7,7 @@ use Rattle.sums.specs.Places.{list_below}
 use Rattle.sums.proofs.Places.{list_below-more}
 use Rattle.fleet_model.specs.Kept.{Domains}
 use Rattle.fleet_model.specs.declared.tables.Tables.{Tables}
+use Rattle.plan_judge.specs.declared.legal_plans.LegalPlan.{LegalPlan}
 use Rattle.dual_bound.specs.declared.trees.Tree.{Tree}
 use Rattle.dual_bound.specs.declared.trees.Tree.TheVariants as tree
 use Rattle.node_bounding.specs.Examined.{IsDoneLeaf}
@@ -16,7 +17,6 @@ use Rattle.branch_bound.specs.Ranks.{IsOver, IsReachedBy, IsWaitingAt}
 use Rattle.node_bounding.specs.Subproblems.{IsFractional, IsRightState, cost_of_plan, node_of}
 use Rattle.branch_bound.specs.Search.{at}
 use Rattle.node_bounding.specs.Worked.{Worked, own_node, worked_in}
-use Rattle.node_bounding.specs.declared.plans.Plan.{Plan}
 use Rattle.branch_bound.specs.declared.search.Search.{Search}
 use Rattle.node_bounding.specs.declared.states.State.{State}
 use Rattle.node_bounding.specs.declared.states.State.TheVariants as state
@@ -86,7 +86,7 @@ module _ (t : Tables) (nodes : ℕ) (pivots : Option ℕ) (root : Domains) (s : 
   over (inl spent) = inl (omega (arith, spent, done.search.within, done.splits_allowed))
   over (inr ranks) = inr (λ k below. subst (IsReachedNode t (cost_of_plan s.best) (c.made k).keeps) (sym (done.search.numbered k below).node) (reached ranks k (at all k).state below refl (done.search.singles k below)))
 
-  pub comes : (best : Option Plan) (tree : Tree) → best ≡ s.best → IsGrownTree t root pivots (cost_of_plan s.best) (length s.made.items) done.search.chronicle tree → SearchComesTo t nodes pivots root best tree
+  pub comes : (best : Option LegalPlan) (tree : Tree) → best ≡ s.best → IsGrownTree t root pivots (cost_of_plan s.best) (length s.made.items) done.search.chronicle tree → SearchComesTo t nodes pivots root best tree
   comes best tree same grown = subst (λ b. SearchComesTo t nodes pivots root b tree) (sym same) (record {
     plan = done.search.plan;
     splits = s.splits;

@@ -8,11 +8,12 @@ use Rattle.fleet_model.specs.Whole.{KeepAllowed}
 use Rattle.fleet_model.specs.declared.kept.Step.{Step}
 use Rattle.fleet_model.specs.declared.parts.Pair.{Pair}
 use Rattle.fleet_model.specs.declared.tables.Tables.{Tables}
+use Rattle.plan_judge.specs.LegalPlans.{IsLegalPlan}
 use Rattle.node_bounding.specs.Examined.{IsExamined}
 use Rattle.branch_bound.specs.History.{IsChronicleTold, IsFrom, IsGrown, IsRightAt, IsSearch, IsSplitSearch, KeepsBy, WaitsWith, prices_above}
 use Rattle.branch_bound.specs.Ranks.{AreRanks, IsNextRank, IsRankIn, IsWaitingAt, ranks_with}
 use Rattle.node_bounding.specs.Relaxed.{AreGood}
-use Rattle.node_bounding.specs.Subproblems.{IsFractional, IsNoMore, IsPlan, IsRightState, cost_of_plan}
+use Rattle.node_bounding.specs.Subproblems.{IsFractional, IsNoMore, IsRightState, cost_of_plan}
 use Rattle.branch_bound.specs.Search.{HaveOrigins, IsMadeLater, at, no_subproblem, step_into}
 use Rattle.node_bounding.specs.Worked.{Worked}
 use Rattle.branch_bound.specs.declared.ranks.Rank.{Rank}
@@ -165,7 +166,7 @@ module _ (t : Tables) (root : Domains) (s : Search) (rank : Rank) (search : IsSe
 
     pub split_search : IsSearch t root after
     split_search = record {
-      plan = subst (λ x. IfSome x (IsPlan t)) (sym is.best) second_part.plan;
+      plan = subst (λ x. IfSome x (IsLegalPlan t)) (sym is.best) second_part.plan;
       within = omega (arith, is.splits, is.nodes, nodes, splits, next.room);
       count = omega (arith, list_grown.longer, search.count, is.splits, splits);
       chronicle = grown.chronicle;

@@ -12,6 +12,8 @@ use Rattle.fleet_model.specs.Kept.{Domains, IsKeptAssignment, leaves, narrowed}
 use Rattle.fleet_model.specs.Mixed.{IsMixedPlan, mixed_cost}
 use Rattle.fleet_model.specs.declared.kept.Step.{Step}
 use Rattle.fleet_model.specs.declared.tables.Tables.{Tables}
+use Rattle.plan_judge.specs.LegalPlans.{IsLegalPlan}
+use Rattle.plan_judge.specs.declared.legal_plans.LegalPlan.{LegalPlan}
 use Rattle.dual_bound.specs.Fractions.{parts_in, parts_of_leg}
 use Rattle.dual_bound.specs.Prices.{ArePrices}
 use Rattle.dual_bound.specs.Worth.{worth_of}
@@ -20,8 +22,7 @@ use Rattle.dual_bound.proofs.Duality.{ceiling_is_lower_bound, weak_duality}
 use Rattle.node_bounding.specs.Examined.{IsExamined, IsFoundHere}
 use Rattle.node_bounding.specs.Relaxed.{IsBestPoint}
 use Rattle.price_lift.specs.declared.best_point.BestPoint.{BestPoint}
-use Rattle.node_bounding.specs.Subproblems.{IsPlan, cost_of_plan, node_of}
-use Rattle.node_bounding.specs.declared.plans.Plan.{Plan}
+use Rattle.node_bounding.specs.Subproblems.{cost_of_plan, node_of}
 use Rattle.node_bounding.specs.declared.states.State.{State}
 use Rattle.dual_bound.specs.declared.nodes.Node.{Node}
 
@@ -74,14 +75,14 @@ part_no_less t keeps step prices own worth other proper best rounded own_rounded
 
 -- ---- plans that are found in a part
 -- they cost no less than the rounded worth of the whole
-pub found_no_less : (t : Tables) (keeps : Domains) (step : Step) (prices : Prices) (worth : ℤ) (node : Node) (best : Option Plan) → ArePrices t prices → IsCeiling (worth_of t keeps prices 1) prices.scale worth
-    → IfSome best (IsPlan t) → IsFoundHere t (narrowed keeps step) node best → IfSome (cost_of_plan best) (λ c. worth ≤ℤ c)
+pub found_no_less : (t : Tables) (keeps : Domains) (step : Step) (prices : Prices) (worth : ℤ) (node : Node) (best : Option LegalPlan) → ArePrices t prices → IsCeiling (worth_of t keeps prices 1) prices.scale worth
+    → IfSome best (IsLegalPlan t) → IsFoundHere t (narrowed keeps step) node best → IfSome (cost_of_plan best) (λ c. worth ≤ℤ c)
 found_no_less t keeps step prices worth node None proper rounded plan found = absurd found
 found_no_less t keeps step prices worth node (Some best) proper rounded plan found =
     subst (λ c. worth ≤ℤ c) (sym plan.exact) (ceiling_is_lower_bound t keeps prices worth best.assignment proper rounded (whole_assignment t keeps step best.assignment found.kept) plan.legal)
 
 -- so the cheapest plan costs no less once a part was made, where it did before
-pub cost_no_less : (t : Tables) (pivots : Option ℕ) (keeps : Domains) (step : Step) (prices above : Prices) (worth : ℤ) (before after : Option Plan) (made : State) → ArePrices t prices → IsCeiling (worth_of t keeps prices 1) prices.scale worth
+pub cost_no_less : (t : Tables) (pivots : Option ℕ) (keeps : Domains) (step : Step) (prices above : Prices) (worth : ℤ) (before after : Option LegalPlan) (made : State) → ArePrices t prices → IsCeiling (worth_of t keeps prices 1) prices.scale worth
     → IfSome (cost_of_plan before) (λ c. worth ≤ℤ c) → IsExamined t pivots before after (narrowed keeps step) above made → IfSome (cost_of_plan after) (λ c. worth ≤ℤ c)
 cost_no_less t pivots keeps step prices above worth before after made proper rounded below is = by_place is.place
   where

@@ -5,6 +5,7 @@ use Rattle.std.proofs.lemmas.List.Elements.{All-head}
 use Rattle.sums.proofs.Tests.{by_test}
 use Rattle.fleet_model.specs.Kept.{all_pairs}
 use Rattle.fleet_model.specs.declared.tables.Tables.{Tables}
+use Rattle.plan_judge.specs.declared.legal_plans.LegalPlan.{LegalPlan}
 use Rattle.dual_bound.specs.Bound.{IsBound, IsInfeasible, IsLowerBound}
 use Rattle.dual_bound.specs.Leaves.{has_open}
 use Rattle.dual_bound.specs.declared.trees.Tree.{Tree}
@@ -12,7 +13,6 @@ use Rattle.cert_check.specs.Rules.{IsSound}
 use Rattle.cert_check.specs.Verdicts.{AreSound, BreaksAt}
 use Rattle.branch_bound.specs.Settled.{IsProvedBy}
 use Rattle.branch_bound.specs.Solved.{IsPlanned, IsRefuted, IsUnsettled}
-use Rattle.node_bounding.specs.declared.plans.Plan.{Plan}
 use Rattle.branch_bound.proofs.Bounds.{closed_bound, open_bound}
 use Rattle.node_bounding.proofs.Nodes.{second_all}
 
@@ -22,7 +22,7 @@ never_broken t cost whole node number sound broken =
     broken.first.fault.broken ((All-head (IsSound t cost) broken.first.node broken.first.after (second_all (IsSound t cost) broken.first.before _ (subst (All (IsSound t cost)) broken.first.order sound))).each broken.rule)
 
 -- with a plan
-module _ (t : Tables) (plan : Plan) (whole : Tree) (is : IsProvedBy t (Some plan) whole) where
+module _ (t : Tables) (plan : LegalPlan) (whole : Tree) (is : IsProvedBy t (Some plan) whole) where
   pub planned : (bound : ℤ) → IsBound t whole (Some bound) → IsLowerBound t bound → IsPlanned t plan.assignment plan.cost bound whole
   planned bound bounded lower = record {
     legal = is.plan.legal;

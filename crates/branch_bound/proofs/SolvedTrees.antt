@@ -8,6 +8,7 @@ use Rattle.sums.specs.Places.{list_below}
 use Rattle.fleet_model.specs.Kept.{Domains, all_pairs}
 use Rattle.fleet_model.specs.declared.tables.Tables.{Tables}
 use Rattle.fleet_model.proofs.LeftOut.{all_keep_left_out, steps_are_few}
+use Rattle.plan_judge.specs.declared.legal_plans.LegalPlan.{LegalPlan}
 use Rattle.dual_bound.specs.Leaves.{depth_of, open_nodes, open_pivots, splits_in}
 use Rattle.dual_bound.specs.declared.trees.TheConstants.{MAX_DEPTH}
 use Rattle.dual_bound.specs.OfTables.{IsOfTables}
@@ -31,7 +32,6 @@ use Rattle.branch_bound.specs.Solved.{IsLeastFirst, IsLeft, IsRight, IsSolved, I
 use Rattle.dual_bound.specs.Solved.{tree_of}
 use Rattle.node_bounding.specs.Trims.{IsTrimmed}
 use Rattle.node_bounding.specs.Worked.{own_node, worked_at}
-use Rattle.node_bounding.specs.declared.plans.Plan.{Plan}
 use Rattle.dual_bound.specs.declared.solved.Solved.{Solved}
 use Rattle.dual_bound.specs.declared.solved.Solved.TheVariants as solved
 use Rattle.branch_bound.proofs.AllNodes.{all_below, all_closed, any_below, at_node, at_nodes, nodes_twice, none_open, searched_below, split_level, splits_below, waiting_level}
@@ -61,7 +61,7 @@ least_first t level cost whole low all = record {
       level_cost worth level cost (split_level t level split.keeps split.tree worth (All-contains (λ x. IsAtLevel t level x.keeps (own_node x.tree)) (nodes_of_tree t whole) split all in_split) its) low;
 }
 
-module _ (t : Tables) (nodes : ℕ) (pivots : Option ℕ) (best : Option Plan) (whole : Tree) (is : IsAllFound t nodes pivots best whole) where
+module _ (t : Tables) (nodes : ℕ) (pivots : Option ℕ) (best : Option LegalPlan) (whole : Tree) (is : IsAllFound t nodes pivots best whole) where
   abbrev root : Domains
   root = kept_after (all_pairs t) is.removals
 
@@ -133,7 +133,7 @@ module _ (t : Tables) (nodes : ℕ) (pivots : Option ℕ) (best : Option Plan) (
   none_for_pivots : (done : Tree) → AreCaused t pivots (all_pairs t) (zero_prices t) done → pivots ≡ None → open_pivots done ≡ 0
   none_for_pivots done caused none = none_spent t (all_pairs t) (zero_prices t) done (subst (λ p. AreCaused t p (all_pairs t) (zero_prices t) done) none caused)
 
-  pub tree_by : (own : Option Plan) → best ≡ own → IsTreeOf t nodes pivots (cost_of_plan own) (closed_by t (cost_of_plan own) whole)
+  pub tree_by : (own : Option LegalPlan) → best ≡ own → IsTreeOf t nodes pivots (cost_of_plan own) (closed_by t (cost_of_plan own) whole)
   tree_by None same =
       let cost : None ≡ cost_of_plan best = sym (ap cost_of_plan same) in
       let fine : AreSound t None (all_pairs t) whole = subst (λ c. AreSound t c (all_pairs t) whole) (sym cost) sound in
@@ -181,7 +181,7 @@ module _ (t : Tables) (nodes : ℕ) (pivots : Option ℕ) (best : Option Plan) (
       record { plan = is.comes.plan; known = tree.of_tables; sound = tree.sound; soles = tree.soles; gaps = tree.gaps }
 
   -- the plan is found in the closed tree
-  found_by : (plan : Plan) → best ≡ Some plan → Any (IsFoundAt t plan.assignment plan.cost) (nodes_of_tree t (closed t plan.cost (all_pairs t) whole))
+  found_by : (plan : LegalPlan) → best ≡ Some plan → Any (IsFoundAt t plan.assignment plan.cost) (nodes_of_tree t (closed t plan.cost (all_pairs t) whole))
   found_by plan same =
       let place : IsPlanPlaced t plan is.comes.count is.comes.chronicle = subst (λ b. IfSome b (λ p. IsPlanPlaced t p is.comes.count is.comes.chronicle)) same is.comes.told.place in
       found_closed t plan.cost plan.assignment plan.cost (all_pairs t) whole

@@ -9,6 +9,7 @@ use Rattle.fleet_model.specs.Kept.{Domains, narrowed}
 use Rattle.fleet_model.specs.Schedule.{IsPair, leg_on}
 use Rattle.fleet_model.specs.declared.parts.Pair.{Pair}
 use Rattle.fleet_model.specs.declared.tables.Tables.{Tables}
+use Rattle.plan_judge.specs.declared.legal_plans.LegalPlan.{LegalPlan}
 use Rattle.dual_bound.specs.Bound.{lesser_bound, part}
 use Rattle.dual_bound.specs.Worth.{worth_of}
 use Rattle.dual_bound.specs.declared.nodes.Node.{Node}
@@ -24,7 +25,6 @@ use Rattle.node_bounding.specs.Subproblems.{IsFractional, IsNoMore, IsRightState
 use Rattle.branch_bound.specs.Search.{at, step_into}
 use Rattle.node_bounding.specs.Worked.{Worked}
 use Rattle.branch_bound.specs.declared.ranks.Rank.{Rank}
-use Rattle.node_bounding.specs.declared.plans.Plan.{Plan}
 use Rattle.node_bounding.specs.declared.states.Fraction.{Fraction}
 use Rattle.branch_bound.specs.declared.subproblems.Origin.{Origin}
 use Rattle.node_bounding.specs.declared.states.State.{State}
@@ -37,14 +37,14 @@ use Rattle.branch_bound.proofs.Updates.{As, by_new, each_three, moved, put_at, p
 use Rattle.branch_bound.proofs.Numbering.{no_parent, numbered_grown as numbers_grown}
 
 -- a list of so many subproblems of a search, whose cheapest plan this is
-pub record HasGrown (t : Tables) (root : Domains) (pivots : Option ℕ) (best : Option Plan) (count : ℕ) (all : List Subproblem) : Type 0 where
+pub record HasGrown (t : Tables) (root : Domains) (pivots : Option ℕ) (best : Option LegalPlan) (count : ℕ) (all : List Subproblem) : Type 0 where
   pub chronicle : Chronicle
   pub told : IsChronicleTold t best count chronicle
   pub numbered : (k : ℕ) → k < count → IsNumbered t root all chronicle k
   pub right : (final : Option ℤ) → IsNoMore (cost_of_plan best) final → (k : ℕ) → k < count → IsRightAt t pivots final all chronicle k
   pub singles : (k : ℕ) → k < count → IsSingle (at all k).state
 
-module _ (t : Tables) (root : Domains) (pivots : Option ℕ) (best mid after : Option Plan) (all grown : List Subproblem) (c : Chronicle) (rank : Rank) (ranks : List Rank) (f : Fraction) (pair : Pair) (yes no : State)
+module _ (t : Tables) (root : Domains) (pivots : Option ℕ) (best mid after : Option LegalPlan) (all grown : List Subproblem) (c : Chronicle) (rank : Rank) (ranks : List Rank) (f : Fraction) (pair : Pair) (yes no : State)
     (told : IsChronicleTold t best (length all) c) (numbered : (k : ℕ) → k < length all → IsNumbered t root all c k)
     (right : (final : Option ℤ) → IsNoMore (cost_of_plan best) final → (k : ℕ) → k < length all → IsRightAt t pivots final all c k) (singles : (k : ℕ) → k < length all → IsSingle (at all k).state)
     (ranked : AreRanks all ranks) (least : All (IsNoLater rank) ranks) (below : IfSome (cost_of_plan best) (λ cost. rank.worth <ℤ cost)) (within : rank.number < length all)
@@ -285,7 +285,7 @@ module _ (t : Tables) (root : Domains) (pivots : Option ℕ) (best mid after : O
       raised c.level worth level_below ((subst (λ m. IsAtLevel t c.level (c.made k).keeps m) ((numbered k less).node ∙ ap node_of own) (told.levels k less)) worth rounded)
 
   -- a part that waits has a rounded worth that is no less
-  level_part : (taken : Bool) (s : State) (before end : Option Plan) → IsExamined t pivots before end (narrowed keeps (step_into pair taken)) f.best.prices s → IsAtLevel t (Some f.worth) (narrowed keeps (step_into pair taken)) (node_of s)
+  level_part : (taken : Bool) (s : State) (before end : Option LegalPlan) → IsExamined t pivots before end (narrowed keeps (step_into pair taken)) f.best.prices s → IsAtLevel t (Some f.worth) (narrowed keeps (step_into pair taken)) (node_of s)
   level_part taken (state.Leaf leaf) before end made_as = leaf_level t _ (Some f.worth) leaf made_as.fresh
   level_part taken (state.Stopped s) before end made_as = stopped_level t _ (Some f.worth) s.prices s.why made_as.fresh
   level_part taken (state.Waiting g) before end made_as = λ worth rounded.
@@ -313,14 +313,14 @@ module _ (t : Tables) (root : Domains) (pivots : Option ℕ) (best mid after : O
   place_grown : IfSome after (λ plan. IsPlanPlaced t plan (suc (suc n)) goes_on)
   place_grown = by_second two.place
     where
-      placed : (plan : Plan) (k : ℕ) (w : Worked) → k < suc (suc n) → made k ≡ w → IsEndOf t plan.assignment plan.cost w → IsPlanPlaced t plan (suc (suc n)) goes_on
+      placed : (plan : LegalPlan) (k : ℕ) (w : Worked) → k < suc (suc n) → made k ≡ w → IsEndOf t plan.assignment plan.cost w → IsPlanPlaced t plan (suc (suc n)) goes_on
       placed plan k w less same end = record { number = k; within = less; end = subst (IsEndOf t plan.assignment plan.cost) (sym same) end }
 
-      at_new : (x : Option Plan) (k : ℕ) (d : Domains) (m : Node) → k < suc (suc n) → made k ≡ record { keeps = d; node = m } → IsFoundHere t d m x → IfSome x (λ plan. IsPlanPlaced t plan (suc (suc n)) goes_on)
+      at_new : (x : Option LegalPlan) (k : ℕ) (d : Domains) (m : Node) → k < suc (suc n) → made k ≡ record { keeps = d; node = m } → IsFoundHere t d m x → IfSome x (λ plan. IsPlanPlaced t plan (suc (suc n)) goes_on)
       at_new None k d m less same found_here = tt
       at_new (Some plan) k d m less same found_here = placed plan k (record { keeps = d; node = m }) less same found_here
 
-      at_old : (x : Option Plan) → IfSome x (λ plan. IsPlanPlaced t plan n c) → IfSome x (λ plan. IsPlanPlaced t plan (suc (suc n)) goes_on)
+      at_old : (x : Option LegalPlan) → IfSome x (λ plan. IsPlanPlaced t plan n c) → IfSome x (λ plan. IsPlanPlaced t plan (suc (suc n)) goes_on)
       at_old None old = tt
       at_old (Some plan) old = elim (cases_eq old.number b) [
         | inl same ↦

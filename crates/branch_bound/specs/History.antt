@@ -8,6 +8,8 @@ use Rattle.fleet_model.specs.Schedule.{IsPair, leg_on}
 use Rattle.fleet_model.specs.Whole.{KeepAllowed}
 use Rattle.fleet_model.specs.declared.parts.Pair.{Pair}
 use Rattle.fleet_model.specs.declared.tables.Tables.{Tables}
+use Rattle.plan_judge.specs.LegalPlans.{IsLegalPlan}
+use Rattle.plan_judge.specs.declared.legal_plans.LegalPlan.{LegalPlan}
 use Rattle.dual_bound.specs.Worth.{worth_of}
 use Rattle.dual_bound.specs.declared.nodes.Node.{Node}
 use Rattle.dual_bound.specs.declared.nodes.Node.TheVariants as node
@@ -18,12 +20,11 @@ use Rattle.node_bounding.specs.Examined.{IsDoneLeaf, IsStoppedBy}
 use Rattle.node_bounding.specs.Found.{IsEndOf}
 use Rattle.node_bounding.specs.Made.{IsInTurn, IsMadeAs, best_before}
 use Rattle.branch_bound.specs.Ranks.{AreRanks, IsOver, RankComesBefore, ranks_with}
-use Rattle.node_bounding.specs.Subproblems.{IsNoMore, IsPart, IsPlan, IsRightState, cost_of_plan, node_of}
+use Rattle.node_bounding.specs.Subproblems.{IsNoMore, IsPart, IsRightState, cost_of_plan, node_of}
 use Rattle.branch_bound.specs.Search.{IsSplitBy, at, step_into}
 use Rattle.node_bounding.specs.Trims.{AreSearched}
 use Rattle.node_bounding.specs.Worked.{IsOpenWorth, Worked, worked_in}
 use Rattle.branch_bound.specs.declared.ranks.Rank.{Rank}
-use Rattle.node_bounding.specs.declared.plans.Plan.{Plan}
 use Rattle.branch_bound.specs.declared.search.Search.{Search}
 use Rattle.node_bounding.specs.declared.states.Fraction.{Fraction}
 use Rattle.branch_bound.specs.declared.subproblems.Origin.{Origin}
@@ -50,13 +51,13 @@ IsAtLevel t level keeps (node.Priced prices) = ⊤
 IsAtLevel t level keeps (node.Trim leg choice) = ⊤
 
 -- a plan is found at one of the subproblems
-pub record IsPlanPlaced (t : Tables) (plan : Plan) (count : ℕ) (c : Chronicle) : Type 0 where
+pub record IsPlanPlaced (t : Tables) (plan : LegalPlan) (count : ℕ) (c : Chronicle) : Type 0 where
   pub number : ℕ
   pub within : number < count
   pub end : IsEndOf t plan.assignment plan.cost (c.made number)
 
 -- what so many subproblems were made as, in which order, and what the cheapest plan is behind them
-pub record IsChronicleTold (t : Tables) (best : Option Plan) (count : ℕ) (c : Chronicle) : Type 0 where
+pub record IsChronicleTold (t : Tables) (best : Option LegalPlan) (count : ℕ) (c : Chronicle) : Type 0 where
   pub each : (k : ℕ) → k < count → IsMadeAs t (best_before c.found k) (c.made k).keeps (c.made k).node (c.found k)
   pub turns : (k : ℕ) → k < count → IsInTurn t count c.made c.found c.parts k (c.made k).node
   pub cheapest : cost_of_plan best ≡ best_before c.found count
@@ -127,7 +128,7 @@ IsSingle (state.Split f) = ⊤
 
 -- where a search stands that began with the pairs that `root` keeps
 pub record IsSearch (t : Tables) (root : Domains) (s : Search) : Type 0 where
-  pub plan : IfSome s.best (IsPlan t)
+  pub plan : IfSome s.best (IsLegalPlan t)
   pub within : s.splits ≤ s.nodes
   pub count : length s.made.items ≡ suc (s.splits + s.splits)
   pub chronicle : Chronicle
@@ -200,8 +201,8 @@ IsReachedNode t cost keeps (node.Open prices why) = (worth : ℤ) → IsOpenWort
 IsReachedNode t cost keeps other = ⊤
 
 -- what a search comes to: its tree, and its cheapest plan
-pub record SearchComesTo (t : Tables) (nodes : ℕ) (pivots : Option ℕ) (root : Domains) (best : Option Plan) (tree : Tree) : Type 0 where
-  pub plan : IfSome best (IsPlan t)
+pub record SearchComesTo (t : Tables) (nodes : ℕ) (pivots : Option ℕ) (root : Domains) (best : Option LegalPlan) (tree : Tree) : Type 0 where
+  pub plan : IfSome best (IsLegalPlan t)
   pub splits : ℕ
   pub few : splits ≤ nodes
   pub count : ℕ

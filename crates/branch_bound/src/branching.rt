@@ -3,10 +3,10 @@ ghost use Rattle.std.specs.Prelude.{◌≡◌, ◌<◌, suc, length, Some, IfOk,
 ghost use Rattle.fleet_model.specs.Kept.{kept_by, narrowed};
 ghost use Rattle.fleet_model.specs.Schedule.{IsPair, leg_on};
 ghost use Rattle.fleet_model.specs.Whole.{KeepAllowed};
+ghost use Rattle.plan_judge.specs.LegalPlans.{IsLegalPlan};
 ghost use Rattle.node_bounding.specs.Examined.{IsExamined};
 ghost use Rattle.branch_bound.specs.History.{IsPut, IsSearch, IsSearchDone, IsSplitSearch, WaitsWith};
 ghost use Rattle.branch_bound.specs.Ranks.{IsNextRank, IsOver, ranks_with};
-ghost use Rattle.node_bounding.specs.Subproblems.{IsPlan};
 ghost use Rattle.branch_bound.specs.Search.{at};
 ghost use Rattle.node_bounding.specs.Relaxed.{AreGood};
 
@@ -145,7 +145,7 @@ fn part<S: EndFinder<Program>>(
     number: usize,
     step: Step,
 ) -> Result<State, NoMemory>
-    requires best { IfSome search.old.best (IsPlan tables.now) }
+    requires best { IfSome search.old.best (IsLegalPlan tables.now) }
     requires number { number < length search.old.made.items }
     requires waits { WaitsWith (λ f. AreGood tables.now f.best.prices) (at search.old.made.items number).state }
     requires allowed { KeepAllowed tables.now (kept_by kept.old) }

@@ -12,7 +12,8 @@ ghost use Rattle.branch_bound.specs.Search.{at};
 use crate::subproblems::Subproblem;
 use dual_bound::{Cause, Prices, Tree};
 use entries::NoMemory;
-use node_bounding::{Plan, State, is_reached};
+use node_bounding::{State, is_reached};
+use plan_judge::LegalPlan;
 use std::alloc::Global;
 use std::mem;
 
@@ -21,7 +22,7 @@ use std::mem;
 pub(crate) fn grown(
     alloc: Global,
     made: Vec<Subproblem>,
-    best: &Option<Plan>,
+    best: &Option<LegalPlan>,
 ) -> Result<Tree, NoMemory>
     requires { AreSplitsLinked made.items }
     ensures { IfOk result (λ tree. (t : Tables) (root : Domains) (pivots : Option ℕ) (count : ℕ) (c : Chronicle) → AreGathered t root pivots (cost_of_plan best.now) count c made.items → AreSingle made.items → IsClosedTree t root pivots (cost_of_plan best.now) count c tree) }
@@ -43,7 +44,7 @@ fn fold(
     rest: &mut Vec<Subproblem>,
     parent: usize,
     without: State,
-    best: &Option<Plan>,
+    best: &Option<LegalPlan>,
 ) -> Result<(), NoMemory>
     requires parent { suc parent < length rest.old.items }
     requires split { IsSplitState (at rest.old.items parent).state }
@@ -80,7 +81,7 @@ fn joined(alloc: Global, state: State, with_pair: Tree, without: Tree) -> Result
 
 // The tree of a subproblem whose parts, if any, were put into it: one that stays open, or still waits, is open, unless the
 // cost of the plan closes it.
-fn tree_of(state: State, best: &Option<Plan>) -> Tree
+fn tree_of(state: State, best: &Option<LegalPlan>) -> Tree
     ensures { result ≡ tree_by (cost_of_plan best.now) state }
 {
     match state {
@@ -94,7 +95,7 @@ fn tree_of(state: State, best: &Option<Plan>) -> Tree
 }
 
 // A leaf with prices of this rounded worth: it is open, unless the worth reaches the cost of the plan.
-fn leaf(prices: Prices, why: Cause, worth: &i128, best: &Option<Plan>) -> Tree
+fn leaf(prices: Prices, why: Cause, worth: &i128, best: &Option<LegalPlan>) -> Tree
     ensures { result ≡ leaf_by (cost_of_plan best.now) worth.now prices why }
 {
     if is_reached(worth, best) {

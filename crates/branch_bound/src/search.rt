@@ -1,6 +1,6 @@
 use crate::ranks::Rank;
 use crate::subproblems::Subproblem;
-use node_bounding::Plan;
+use plan_judge::LegalPlan;
 use std::collections::BTreeSet;
 
 /// Where a search stands.
@@ -13,7 +13,7 @@ pub(crate) struct Search {
     /// How many splits were made.
     pub(crate) splits: u64,
     /// The cheapest plan so far.
-    pub(crate) best: Option<Plan>,
+    pub(crate) best: Option<LegalPlan>,
     /// The subproblems, in the order in which they were made.
     pub(crate) made: Vec<Subproblem>,
     /// Those that wait to be split, the next one first.

@@ -1,9 +1,9 @@
 //! What the tree of a search proves.
 ghost use Rattle.std.specs.Prelude.{◌≡◌, All, Some, None, Option};
 ghost use Rattle.fleet_model.specs.Kept.{all_pairs};
+ghost use Rattle.plan_judge.specs.LegalPlans.{IsLegalPlan};
 ghost use Rattle.dual_bound.specs.OfTables.{IsOfTables};
 ghost use Rattle.cert_check.specs.Verdicts.{AreSound};
-ghost use Rattle.node_bounding.specs.Subproblems.{IsPlan};
 ghost use Rattle.branch_bound.specs.Settled.{IsProvedBy, plan_of};
 ghost use Rattle.branch_bound.specs.Solved.{IsRight};
 ghost use Rattle.dual_bound.specs.Solved.{tree_of};
@@ -11,10 +11,10 @@ ghost use Rattle.dual_bound.specs.Solved.{tree_of};
 use cert_check::{Checked, check_with_cost};
 use dual_bound::{Solved, Tree};
 use fleet_model::Tables;
-use node_bounding::Plan;
+use plan_judge::LegalPlan;
 
 /// What the tree of a search proves, whose plan, if any, is the cheapest. Takes no memory.
-pub(crate) fn settle(tables: &Tables, best: Option<Plan>, tree: Tree) -> Solved
+pub(crate) fn settle(tables: &Tables, best: Option<LegalPlan>, tree: Tree) -> Solved
     requires { IsProvedBy tables.now best tree }
     ensures right { IsRight tables.now result }
     ensures plan { plan_of result ≡ best }
@@ -27,7 +27,7 @@ pub(crate) fn settle(tables: &Tables, best: Option<Plan>, tree: Tree) -> Solved
 }
 
 // A plan with its bound. The search judged the plan and knows its cost.
-fn planned(tables: &Tables, plan: Plan, tree: Tree) -> Solved
+fn planned(tables: &Tables, plan: LegalPlan, tree: Tree) -> Solved
     requires { IsProvedBy tables.now (Some plan) tree }
     ensures right { IsRight tables.now result }
     ensures plan { plan_of result ≡ Some plan }

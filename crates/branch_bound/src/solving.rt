@@ -12,8 +12,8 @@ use end_check::EndFinder;
 use entries::NoMemory;
 use fleet_model::{Kept, Tables};
 use lp_rows::Program;
-use node_bounding::Plan;
 use node_bounding::removals::{below, remove};
+use plan_judge::LegalPlan;
 use presolve::trim;
 use std::alloc::Global;
 
@@ -39,7 +39,7 @@ pub fn solve<S: EndFinder<Program>>(
 /// The cheapest plan that a search found, and its tree.
 #[derive(Drop)]
 pub(crate) struct Found {
-    pub(crate) best: Option<Plan>,
+    pub(crate) best: Option<LegalPlan>,
     pub(crate) tree: Tree,
 }
 

@@ -5,7 +5,6 @@ use Rattle.fleet_model.specs.Kept.{Domains}
 use Rattle.fleet_model.specs.declared.parts.Pair.{Pair}
 use Rattle.fleet_model.specs.declared.tables.Tables.{Tables}
 use Rattle.dual_bound.specs.Bound.{IsBoundIn, IsLesserBound, lesser_bound, part}
-use Rattle.dual_bound.specs.Dropping.{IsLeaf}
 use Rattle.dual_bound.specs.Leaves.{held_count}
 use Rattle.dual_bound.specs.Parts.{ArePartsOf}
 use Rattle.dual_bound.specs.declared.trees.Tree.{Tree}
@@ -13,7 +12,7 @@ use Rattle.dual_bound.specs.declared.trees.Tree.TheVariants as tree
 use Rattle.cert_check.specs.Nodes.{Node, nodes_below, nodes_in}
 use Rattle.cert_check.specs.Walking.{AreWalked, IsFoundOf, IsLesserSoFar, IsOwnBound, IsPassed}
 use Rattle.cert_check.specs.declared.reached.Reached.{Reached}
-use Rattle.cert_check.proofs.Walks.{from_none, have_parts, lesser_of_three, node, of_leaf}
+use Rattle.cert_check.proofs.Walks.{from_none, have_parts, lesser_of_three, node}
 
 -- ---- lists of nodes
 -- no visit both ends and doesn't
@@ -45,15 +44,9 @@ module _ (finds : Node → Reached → Reached → Bool → Type 0) where
 
 -- ---- a tree
 module _ (finds : Node → Reached → Reached → Bool → Type 0) (t : Tables) (keeps : Domains) (whole : Tree) where
-  pub leaf_visited : (before after : Reached) (ended : Bool) → IsLeaf whole → finds (node keeps whole) before after ended → AreWalked finds (nodes_in keeps whole) before after ended
-  leaf_visited before after ended leaf found = subst (λ ns. AreWalked finds ns before after ended) (sym (of_leaf keeps whole leaf)) (alone finds (node keeps whole) before after ended found)
-
   module _ (pair : Pair) (one other : Tree) (are : ArePartsOf whole pair one other) where
     of_whole : (before after : Reached) (ended : Bool) → AreWalked finds (node keeps whole ∷ nodes_below keeps pair one other) before after ended → AreWalked finds (nodes_in keeps whole) before after ended
     of_whole before after ended visited = subst (λ ns. AreWalked finds ns before after ended) (sym (have_parts t keeps whole pair one other are).order) visited
-
-    pub ends_here : (before after : Reached) → finds (node keeps whole) before after true → AreWalked finds (nodes_in keeps whole) before after true
-    ends_here before after found = of_whole before after true (in_first finds (node keeps whole ∷ []) _ before after (alone finds (node keeps whole) before after true found))
 
     pub ends_first : (before mid after : Reached) → finds (node keeps whole) before mid false → AreWalked finds (nodes_in (part keeps pair.leg pair.choice true) one) mid after true
         → AreWalked finds (nodes_in keeps whole) before after true

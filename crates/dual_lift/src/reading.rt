@@ -4,7 +4,7 @@ use crate::mixture::Mixture;
 /// improves.
 #[derive(Clone, Copy)]
 pub enum Reading {
-    /// At a cheapest point of the prescribed run: the cost row, with so many of the phase row that no real column is
+    /// At a cheapest point of the proved run: the cost row, with so many of the phase row that no real column is
     /// negative.
     BothRows(Mixture),
     /// Where no point meets the lines: the phase row.

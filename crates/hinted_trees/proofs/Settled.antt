@@ -4,6 +4,8 @@ use Rattle.std.proofs.lemmas.Int.{ints}
 use Rattle.std.proofs.lemmas.List.Elements.{All-weaker}
 use Rattle.fleet_model.specs.Kept.{all_pairs}
 use Rattle.fleet_model.specs.declared.tables.Tables.{Tables}
+use Rattle.plan_judge.specs.LegalPlans.{IsLegalPlan}
+use Rattle.plan_judge.specs.declared.legal_plans.LegalPlan.{LegalPlan}
 use Rattle.dual_bound.specs.Bound.{IsBound}
 use Rattle.dual_bound.specs.Leaves.{has_open}
 use Rattle.dual_bound.specs.declared.solved.Solved.TheVariants as solved
@@ -11,8 +13,7 @@ use Rattle.dual_bound.specs.declared.trees.Tree.{Tree}
 use Rattle.cert_check.specs.Nodes.{nodes_of_tree}
 use Rattle.cert_check.specs.Verdicts.{BoundsAll, HoldsWith}
 use Rattle.node_bounding.specs.Found.{AnswersSole, LeavesGap}
-use Rattle.node_bounding.specs.Subproblems.{IsPlan, cost_of_plan}
-use Rattle.node_bounding.specs.declared.plans.Plan.{Plan}
+use Rattle.node_bounding.specs.Subproblems.{cost_of_plan}
 use Rattle.hinted_trees.specs.FreeTrees.{IsFreeTreeOf, IsFreelySolved}
 use Rattle.hinted_trees.specs.Parts.{AreAnswered, IsNodeAnswered, IsTreeWritten, SpendsSplits, go_together, settled}
 
@@ -32,7 +33,7 @@ module _ (t : Tables) (nodes : ℕ) (whole : Tree) where
     gaps = All-weaker (IsNodeAnswered t cost) (LeavesGap t cost) (λ n is. is.gap) (nodes_of_tree t whole) answered.each;
   }
 
-  module _ (plan : Plan) (is : IsPlan t plan) (bound : ℤ) (proved : IsFreeTreeOf t nodes (Some plan.cost) whole) (bounded : IsBound t whole (Some bound)) (all : BoundsAll t (Some bound)) where
+  module _ (plan : LegalPlan) (is : IsLegalPlan t plan) (bound : ℤ) (proved : IsFreeTreeOf t nodes (Some plan.cost) whole) (bounded : IsBound t whole (Some bound)) (all : BoundsAll t (Some bound)) where
     with_plan : (open_there together : Bool) → has_open whole ≡ open_there → go_together open_there bound plan.cost ≡ together
         → IfSome (if together then Some (solved.Planned plan.assignment plan.cost bound whole) else None) (IsFreelySolved t nodes)
     with_plan open_there false is_open test = tt
@@ -55,13 +56,13 @@ module _ (t : Tables) (nodes : ℕ) (whole : Tree) where
   without_bound true is_open proved bounded all = tt
   without_bound false shut proved bounded all = record { right = record { none = all; closed = shut; no_bound = bounded }; proved = proved }
 
-  together : (best : Option Plan) (bound : Option ℤ) → IfSome best (IsPlan t) → IsFreeTreeOf t nodes (cost_of_plan best) whole → IsBound t whole bound → BoundsAll t bound
+  together : (best : Option LegalPlan) (bound : Option ℤ) → IfSome best (IsLegalPlan t) → IsFreeTreeOf t nodes (cost_of_plan best) whole → IsBound t whole bound → BoundsAll t bound
       → IfSome (settled best bound whole) (IsFreelySolved t nodes)
   together (Some plan) (Some bound) is proved bounded all = with_plan plan is bound proved bounded all (has_open whole) (go_together (has_open whole) bound plan.cost) refl refl
   together (Some plan) None is proved bounded all = tt
   together None (Some bound) is proved bounded all = without_plan (has_open whole) refl bound proved bounded all
   together None None is proved bounded all = without_bound (has_open whole) refl proved bounded all
 
-  pub solves : (best : Option Plan) (bound : Option ℤ) → IfSome best (IsPlan t) → IsTreeWritten t whole → HoldsWith t (cost_of_plan best) whole bound → BoundsAll t bound → SpendsSplits nodes whole
+  pub solves : (best : Option LegalPlan) (bound : Option ℤ) → IfSome best (IsLegalPlan t) → IsTreeWritten t whole → HoldsWith t (cost_of_plan best) whole bound → BoundsAll t bound → SpendsSplits nodes whole
       → AreAnswered t (cost_of_plan best) (all_pairs t) whole → IfSome (settled best bound whole) (IsFreelySolved t nodes)
   solves best bound is written holds all spent answered = together best bound is (free_tree (cost_of_plan best) bound written holds spent answered) holds.bounded all

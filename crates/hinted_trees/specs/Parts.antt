@@ -3,6 +3,7 @@ use Rattle.std.specs.Prelude.{◌≡◌, ℕ, ◌≤◌, Bool, true, false, if�
 use Rattle.std.specs.Ordering.{int_eq}
 use Rattle.fleet_model.specs.Kept.{Domains}
 use Rattle.fleet_model.specs.declared.tables.Tables.{Tables}
+use Rattle.plan_judge.specs.declared.legal_plans.LegalPlan.{LegalPlan}
 use Rattle.dual_bound.specs.Leaves.{has_open, open_grew, open_pivots, splits_in}
 use Rattle.dual_bound.specs.OfTables.{IsOfTables}
 use Rattle.dual_bound.specs.WrittenOrder.{InWrittenOrder, IsShallow}
@@ -12,7 +13,6 @@ use Rattle.dual_bound.specs.declared.trees.Tree.{Tree}
 use Rattle.cert_check.specs.Nodes.{Node, nodes_in}
 use Rattle.cert_check.specs.declared.reached.Reached.{Reached}
 use Rattle.node_bounding.specs.Found.{AnswersSole, LeavesGap}
-use Rattle.node_bounding.specs.declared.plans.Plan.{Plan}
 
 -- a tree as a reader gives it: of the tables, in written order, and no deeper than it takes
 pub record IsTreeWritten (t : Tables) (tree : Tree) : Type 0 where
@@ -60,7 +60,7 @@ abbrev pub go_together : Bool → ℤ → ℤ → Bool
 go_together true bound cost = int_lt bound cost
 go_together false bound cost = int_eq bound cost
 
-abbrev pub solved_by_plan : Plan → ℤ → Tree → Option Solved
+abbrev pub solved_by_plan : LegalPlan → ℤ → Tree → Option Solved
 solved_by_plan plan bound tree = if go_together (has_open tree) bound plan.cost then Some (solved.Planned plan.assignment plan.cost bound tree) else None
 
 -- without one there is a bound just where a leaf is open
@@ -69,7 +69,7 @@ unplanned (Some bound) tree = if has_open tree then Some (solved.Unsettled bound
 unplanned None tree = if has_open tree then None else Some (solved.Infeasible tree)
 
 -- the solution of a plan, if any, of a bound, if any, and of a tree, where they go together
-abbrev pub settled : Option Plan → Option ℤ → Tree → Option Solved
+abbrev pub settled : Option LegalPlan → Option ℤ → Tree → Option Solved
 settled (Some plan) (Some bound) tree = solved_by_plan plan bound tree
 settled (Some plan) None tree = None
 settled None bound tree = unplanned bound tree

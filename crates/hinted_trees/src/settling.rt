@@ -4,10 +4,10 @@ ghost use Rattle.node_bounding.specs.Subproblems.{cost_of_plan};
 ghost use Rattle.hinted_trees.specs.Parts.{settled, solved_by_plan, unplanned};
 
 use dual_bound::{Solved, Tree};
-use node_bounding::Plan;
+use plan_judge::LegalPlan;
 
 /// What a plan costs, where there is one.
-pub(crate) fn cost_of(best: &Option<Plan>) -> Option<i128>
+pub(crate) fn cost_of(best: &Option<LegalPlan>) -> Option<i128>
     ensures { result ≡ cost_of_plan best.now }
 {
     match best {
@@ -18,7 +18,7 @@ pub(crate) fn cost_of(best: &Option<Plan>) -> Option<i128>
 
 /// The solution of a plan, if any, of the tree that comes with it, and of the tree's bound, if it has one: where they go
 /// together. Takes no memory.
-pub(crate) fn settled(best: Option<Plan>, bound: Option<i128>, tree: Tree) -> Option<Solved>
+pub(crate) fn settled(best: Option<LegalPlan>, bound: Option<i128>, tree: Tree) -> Option<Solved>
     ensures { result ≡ settled best bound tree }
 {
     match best {
@@ -28,7 +28,7 @@ pub(crate) fn settled(best: Option<Plan>, bound: Option<i128>, tree: Tree) -> Op
 }
 
 /// With a plan: the bound is its cost where no leaf is open, and less where one is.
-fn planned(plan: Plan, bound: i128, tree: Tree) -> Option<Solved>
+fn planned(plan: LegalPlan, bound: i128, tree: Tree) -> Option<Solved>
     ensures { result ≡ solved_by_plan plan bound tree }
 {
     let together = if tree.has_open() {

@@ -1,7 +1,7 @@
 //! A solution by texts that a hint wrote.
 ghost use Rattle.std.specs.Prelude.{IfOk, IfSome, ◌<◌, ◌-◌, ◌^◌};
 ghost use Rattle.fleet_model.specs.Legal.{IsAssignment};
-ghost use Rattle.node_bounding.specs.Subproblems.{IsPlan};
+ghost use Rattle.plan_judge.specs.LegalPlans.{IsLegalPlan};
 ghost use Rattle.hinted_trees.specs.FreeTrees.{IsFreelySolved};
 ghost use Rattle.hinted_trees.specs.Parts.{IsTreeWritten};
 
@@ -13,8 +13,7 @@ use cert_check::{Checked, check_with_cost};
 use dual_bound::{Solved, Tree};
 use entries::NoMemory;
 use fleet_model::{Assignment, Tables};
-use node_bounding::Plan;
-use plan_judge::{Verdict, judge};
+use plan_judge::{LegalPlan, Verdict, judge};
 use plan_text::{PlanError, read_plan};
 use std::alloc::Global;
 
@@ -71,7 +70,7 @@ fn solved_by_plan(tables: &Tables, nodes: u64, assignment: Assignment, tree: Tre
 {
     match judge(tables, &assignment) {
         Verdict::Legal { cost } => {
-            let plan = Plan { assignment, cost };
+            let plan = LegalPlan { assignment, cost };
             solved_by_tree(tables, nodes, Some(plan), tree)
         }
         _ => None,
@@ -79,9 +78,14 @@ fn solved_by_plan(tables: &Tables, nodes: u64, assignment: Assignment, tree: Tre
 }
 
 /// The solution of a tree that comes with a plan or with none. Takes no memory.
-fn solved_by_tree(tables: &Tables, nodes: u64, best: Option<Plan>, tree: Tree) -> Option<Solved>
+fn solved_by_tree(
+    tables: &Tables,
+    nodes: u64,
+    best: Option<LegalPlan>,
+    tree: Tree,
+) -> Option<Solved>
     requires few { nodes < 2 ^ 64 - 1 }
-    requires plan { IfSome best (IsPlan tables.now) }
+    requires plan { IfSome best (IsLegalPlan tables.now) }
     requires written { IsTreeWritten tables.now tree }
     ensures { IfSome result (IsFreelySolved tables.now nodes) }
 {

@@ -7,6 +7,8 @@ use Rattle.fleet_model.specs.Legal.{IsLegal, total_cost}
 use Rattle.fleet_model.specs.Whole.{KeepAllowed}
 use Rattle.fleet_model.specs.declared.tables.Tables.{Tables}
 use Rattle.fleet_model.proofs.KeptLaws.{sole_is_one}
+use Rattle.plan_judge.specs.LegalPlans.{IsLegalPlan}
+use Rattle.plan_judge.specs.declared.legal_plans.LegalPlan.{LegalPlan}
 use Rattle.dual_bound.specs.Bound.{lesser_bound}
 use Rattle.dual_bound.specs.Worth.{worth_of}
 use Rattle.dual_bound.specs.declared.prices.Prices.{Prices}
@@ -26,11 +28,10 @@ use Rattle.node_bounding.specs.Made.{CouldBeSplit, IsMadeAs}
 use Rattle.node_bounding.specs.Offers.{IsNoSole, IsOffered, IsPlanOf, IsSoleOffered, IsTaken}
 use Rattle.node_bounding.specs.Relaxed.{AreGood, AreRefuting, IsBestPoint, IsWhyStopped}
 use Rattle.node_bounding.specs.Runs.{IsSearched}
-use Rattle.node_bounding.specs.Subproblems.{IsFractional, IsLess, IsNoMore, IsPart, IsPlan, cost_of_plan}
+use Rattle.node_bounding.specs.Subproblems.{IsFractional, IsLess, IsNoMore, IsPart, cost_of_plan}
 use Rattle.node_bounding.specs.Trims.{AreSearched}
 use Rattle.node_bounding.specs.Wholes.{FliesParts}
 use Rattle.node_bounding.specs.Worked.{own_node}
-use Rattle.node_bounding.specs.declared.plans.Plan.{Plan}
 use Rattle.node_bounding.specs.declared.states.Fraction.{Fraction}
 use Rattle.node_bounding.specs.declared.states.State.{State}
 use Rattle.node_bounding.specs.declared.states.State.TheVariants as state
@@ -41,7 +42,7 @@ use Rattle.node_bounding.proofs.Parts.{leaf_part}
 use Rattle.node_bounding.proofs.WholePlans.{whole_kept, whole_legal, whole_worth}
 
 -- ---- nothing was found
-module _ (t : Tables) (pivots : Option ℕ) (best : Option Plan) (plan : IfSome best (IsPlan t)) (keeps : Domains) (above : Prices) where
+module _ (t : Tables) (pivots : Option ℕ) (best : Option LegalPlan) (plan : IfSome best (IsLegalPlan t)) (keeps : Domains) (above : Prices) where
   -- a leaf
   at_leaf : (leaf : Tree) → IsDoneLeaf leaf → IsMadeAs t (cost_of_plan best) keeps (own_node leaf) None → AreSearched t keeps leaf
       → ((final : Option ℤ) → IsNoMore (cost_of_plan best) final → IsPart t pivots final keeps above leaf) → IsExamined t pivots best best keeps above (state.Leaf leaf)
@@ -133,13 +134,13 @@ reaches_by t keeps prices worth None rounded reached = absurd reached
 reaches_by t keeps prices worth (Some c) rounded reached = record { least = worth; rounded = rounded; reaches = reached }
 
 -- ---- an assignment was offered
-module _ (t : Tables) (pivots : Option ℕ) (before after : Option Plan) (keeps : Domains) (above : Prices) where
+module _ (t : Tables) (pivots : Option ℕ) (before after : Option LegalPlan) (keeps : Domains) (above : Prices) where
   -- where it was taken, it is found here
   placed : (a : List ℕ) (node : Node) → IsKeptAssignment t keeps a → EndsAt t keeps (total_cost t a) node → (after ≡ before) ⊎ IsTaken t a before after → (after ≡ before) ⊎ IsFoundHere t keeps node after
   placed a node kept ends (inl same) = inl same
   placed a node kept ends (inr taken) = inr (by_plan after taken.plan)
     where
-      by_plan : (best : Option Plan) → IsSomeAnd best (IsPlanOf t a) → IsFoundHere t keeps node best
+      by_plan : (best : Option LegalPlan) → IsSomeAnd best (IsPlanOf t a) → IsFoundHere t keeps node best
       by_plan None is = absurd is
       by_plan (Some plan) is = record { kept = subst (IsKeptAssignment t keeps) (sym is.assignment) kept; ends = subst (λ c. EndsAt t keeps c node) (sym is.exact) ends }
 
@@ -148,7 +149,7 @@ module _ (t : Tables) (pivots : Option ℕ) (before after : Option Plan) (keeps 
   replaced a (inl same) = inl same
   replaced a (inr taken) = inr (by_plan after taken.plan)
     where
-      by_plan : (best : Option Plan) → IsSomeAnd best (IsPlanOf t a) → IsLess (cost_of_plan before) (cost_of_plan best)
+      by_plan : (best : Option LegalPlan) → IsSomeAnd best (IsPlanOf t a) → IsLess (cost_of_plan before) (cost_of_plan best)
       by_plan None is = absurd is
       by_plan (Some plan) is = subst (λ c. IfSome (cost_of_plan before) (λ e. c <ℤ e)) (sym is.exact) taken.cheaper
 
@@ -204,7 +205,7 @@ module _ (t : Tables) (pivots : Option ℕ) (before after : Option Plan) (keeps 
       reaches = record { least = total_cost t whole.plan; rounded = whole.worth; reaches = omega (arith, ints) }
 
 -- the assignment that a whole fractional assignment is
-pub whole_offered : (t : Tables) (keeps : Domains) (point : BestPoint) (a : List ℕ) (before after : Option Plan) → KeepAllowed t keeps → IsBestPoint t keeps point → IsMixedWhole t point.mixed → FliesParts t point.mixed a
+pub whole_offered : (t : Tables) (keeps : Domains) (point : BestPoint) (a : List ℕ) (before after : Option LegalPlan) → KeepAllowed t keeps → IsBestPoint t keeps point → IsMixedWhole t point.mixed → FliesParts t point.mixed a
     → IsOffered t a before after → IsWholeOffered t keeps point.prices before after
 whole_offered t keeps point a before after allowed best whole flies offered = record {
   plan = a;
@@ -215,8 +216,8 @@ whole_offered t keeps point a before after allowed best whole flies offered = re
 }
 
 -- where nothing was offered, the best plan is that from before
-pub after_no_sole : (t : Tables) (pivots : Option ℕ) (before after : Option Plan) (keeps : Domains) (above : Prices) (made : State) → IsNoSole t keeps before after → IsExamined t pivots before before keeps above made → IsExamined t pivots before after keeps above made
+pub after_no_sole : (t : Tables) (pivots : Option ℕ) (before after : Option LegalPlan) (keeps : Domains) (above : Prices) (made : State) → IsNoSole t keeps before after → IsExamined t pivots before before keeps above made → IsExamined t pivots before after keeps above made
 after_no_sole t pivots before after keeps above made none is = subst (λ s. IsExamined t pivots before s keeps above made) (sym none.same) is
 
-pub before_no_sole : (t : Tables) (pivots : Option ℕ) (before between after : Option Plan) (keeps : Domains) (above : Prices) (made : State) → IsNoSole t keeps before between → IsExamined t pivots between after keeps above made → IsExamined t pivots before after keeps above made
+pub before_no_sole : (t : Tables) (pivots : Option ℕ) (before between after : Option LegalPlan) (keeps : Domains) (above : Prices) (made : State) → IsNoSole t keeps before between → IsExamined t pivots between after keeps above made → IsExamined t pivots before after keeps above made
 before_no_sole t pivots before between after keeps above made none is = subst (λ s. IsExamined t pivots s after keeps above made) none.same is

@@ -3,8 +3,8 @@ use Rattle.std.specs.Prelude.{◌≡◌, ℕ, ◌≤◌, All, ⊤, Option, Some,
 use Rattle.frac_row.specs.Ratio.{IsCeiling}
 use Rattle.fleet_model.specs.Kept.{Domains}
 use Rattle.fleet_model.specs.LeftOut.{steps_left}
-use Rattle.fleet_model.specs.Legal.{IsLegal, total_cost}
 use Rattle.fleet_model.specs.declared.tables.Tables.{Tables}
+use Rattle.plan_judge.specs.declared.legal_plans.LegalPlan.{LegalPlan}
 use Rattle.dual_bound.specs.Leaves.{depth_of}
 use Rattle.dual_bound.specs.OfTables.{IsOfTables}
 use Rattle.dual_bound.specs.Worth.{worth_of}
@@ -23,19 +23,13 @@ use Rattle.node_bounding.specs.Runs.{IsSearched}
 use Rattle.node_bounding.specs.Splits.{IsSplit}
 use Rattle.node_bounding.specs.Trims.{AreSearched}
 use Rattle.node_bounding.specs.Worked.{own_node}
-use Rattle.node_bounding.specs.declared.plans.Plan.{Plan}
 use Rattle.node_bounding.specs.declared.states.Fraction.{Fraction}
 use Rattle.node_bounding.specs.declared.states.State.{State}
 use Rattle.node_bounding.specs.declared.states.State.TheVariants as state
 use Rattle.node_bounding.specs.declared.states.Stopped.{Stopped}
 
--- a plan is legal, and its cost exact
-pub record IsPlan (t : Tables) (plan : Plan) : Type 0 where
-  pub legal : IsLegal t plan.assignment
-  pub exact : plan.cost ≡ total_cost t plan.assignment
-
 -- the cost of a plan that may not be there
-abbrev pub cost_of_plan : Option Plan → Option ℤ
+abbrev pub cost_of_plan : Option LegalPlan → Option ℤ
 cost_of_plan None = None
 cost_of_plan (Some plan) = Some plan.cost
 

@@ -1,30 +1,27 @@
 //! What becomes of a subproblem when it is made: a leaf of the tree, one that stays open, or one that waits to be split.
 ghost use Rattle.std.specs.Prelude.{◌≡◌, ◌≤ℤ◌, ◌<ℤ◌, ℕ, IfOk, IfSome, IsSomeAnd, MatchBool, OnErr};
-ghost use Rattle.frac_row.specs.Ratio.{IsCeiling};
 ghost use Rattle.fleet_model.specs.Kept.{kept_by};
 ghost use Rattle.fleet_model.specs.Whole.{KeepAllowed};
+ghost use Rattle.plan_judge.specs.LegalPlans.{IsLegalPlan};
 ghost use Rattle.dual_bound.specs.Fractions.{IsMixedWhole};
 ghost use Rattle.dual_bound.specs.Prices.{ArePrices};
-ghost use Rattle.dual_bound.specs.Worth.{worth_of};
 ghost use Rattle.node_bounding.specs.Examined.{IsBounded, IsExamined, IsStoppedWith, IsWholeOffered};
 ghost use Rattle.node_bounding.specs.Relaxed.{AreGood, IsBestPoint};
 ghost use Rattle.node_bounding.specs.Runs.{IsSearched};
-ghost use Rattle.node_bounding.specs.Subproblems.{IsPlan, cost_of_plan};
+ghost use Rattle.node_bounding.specs.Subproblems.{cost_of_plan};
 ghost use Rattle.node_bounding.specs.Wholes.{IsSplitPair};
 
 use crate::made_prices::copied;
 use crate::offers::{offer, offer_sole};
-use crate::plans::Plan;
 use crate::relaxing::{Relaxed, relax};
 use crate::states::{Fraction, State, Stopped};
 use crate::wholes::{first_partial, flown_parts};
-use dual_bound::worth::worth;
-use dual_bound::{Cause, Prices, Tree};
+use dual_bound::{Cause, Prices, Tree, rounded_worth};
 use end_check::EndFinder;
 use entries::NoMemory;
-use fleet_model::{Kept, Pair, Tables};
-use frac_row::ceil_div;
+use fleet_model::{Kept, Pair, Sizes, Tables};
 use lp_rows::Program;
+use plan_judge::LegalPlan;
 use price_lift::BestPoint;
 use std::alloc::Global;
 
@@ -36,11 +33,11 @@ pub fn examine<S: EndFinder<Program>>(
     alloc: Global,
     tables: &Tables,
     pivots: Option<u64>,
-    best: &mut Option<Plan>,
+    best: &mut Option<LegalPlan>,
     kept: &Kept,
     above: &Prices,
 ) -> Result<State, NoMemory>
-    requires best { IfSome best.old (IsPlan tables.now) }
+    requires best { IfSome best.old (IsLegalPlan tables.now) }
     requires allowed { KeepAllowed tables.now (kept_by kept.now) }
     requires above { AreGood tables.now above.now }
     ensures examined { IfOk result (IsExamined tables.now pivots best.old best.new (kept_by kept.now) above.now) }
@@ -65,13 +62,13 @@ fn stopped(tables: &Tables, kept: &Kept, prices: Prices, why: Cause) -> State
     requires { ArePrices tables.now prices }
     ensures { IsStoppedWith tables.now (kept_by kept.now) prices why result }
 {
-    let worth = rounded_worth(tables, kept, &prices);
+    let worth = rounded_worth(tables, Sizes::Own, kept, &prices);
     State::Stopped(Stopped { prices, why, worth })
 }
 
 // What becomes of a subproblem whose best fractional assignment is known.
-fn bounded(tables: &Tables, best: &mut Option<Plan>, kept: &Kept, point: BestPoint) -> State
-    requires plan { IfSome best.old (IsPlan tables.now) }
+fn bounded(tables: &Tables, best: &mut Option<LegalPlan>, kept: &Kept, point: BestPoint) -> State
+    requires plan { IfSome best.old (IsLegalPlan tables.now) }
     requires allowed { KeepAllowed tables.now (kept_by kept.now) }
     requires searched { IsSearched tables.now (kept_by kept.now) }
     requires best { IsBestPoint tables.now (kept_by kept.now) point }
@@ -87,14 +84,20 @@ fn bounded(tables: &Tables, best: &mut Option<Plan>, kept: &Kept, point: BestPoi
 }
 
 // What becomes of a subproblem whose best fractional assignment flies a pair in part.
-fn divided(tables: &Tables, best: &Option<Plan>, kept: &Kept, point: BestPoint, pair: Pair) -> State
-    requires plan { IfSome best.now (IsPlan tables.now) }
+fn divided(
+    tables: &Tables,
+    best: &Option<LegalPlan>,
+    kept: &Kept,
+    point: BestPoint,
+    pair: Pair,
+) -> State
+    requires plan { IfSome best.now (IsLegalPlan tables.now) }
     requires searched { IsSearched tables.now (kept_by kept.now) }
     requires best { IsBestPoint tables.now (kept_by kept.now) point }
     requires pair { IsSplitPair tables.now point.mixed pair }
     ensures { IsBounded tables.now best.now best.now (kept_by kept.now) result }
 {
-    let worth = rounded_worth(tables, kept, &point.prices);
+    let worth = rounded_worth(tables, Sizes::Own, kept, &point.prices);
     if is_reached(&worth, best) {
         return State::Leaf(Tree::Priced(point.prices));
     }
@@ -109,8 +112,8 @@ fn divided(tables: &Tables, best: &Option<Plan>, kept: &Kept, point: BestPoint, 
 //
 // It has an assignment on the stack, and so is kept out of the frames of the search.
 #[inline(never)]
-fn offer_whole(tables: &Tables, best: &mut Option<Plan>, kept: &Kept, point: &BestPoint)
-    requires plan { IfSome best.old (IsPlan tables.now) }
+fn offer_whole(tables: &Tables, best: &mut Option<LegalPlan>, kept: &Kept, point: &BestPoint)
+    requires plan { IfSome best.old (IsLegalPlan tables.now) }
     requires allowed { KeepAllowed tables.now (kept_by kept.now) }
     requires best { IsBestPoint tables.now (kept_by kept.now) point.now }
     requires whole { IsMixedWhole tables.now point.now.mixed }
@@ -120,16 +123,8 @@ fn offer_whole(tables: &Tables, best: &mut Option<Plan>, kept: &Kept, point: &Be
     offer(tables, flown, best);
 }
 
-// The worth of prices, rounded up.
-fn rounded_worth(tables: &Tables, kept: &Kept, prices: &Prices) -> i128
-    requires { ArePrices tables.now prices.now }
-    ensures { IsCeiling (worth_of tables.now (kept_by kept.now) prices.now 1) prices.now.scale result }
-{
-    ceil_div(worth(tables, kept, prices, 1), prices.scale)
-}
-
 /// Whether there is a plan, and a rounded worth reaches its cost.
-pub fn is_reached(worth: &i128, best: &Option<Plan>) -> bool
+pub fn is_reached(worth: &i128, best: &Option<LegalPlan>) -> bool
     ensures { MatchBool result (IsSomeAnd (cost_of_plan best.now) (λ c. c ≤ℤ worth.now)) (IfSome (cost_of_plan best.now) (λ c. worth.now <ℤ c)) }
 {
     match best {

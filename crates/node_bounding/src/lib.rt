@@ -5,7 +5,6 @@
 mod examining;
 mod made_prices;
 mod offers;
-mod plans;
 mod proved_run;
 mod relaxing;
 pub mod removals;
@@ -16,5 +15,4 @@ mod wholes;
 
 pub use examining::{examine, is_reached};
 pub use made_prices::zeros;
-pub use plans::Plan;
 pub use states::{Fraction, State, Stopped};

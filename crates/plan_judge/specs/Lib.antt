@@ -1,5 +1,6 @@
 pub mod Crowds
 pub mod Firsts
 pub mod Laws
+pub mod LegalPlans
 pub mod Sizes
 pub mod Verdicts
