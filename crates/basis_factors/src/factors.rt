@@ -15,13 +15,13 @@ pub struct Mark {
 #[derive(Drop)]
 pub struct Factors<S> {
     /// What each step takes from the lines behind it.
-    pub(crate) lower: Steps<S>,
+    pub lower: Steps<S>,
     /// The columns of the steps, by the lines of earlier ones.
-    pub(crate) upper: Steps<S>,
+    pub upper: Steps<S>,
     /// The same by the lines of the steps, with what the columns of later ones have there.
-    pub(crate) across: Steps<S>,
+    pub across: Steps<S>,
     /// Of each line the first step across that isn't before that of its pivot.
-    pub(crate) places: Vec<u32>,
+    pub places: Vec<u32>,
     /// The columns that came since, by what stood in their lines.
     changes: Steps<S>,
 }
@@ -37,7 +37,8 @@ impl<S: Scalar> Factors<S> {
         }
     }
 
-    pub(crate) fn clear(&mut self) {
+    /// Lets all steps and changes go.
+    pub fn clear(&mut self) {
         self.lower.clear();
         self.upper.clear();
         self.across.clear();

@@ -1,17 +1,15 @@
-//! Factors of a basis: of the columns that stand in it, each of which has its pivot in a line of its own.
+//! Factors of a basis, in whose columns numbers are solved for, and what of it has no pivot yet while they are found: its open lines and
+//! columns, their numbers, and columns by how many open lines they have.
 #![tactic(auto)]
 
-pub mod bump;
-pub mod factoring;
 pub mod factors;
-pub mod laying;
 pub mod open;
 pub mod queue;
 pub mod rows;
-pub mod singletons;
 pub mod steps;
 
-pub use factoring::Factoring;
 pub use factors::{Factors, Mark};
-pub use open::NONE;
-pub use steps::Item;
+pub use open::{Open, add, take_one};
+pub use queue::Queue;
+pub use rows::Rows;
+pub use steps::{Step, Steps};

@@ -1,9 +1,6 @@
 use entries::NoMemory;
-use fixed_numbers::{Units, at, place_of, put, reset};
+use fixed_numbers::{NONE, Units, at, place_of, put, reset};
 use std::alloc::Global;
-
-/// No line, column or step.
-pub const NONE: u32 = u32::MAX;
 
 /// Which lines and columns of a basis have no pivot yet, and how they meet. Columns go by their places in the basis.
 #[derive(Drop)]

@@ -1,7 +1,6 @@
-use crate::open::{NONE, Open};
-use crate::steps::Item;
+use crate::open::Open;
 use entries::NoMemory;
-use fixed_numbers::{Scalar, at, place_of, put, reset};
+use fixed_numbers::{Item, NONE, Scalar, at, place_of, put, reset};
 use std::alloc::Global;
 
 // How many items there may be.

@@ -1,13 +1,6 @@
 use entries::NoMemory;
-use fixed_numbers::{Scalar, place_of};
+use fixed_numbers::{Item, Scalar, place_of};
 use std::alloc::Global;
-
-/// A number, and the place that it stands in.
-#[derive(Clone, Copy)]
-pub struct Item<S> {
-    pub place: u32,
-    pub number: S,
-}
 
 /// The line of a step, its pivot, and where its items end.
 #[derive(Clone, Copy)]

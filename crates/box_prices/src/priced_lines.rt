@@ -1,14 +1,11 @@
 use dual_pivots::Lines;
 use entries::NoMemory;
-use fixed_numbers::{at, filled, place_of, put};
+use fixed_numbers::{NONE, at, filled, place_of, put};
 use fleet_model::{Kept, Pair, Tables};
 use lp_rows::{Outline, Park};
 use node_aggregate::{days_at, nodes};
 use std::alloc::Global;
 use timeline_net::events;
-
-/// No line.
-pub const NONE: u32 = u32::MAX;
 
 /// A node of the time-line network, as its price is written.
 #[derive(Clone, Copy)]
@@ -56,12 +53,23 @@ impl PricedLines {
             pairs: Vec::new(alloc),
             firsts: Vec::new(alloc),
         };
-        priced.parks.extend_from_slice(outline.parks.as_slice())?;
-        priced.pairs.extend_from_slice(outline.pairs.as_slice())?;
-        priced.lay_firsts(alloc)?;
-        priced.lay_places(alloc, tables, kept)?;
+        priced.lay(alloc, tables, kept, outline)?;
         priced.lay_nights(outline, lines);
         Ok(priced)
+    }
+
+    // Lays nights, pairs and nodes.
+    fn lay(
+        &mut self,
+        alloc: Global,
+        tables: &Tables,
+        kept: &Kept,
+        outline: &Outline,
+    ) -> Result<(), NoMemory> {
+        self.parks.extend_from_slice(outline.parks.as_slice())?;
+        self.pairs.extend_from_slice(outline.pairs.as_slice())?;
+        self.lay_firsts(alloc)?;
+        self.lay_places(alloc, tables, kept)
     }
 
     /// The first line of a node.

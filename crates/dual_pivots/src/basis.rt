@@ -1,8 +1,9 @@
 use crate::limits::Limits;
 use crate::lines::Lines;
-use basis_factors::{Factoring, Factors, NONE};
+use basis_factoring::Factoring;
+use basis_factors::Factors;
 use entries::NoMemory;
-use fixed_numbers::{Fixed, at, place_of, put};
+use fixed_numbers::{Fixed, NONE, at, place_of, put};
 use std::alloc::Global;
 
 /// A basis, with all that goes on from pivot to pivot.
@@ -51,9 +52,9 @@ pub struct Basis {
 }
 
 impl Basis {
-    /// One of artificial columns alone, where no real column is held.
-    pub fn new(alloc: Global, lines: &Lines) -> Result<Basis, NoMemory> {
-        let mut basis = Basis {
+    /// One of no lines.
+    pub fn new(alloc: Global) -> Basis {
+        Basis {
             held: Vec::new(alloc),
             head: Vec::new(alloc),
             is_free: Vec::new(alloc),
@@ -75,12 +76,11 @@ impl Basis {
             factorings: 0,
             fresh_len: 0,
             is_fresh: false,
-        };
-        basis.begin(lines)?;
-        Ok(basis)
+        }
     }
 
-    fn begin(&mut self, lines: &Lines) -> Result<(), NoMemory> {
+    /// Begins a new one with artificial columns alone, where no real column is held.
+    pub fn begin(&mut self, lines: &Lines) -> Result<(), NoMemory> {
         let real = lines.column_count();
         let count = lines.count();
         self.held.resize(real, false)?;

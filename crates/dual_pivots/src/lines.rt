@@ -66,9 +66,23 @@ impl Lines {
             scaled: Vec::new(alloc),
             shift: 0,
         };
-        let fit = made.lay_lines(columns, lines, more)?
-            && made.lay_columns(columns.wrapping_add(count), costs)?;
+        let fit = made.lay(columns, lines, costs, more, count)?;
         Ok(if fit { Some(made) } else { None })
+    }
+
+    // Lays all lines and columns, and answers whether their numbers fit.
+    fn lay(
+        &mut self,
+        columns: u32,
+        lines: &[Line],
+        costs: &[i128],
+        more: &Units,
+        count: u32,
+    ) -> Result<bool, NoMemory> {
+        if !self.lay_lines(columns, lines, more)? {
+            return Ok(false);
+        }
+        self.lay_columns(columns.wrapping_add(count), costs)
     }
 
     // Lays all lines, and answers whether their numbers fit.

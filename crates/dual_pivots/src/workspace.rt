@@ -1,6 +1,5 @@
-use basis_factors::Item;
 use entries::NoMemory;
-use fixed_numbers::{Fixed, filled};
+use fixed_numbers::{Fixed, Item, reset};
 use std::alloc::Global;
 
 /// What a pivot reckons with, and the next one writes anew.
@@ -24,21 +23,33 @@ pub struct Workspace {
 }
 
 impl Workspace {
-    pub fn new(alloc: Global, lines: usize, columns: usize) -> Result<Workspace, NoMemory> {
+    /// One for no lines.
+    pub fn new(alloc: Global) -> Workspace {
+        Workspace {
+            multipliers: Vec::new(alloc),
+            row: Vec::new(alloc),
+            met: 0,
+            sums: Vec::new(alloc),
+            touched: Vec::new(alloc),
+            is_touched: Vec::new(alloc),
+            column: Vec::new(alloc),
+            crosses: Vec::new(alloc),
+            has_stepped: false,
+        }
+    }
+
+    /// Makes room for so many lines and columns.
+    pub fn begin(&mut self, lines: usize, columns: usize) -> Result<(), NoMemory> {
         let none = Item {
             place: 0,
             number: Fixed::ZERO,
         };
-        Ok(Workspace {
-            multipliers: filled(alloc, Fixed::ZERO, lines.wrapping_add(1))?,
-            row: filled(alloc, none, columns.wrapping_add(1))?,
-            sums: filled(alloc, Fixed::ZERO, columns)?,
-            touched: filled(alloc, 0, columns)?,
-            is_touched: filled(alloc, false, columns)?,
-            column: filled(alloc, Fixed::ZERO, lines)?,
-            crosses: filled(alloc, Fixed::ZERO, lines)?,
-            met: 0,
-            has_stepped: false,
-        })
+        reset(&mut self.multipliers, lines.wrapping_add(1), Fixed::ZERO)?;
+        reset(&mut self.row, columns.wrapping_add(1), none)?;
+        reset(&mut self.sums, columns, Fixed::ZERO)?;
+        reset(&mut self.touched, columns, 0)?;
+        reset(&mut self.is_touched, columns, false)?;
+        reset(&mut self.column, lines, Fixed::ZERO)?;
+        reset(&mut self.crosses, lines, Fixed::ZERO)
     }
 }

@@ -5,6 +5,7 @@ use end_check::{Hint, PointHint, RefusalHint};
 use entries::{Entries, NoMemory};
 use fixed_numbers::{at, filled, put};
 use std::alloc::Global;
+use std::mem;
 
 /// What a basis stands for, exactly.
 #[derive(Drop)]
@@ -19,19 +20,46 @@ pub struct ExactEnd {
 
 /// What the basis of these columns stands for, where it is one and its numbers fit.
 pub fn exact_end(alloc: Global, lines: &Lines, head: &[u32]) -> Result<Option<ExactEnd>, NoMemory> {
-    let Some(mut modular) = Modular::new(alloc, &lines.columns, head)? else {
+    match Modular::new(alloc, &lines.columns, head)? {
+        Some(mut modular) => end_of(alloc, lines, &mut modular),
+        None => Ok(None),
+    }
+}
+
+// The end of a basis, which gives its columns away.
+fn end_of(
+    alloc: Global,
+    lines: &Lines,
+    modular: &mut Modular,
+) -> Result<Option<ExactEnd>, NoMemory> {
+    let Some(point) = point_of(alloc, lines, modular)? else {
         return Ok(None);
     };
-    let rights = rights(alloc, lines)?;
-    let Some(point) = modular.solved(alloc, &lines.columns, Way::Point, &rights)? else {
+    let Some(duals) = duals_of(alloc, lines, modular)? else {
         return Ok(None);
     };
-    let costs = costs(alloc, lines, &modular.head)?;
-    let Some(duals) = modular.solved(alloc, &lines.columns, Way::Duals, &costs)? else {
-        return Ok(None);
-    };
-    let Modular { head, .. } = modular;
+    let head = mem::replace(&mut modular.head, Vec::new(alloc));
     Ok(Some(ExactEnd { head, point, duals }))
+}
+
+// What the basic columns come to.
+fn point_of(
+    alloc: Global,
+    lines: &Lines,
+    modular: &mut Modular,
+) -> Result<Option<Ratios>, NoMemory> {
+    let rights = rights(alloc, lines)?;
+    modular.solved(alloc, &lines.columns, Way::Point, &rights)
+}
+
+// The dual values of the lines.
+fn duals_of(
+    alloc: Global,
+    lines: &Lines,
+    modular: &mut Modular,
+) -> Result<Option<Ratios>, NoMemory> {
+    let costs = costs(alloc, lines, &modular.head)?;
+    modular.solved(alloc, &lines.columns, Way::Duals, &costs)
 }
 
 /// The cheapest point that a basis stands for, with its dual values, where its numbers fit.
@@ -101,9 +129,19 @@ pub(crate) fn refusal_hint(
     column: u32,
     up: bool,
 ) -> Result<Option<Hint>, NoMemory> {
-    let Some(mut modular) = Modular::new(alloc, &lines.columns, &basis.head)? else {
-        return Ok(None);
-    };
+    match Modular::new(alloc, &lines.columns, &basis.head)? {
+        Some(mut modular) => refusal_of(alloc, lines, &mut modular, column, up),
+        None => Ok(None),
+    }
+}
+
+fn refusal_of(
+    alloc: Global,
+    lines: &Lines,
+    modular: &mut Modular,
+    column: u32,
+    up: bool,
+) -> Result<Option<Hint>, NoMemory> {
     let unit = unit_of(alloc, &modular.head, column, up)?;
     let Some(ratios) = modular.solved(alloc, &lines.columns, Way::Duals, &unit)? else {
         return Ok(None);

@@ -26,7 +26,7 @@ impl EndFinder<Program> for DualSimplex {
         let Some(lines) = Lines::new(alloc, rows.columns, rows.lines.as_slice(), costs)? else {
             return Ok(None);
         };
-        let mut basis = Basis::new(alloc, &lines)?;
+        let mut basis = Basis::new(alloc);
         search(alloc, program, &lines, &mut basis, steps)
     }
 }
@@ -55,23 +55,44 @@ fn start(
 ) -> Result<bool, NoMemory> {
     let head = start_head(alloc, program, lines)?;
     let weights = filled(alloc, Fixed::ONE, head.len())?;
-    basis.lay(lines, &head, &weights)
+    begin(lines, basis, &head, &weights)
 }
 
-// Pivots until there is an end. The first cheapest point is made whole, as far as that goes, before it is told: the pivots after it
-// lead back to one if that went wrong.
+fn begin(
+    lines: &Lines,
+    basis: &mut Basis,
+    head: &[u32],
+    weights: &[Fixed],
+) -> Result<bool, NoMemory> {
+    basis.begin(lines)?;
+    basis.lay(lines, head, weights)
+}
+
+// Pivots until there is an end.
 fn run(alloc: Global, lines: &Lines, basis: &mut Basis, steps: u64) -> Result<Ended, NoMemory> {
-    let mut space = Workspace::new(alloc, lines.count(), lines.column_count())?;
-    let ended = run_once(lines, basis, &mut space, steps)?;
+    let mut space = Workspace::new(alloc);
+    run_in(lines, basis, &mut space, steps)
+}
+
+// The same in a workspace. The first cheapest point is made whole, as far as that goes, before it is told: the pivots after it lead back
+// to one if that went wrong.
+fn run_in(
+    lines: &Lines,
+    basis: &mut Basis,
+    space: &mut Workspace,
+    steps: u64,
+) -> Result<Ended, NoMemory> {
+    space.begin(lines.count(), lines.column_count())?;
+    let ended = run_once(lines, basis, space, steps)?;
     let Ended::Best = ended else {
         return Ok(ended);
     };
     let made = basis.made;
-    basis.make_whole(lines, &mut space, steps)?;
+    basis.make_whole(lines, space, steps)?;
     if basis.made == made {
         return Ok(ended);
     }
-    run_once(lines, basis, &mut space, steps)
+    run_once(lines, basis, space, steps)
 }
 
 // Pivots until there is an end by the costs as they are.

@@ -1,5 +1,6 @@
 use crate::fractions::{Frame, Ratios};
-use basis_factors::{Factoring, Factors};
+use basis_factoring::Factoring;
+use basis_factors::Factors;
 use entries::NoMemory;
 use fixed_numbers::{MODULUS, Residue, Units, at, put};
 use std::alloc::Global;

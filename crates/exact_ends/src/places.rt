@@ -1,11 +1,8 @@
 use dual_pivots::Lines;
 use entries::NoMemory;
-use fixed_numbers::{at, filled, place_of, put};
+use fixed_numbers::{NONE, at, filled, place_of, put};
 use lp_rows::{Outline, Program};
 use std::alloc::Global;
-
-// No column.
-const NONE: u32 = u32::MAX;
 
 /// The basis to start from, by lines. Basic are: the cheapest kept pair of each leg, at each station the ground arcs of a fleet
 /// from all nodes but the last, each in the line of the node that it leads to, each fleet's slack, and each room of a day with a limit.

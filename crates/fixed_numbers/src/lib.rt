@@ -3,13 +3,15 @@
 #![tactic(auto)]
 
 pub mod fixed;
+pub mod item;
 pub mod lists;
 pub mod residue;
 pub mod scalar;
 pub mod units;
 
 pub use fixed::{Fixed, PART_BITS};
-pub use lists::{at, fill, filled, place_of, put, reset};
+pub use item::Item;
+pub use lists::{NONE, at, fill, filled, place_of, put, reset};
 pub use residue::{MODULUS, Residue};
 pub use scalar::Scalar;
 pub use units::{Unit, Units};

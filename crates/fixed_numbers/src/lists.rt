@@ -2,6 +2,9 @@
 use entries::NoMemory;
 use std::alloc::Global;
 
+/// No place in a list: no line, no column.
+pub const NONE: u32 = u32::MAX;
+
 /// The entry at a place, or the one that is given where there is none.
 #[inline(always)]
 pub fn at<T: Copy>(list: &[T], place: usize, other: T) -> T {

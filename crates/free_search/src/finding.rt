@@ -2,11 +2,12 @@ use crate::closing::Turn;
 use crate::outcome::Outcome;
 use crate::problem::Problem;
 use crate::search::Search;
-use crate::subproblems::{NONE, Subproblem};
+use crate::subproblems::Subproblem;
 use crate::tree_text::{push_end, push_head, push_plan, push_tree};
 use crate::whole_lines::whole_lines;
 use box_prices::text_lines::push_bare;
 use entries::{Entries, NoMemory};
+use fixed_numbers::NONE;
 use fleet_model::limits::{MAX_CHOICES, MAX_LEGS};
 use fleet_model::{Kept, Pair, Step, Tables};
 use lp_rows::Program;
@@ -45,7 +46,7 @@ pub fn find(
         return Ok(None);
     };
     let pivots = pivots.unwrap_or(MOST_PIVOTS).min(MOST_PIVOTS);
-    let mut search = Search::new(alloc, &problem, pivots)?;
+    let mut search = Search::new(alloc, &problem, pivots);
     if !search.goes(alloc, tables, &problem, nodes)? {
         return Ok(None);
     }
@@ -84,6 +85,7 @@ impl Search {
         problem: &Problem,
         nodes: u64,
     ) -> Result<bool, NoMemory> {
+        self.begin(problem)?;
         let whole = Subproblem::part(NONE, NONE, false);
         let number = self.subproblems.push(whole)?;
         let outcome = self.solve(alloc, tables, problem, number, false)?;

@@ -5,7 +5,7 @@ use box_prices::{make_proper, push_duals, worth};
 use dual_pivots::Ended;
 use entries::NoMemory;
 use exact_ends::exact_end;
-use fixed_numbers::{Fixed, PART_BITS, Scalar, at, put, reset};
+use fixed_numbers::{Fixed, NONE, PART_BITS, Scalar, at, put, reset};
 use fleet_model::Tables;
 use proof_lines::{Line, push_line};
 use std::alloc::Global;
@@ -19,8 +19,6 @@ const SCALE: i128 = 1 << SCALE_BITS;
 const NEAR: i64 = 10_737;
 
 const WHOLE: i64 = 1 << PART_BITS;
-
-const NONE: u32 = u32::MAX;
 
 /// What a run came to.
 #[derive(Clone, Copy)]

@@ -38,14 +38,13 @@ pub struct Search {
 
 impl Search {
     /// One that has found nothing, with at most so many pivots a run.
-    pub fn new(alloc: Global, problem: &Problem, pivots: u64) -> Result<Search, NoMemory> {
-        let lines = problem.lines.count();
-        let mut search = Search {
-            basis: Basis::new(alloc, &problem.lines)?,
-            space: Workspace::new(alloc, lines, problem.lines.column_count())?,
+    pub fn new(alloc: Global, problem: &Problem, pivots: u64) -> Search {
+        Search {
+            basis: Basis::new(alloc),
+            space: Workspace::new(alloc),
             saved: Saved::new(alloc),
             subproblems: Subproblems::new(alloc),
-            slots: Slots::new(alloc, lines),
+            slots: Slots::new(alloc, problem.lines.count()),
             gains: Gains::new(alloc),
             best: None,
             plan: Vec::new(alloc),
@@ -57,8 +56,14 @@ impl Search {
             parts: Vec::new(alloc),
             duals: Vec::new(alloc),
             pairs: Vec::new(alloc),
-        };
-        search.gains.begin(problem.pair_count())?;
-        Ok(search)
+        }
+    }
+
+    /// Makes room for what is searched.
+    pub fn begin(&mut self, problem: &Problem) -> Result<(), NoMemory> {
+        let lines = &problem.lines;
+        self.basis.begin(lines)?;
+        self.space.begin(lines.count(), lines.column_count())?;
+        self.gains.begin(problem.pair_count())
     }
 }

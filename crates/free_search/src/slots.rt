@@ -1,9 +1,6 @@
 use entries::NoMemory;
-use fixed_numbers::Fixed;
+use fixed_numbers::{Fixed, NONE, put};
 use std::alloc::Global;
-
-/// No slot.
-pub const NO_SLOT: u32 = u32::MAX;
 
 // How many lines all slots may have together: 100 MB of columns and weights.
 const MOST_LINES: usize = 8_000_000;
@@ -32,14 +29,14 @@ impl Slots {
     /// Keeps a basis with its weights, and answers in which slot; in none where there are too many.
     pub fn keep(&mut self, head: &[u32], weights: &[Fixed]) -> Result<u32, NoMemory> {
         if head.len() != self.lines || weights.len() != self.lines {
-            return Ok(NO_SLOT);
+            return Ok(NONE);
         }
         if let Some(slot) = self.free.pop() {
             self.lay(slot, head, weights);
             return Ok(slot);
         }
         if self.heads.len() > MOST_LINES {
-            return Ok(NO_SLOT);
+            return Ok(NONE);
         }
         self.heads.extend_from_slice(head)?;
         self.weights.extend_from_slice(weights)?;
@@ -61,7 +58,7 @@ impl Slots {
         head: &mut Vec<u32>,
         weights: &mut Vec<Fixed>,
     ) -> Result<bool, NoMemory> {
-        if slot == NO_SLOT {
+        if slot == NONE {
             return Ok(false);
         }
         let first = (slot as usize).wrapping_mul(self.lines);
@@ -81,6 +78,6 @@ impl Slots {
 // Copies numbers to a place.
 fn copy<T: Copy + Drop>(to: &mut [T], first: usize, from: &[T]) {
     for place in 0..from.len() {
-        fixed_numbers::put(to, first.wrapping_add(place), from[place]);
+        put(to, first.wrapping_add(place), from[place]);
     }
 }

@@ -1,10 +1,7 @@
 use crate::problem::Problem;
 use box_prices::PricedLines;
 use entries::NoMemory;
-use fixed_numbers::{Fixed, PART_BITS, at, place_of, put, reset};
-
-// No column.
-const NONE: u32 = u32::MAX;
+use fixed_numbers::{Fixed, NONE, PART_BITS, at, place_of, put, reset};
 
 /// The basis to start from where nothing is known, by lines, with the weights of its rows.
 ///

@@ -1,9 +1,6 @@
 use entries::NoMemory;
-use fixed_numbers::put;
+use fixed_numbers::{NONE, put};
 use std::alloc::Global;
-
-/// No subproblem, or no column.
-pub const NONE: u32 = u32::MAX;
 
 /// What became of a subproblem.
 #[derive(Clone, Copy)]

@@ -1,8 +1,9 @@
 //! The texts of a tree that was found.
-use crate::subproblems::{NONE, State, Subproblems};
+use crate::subproblems::{State, Subproblems};
 use box_prices::text_lines::push_trim;
 use box_prices::texts::push_prices;
 use entries::NoMemory;
+use fixed_numbers::NONE;
 use fleet_model::{Pair, Tables};
 use presolve::Trim;
 use proof_lines::{Line, Version, push_line};

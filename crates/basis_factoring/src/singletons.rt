@@ -1,8 +1,7 @@
 use crate::factoring::Factoring;
-use crate::factors::Factors;
-use crate::open::{NONE, add, take_one};
+use basis_factors::{Factors, add, take_one};
 use entries::NoMemory;
-use fixed_numbers::{Scalar, Units, at, place_of, put};
+use fixed_numbers::{NONE, Scalar, Units, at, place_of, put};
 
 impl<S: Scalar> Factoring<S> {
     /// Gives each column with one open line its pivot there, as long as there is one.

@@ -1,23 +1,11 @@
-use crate::factors::Factors;
-use crate::open::{NONE, Open};
-use crate::queue::Queue;
-use crate::rows::Rows;
-use crate::steps::Item;
+use basis_factors::{Factors, Open, Queue, Rows};
 use entries::NoMemory;
-use fixed_numbers::{Scalar, Units, at, put};
+use fixed_numbers::{Item, NONE, Scalar, Units, at, put};
 use std::alloc::Global;
 
-/// A number of the upper triangle.
+/// A pivot, or a number of the upper triangle.
 #[derive(Clone, Copy)]
-pub struct Upper<S> {
-    pub line: u32,
-    pub column: u32,
-    pub number: S,
-}
-
-/// A pivot.
-#[derive(Clone, Copy)]
-pub struct Pivot<S> {
+pub struct Entry<S> {
     pub line: u32,
     pub column: u32,
     pub number: S,
@@ -28,8 +16,8 @@ pub struct Pivot<S> {
 pub struct Factoring<S> {
     pub(crate) open: Open,
     pub(crate) stack: Vec<u32>,
-    pub(crate) pivots: Vec<Pivot<S>>,
-    pub(crate) upper: Vec<Upper<S>>,
+    pub(crate) pivots: Vec<Entry<S>>,
+    pub(crate) upper: Vec<Entry<S>>,
     pub(crate) rows: Rows<S>,
     pub(crate) queue: Queue,
     /// The numbers of a column in open lines.
@@ -97,7 +85,7 @@ impl<S: Scalar> Factoring<S> {
     /// Makes a pivot of a column's number in a line.
     pub(crate) fn pick(&mut self, line: u32, column: u32, number: S) -> Result<(), NoMemory> {
         self.open.close(line, column);
-        self.pivots.push(Pivot {
+        self.pivots.push(Entry {
             line,
             column,
             number,
@@ -108,7 +96,7 @@ impl<S: Scalar> Factoring<S> {
     /// Puts a number to the upper triangle.
     #[inline(always)]
     pub(crate) fn push_upper(&mut self, line: u32, column: u32, number: S) -> Result<(), NoMemory> {
-        self.upper.push(Upper {
+        self.upper.push(Entry {
             line,
             column,
             number,

@@ -1,9 +1,7 @@
-use crate::factoring::{Factoring, Pivot, Upper};
-use crate::factors::Factors;
-use crate::open::{NONE, take_one};
-use crate::steps::Item;
+use crate::factoring::{Entry, Factoring};
+use basis_factors::{Factors, take_one};
 use entries::NoMemory;
-use fixed_numbers::{Scalar, Units, at, place_of, put};
+use fixed_numbers::{Item, NONE, Scalar, Units, at, place_of, put};
 
 // How many columns are looked at for a pivot, where one has been found.
 const MOST_LOOKED: u32 = 4;
@@ -14,7 +12,7 @@ const THRESHOLD: u64 = 10;
 // A pivot, and how many numbers it may add at most.
 #[derive(Clone, Copy)]
 struct Candidate<S> {
-    pivot: Pivot<S>,
+    pivot: Entry<S>,
     merit: u64,
 }
 
@@ -106,7 +104,7 @@ impl<S: Scalar> Factoring<S> {
             let len = u64::from(self.rows.len(item.place));
             let merit = len.wrapping_sub(1).wrapping_mul(others);
             if worth > 0 && worth >= least && is_less(merit, &better) {
-                let pivot = Pivot {
+                let pivot = Entry {
                     line: item.place,
                     column,
                     number: item.number,
@@ -118,7 +116,7 @@ impl<S: Scalar> Factoring<S> {
     }
 
     // Takes the pivot's line from the other lines of its column.
-    fn eliminate(&mut self, pivot: Pivot<S>, factors: &mut Factors<S>) -> Result<(), NoMemory> {
+    fn eliminate(&mut self, pivot: Entry<S>, factors: &mut Factors<S>) -> Result<(), NoMemory> {
         self.pick(pivot.line, pivot.column, pivot.number)?;
         self.rows.find(pivot.column, &self.open, &mut self.found)?;
         self.take_row(pivot)?;
@@ -139,7 +137,7 @@ impl<S: Scalar> Factoring<S> {
     }
 
     // Takes the pivot's line out, with its column and all that it meets.
-    fn take_row(&mut self, pivot: Pivot<S>) -> Result<(), NoMemory> {
+    fn take_row(&mut self, pivot: Entry<S>) -> Result<(), NoMemory> {
         self.row.clear();
         for item in self.rows.of(pivot.line) {
             let count = at(&self.open.column_counts, item.place as usize, 0);
@@ -147,7 +145,7 @@ impl<S: Scalar> Factoring<S> {
             if item.place != pivot.column {
                 take_one(self.open.column_counts.as_mut_slice(), item.place);
                 self.row.push(*item)?;
-                self.upper.push(Upper {
+                self.upper.push(Entry {
                     line: pivot.line,
                     column: item.place,
                     number: item.number,
