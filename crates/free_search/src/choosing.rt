@@ -1,12 +1,11 @@
 //! Which pair a subproblem is split by: the one whose parts rise most, as some pivots show or is known of it (strong branching, then
 //! pseudo costs: Achterberg, Koch and Martin 2005).
-use crate::gains::{GAIN_BITS, score};
 use crate::parts::gain_of;
-use crate::problem::Problem;
 use crate::search::Search;
 use dual_pivots::{Ended, Limits};
 use entries::NoMemory;
 use fixed_numbers::{PART_BITS, place_of};
+use search_tree::{GAIN_BITS, Problem, score};
 
 // So many pairs are looked at, and none behind so many in a row that did no better.
 const MOST_TRIED: u32 = 24;

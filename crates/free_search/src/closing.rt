@@ -1,7 +1,5 @@
 use crate::choosing::{InPart, push_in_part};
-use crate::problem::Problem;
 use crate::search::Search;
-use crate::subproblems::{State, Subproblem};
 use box_prices::text_lines::push_split;
 use box_prices::{make_proper, push_duals, push_weights};
 use entries::NoMemory;
@@ -9,6 +7,7 @@ use exact_ends::ExactEnd;
 use fixed_numbers::{at, filled, put};
 use fleet_model::Tables;
 use proof_lines::{Line, push_line};
+use search_tree::{Problem, State, Subproblem};
 use std::alloc::Global;
 
 // How much work may be done in all, and how long the text may grow: some twenty minutes, and 200 MB.
@@ -66,7 +65,7 @@ impl Search {
             None => false,
         };
         if is_closed {
-            self.make_leaf(alloc, tables, problem, number, Line::Priced, end.duals.den)?;
+            self.make_leaf(alloc, tables, problem, number, &Line::Priced, end.duals.den)?;
             return Ok(Turn::Went);
         }
         let weights = weights_of(alloc, problem, end)?;
@@ -131,10 +130,7 @@ impl Search {
             return Ok(Turn::GaveUp);
         }
         self.basis.save(&mut self.saved)?;
-        let mut pairs = Vec::new(alloc);
-        push_in_part(&mut pairs, weights, end.point.den)?;
-        let chosen = self.choose(problem, number, pairs.as_mut_slice())?;
-        let Some(pair) = chosen else {
+        let Some(pair) = self.chosen(alloc, problem, number, weights, end.point.den)? else {
             return Ok(Turn::GaveUp);
         };
         let begun = self.subproblems.text.len();
@@ -144,6 +140,20 @@ impl Search {
         self.subproblems.settle(number, State::Split, begun);
         self.splits = self.splits.wrapping_add(1);
         self.solve_parts(alloc, tables, problem, number, pair)
+    }
+
+    // The pair to split a subproblem by, whose basis is saved, where one is flown in part by weights over a scale.
+    fn chosen(
+        &mut self,
+        alloc: Global,
+        problem: &Problem,
+        number: u32,
+        weights: &[i128],
+        scale: i128,
+    ) -> Result<Option<InPart>, NoMemory> {
+        let mut pairs = Vec::new(alloc);
+        push_in_part(&mut pairs, weights, scale)?;
+        self.choose(problem, number, pairs.as_mut_slice())
     }
 
     // Solves the part in which the leg takes the pair, and the one in which it doesn't.

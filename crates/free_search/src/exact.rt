@@ -1,10 +1,10 @@
-use crate::problem::Problem;
 use crate::search::Search;
 use box_prices::worths::above;
 use dual_pivots::Ended;
 use entries::NoMemory;
 use exact_ends::{ExactEnd, exact_end};
 use fixed_numbers::at;
+use search_tree::Problem;
 use std::alloc::Global;
 
 impl Search {

@@ -1,29 +1,16 @@
 use crate::closing::Turn;
 use crate::outcome::Outcome;
-use crate::problem::Problem;
 use crate::search::Search;
-use crate::subproblems::Subproblem;
-use crate::tree_text::{push_end, push_head, push_plan, push_tree};
-use crate::whole_lines::whole_lines;
-use box_prices::text_lines::push_bare;
-use entries::{Entries, NoMemory};
+use entries::NoMemory;
 use fixed_numbers::NONE;
 use fleet_model::limits::{MAX_CHOICES, MAX_LEGS};
-use fleet_model::{Kept, Pair, Step, Tables};
-use lp_rows::Program;
+use fleet_model::{Kept, Step, Tables};
 use presolve::{Trim, trim};
+use search_tree::{Problem, Subproblem, TreeTexts, bare_texts, problem_of, tree_texts};
 use std::alloc::Global;
 
 // How many pivots a run may make where no number is given.
 const MOST_PIVOTS: u64 = 100_000;
-
-/// The texts of a tree that proves a plan cheapest, or that there is none: that of the plan, which is read where the proof says that one
-/// comes with it, and that of the proof.
-#[derive(Drop)]
-pub struct TreeTexts {
-    pub plan: Entries<u8>,
-    pub proof: Entries<u8>,
-}
 
 /// The texts of a tree with at most so many splits, where one is found by at most so many pivots for each subproblem. Leaves stay open
 /// where all splits are spent, and then alone.
@@ -42,15 +29,14 @@ pub fn find(
     if let Some(leg) = kept.bare_leg(tables) {
         return bare_texts(alloc, tables, removals.as_slice(), leg);
     }
-    let Some(problem) = problem_of(alloc, tables, &kept)? else {
-        return Ok(None);
-    };
-    let pivots = pivots.unwrap_or(MOST_PIVOTS).min(MOST_PIVOTS);
-    let mut search = Search::new(alloc, &problem, pivots);
-    if !search.goes(alloc, tables, &problem, nodes)? {
-        return Ok(None);
+    match problem_of(alloc, tables, &kept)? {
+        Some(problem) => {
+            let pivots = pivots.unwrap_or(MOST_PIVOTS).min(MOST_PIVOTS);
+            let mut search = Search::new(alloc, &problem, pivots);
+            search.texts(alloc, tables, removals.as_slice(), &problem, nodes)
+        }
+        None => Ok(None),
     }
-    texts_of(alloc, tables, removals.as_slice(), &problem, &search)
 }
 
 // Removes the pairs that presolve sets aside.
@@ -66,17 +52,26 @@ fn remove(kept: &mut Kept, removals: &[Trim]) {
     }
 }
 
-// What is searched, where its numbers fit.
-fn problem_of(alloc: Global, tables: &Tables, kept: &Kept) -> Result<Option<Problem>, NoMemory> {
-    let program = Program::new(alloc, tables, kept)?;
-    let Some(whole) = whole_lines(alloc, &program)? else {
-        return Ok(None);
-    };
-    let problem = Problem::new(alloc, tables, kept, &program.outline, whole)?;
-    Ok(Some(problem))
-}
-
 impl Search {
+    // The texts of what a search of the whole finds, where all of it is shown.
+    fn texts(
+        &mut self,
+        alloc: Global,
+        tables: &Tables,
+        removals: &[Trim],
+        problem: &Problem,
+        nodes: u64,
+    ) -> Result<Option<TreeTexts>, NoMemory> {
+        if !self.goes(alloc, tables, problem, nodes)? {
+            return Ok(None);
+        }
+        let plan = match self.best {
+            Some(_) => Some(self.plan.as_slice()),
+            None => None,
+        };
+        tree_texts(alloc, tables, removals, problem, &self.subproblems, plan)
+    }
+
     // Searches the whole, and answers whether all of it is shown.
     fn goes(
         &mut self,
@@ -102,48 +97,4 @@ impl Search {
         }
         Ok(false)
     }
-}
-
-// The texts of tables in which a leg keeps no pair.
-fn bare_texts(
-    alloc: Global,
-    tables: &Tables,
-    removals: &[Trim],
-    leg: u32,
-) -> Result<Option<TreeTexts>, NoMemory> {
-    let mut proof = Vec::new(alloc);
-    push_head(alloc, &mut proof, tables, false, removals)?;
-    push_bare(alloc, &mut proof, tables, leg)?;
-    push_end(alloc, &mut proof, tables)?;
-    Ok(Some(TreeTexts {
-        plan: Entries::from_vec(Vec::new(alloc)),
-        proof: Entries::from_vec(proof),
-    }))
-}
-
-// The texts of what a search found.
-fn texts_of(
-    alloc: Global,
-    tables: &Tables,
-    removals: &[Trim],
-    problem: &Problem,
-    search: &Search,
-) -> Result<Option<TreeTexts>, NoMemory> {
-    let planned = search.best.is_some();
-    let mut proof = Vec::new(alloc);
-    push_head(alloc, &mut proof, tables, planned, removals)?;
-    push_tree(alloc, &mut proof, &search.subproblems)?;
-    push_end(alloc, &mut proof, tables)?;
-    let mut pairs: Vec<Pair> = Vec::new(alloc);
-    for column in &search.plan {
-        pairs.push(problem.priced.pair(*column))?;
-    }
-    let mut plan = Vec::new(alloc);
-    if planned {
-        push_plan(alloc, &mut plan, tables, &pairs)?;
-    }
-    Ok(Some(TreeTexts {
-        plan: Entries::from_vec(plan),
-        proof: Entries::from_vec(proof),
-    }))
 }

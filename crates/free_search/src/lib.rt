@@ -5,16 +5,9 @@ pub mod choosing;
 pub mod closing;
 pub mod exact;
 pub mod finding;
-pub mod gains;
 pub mod outcome;
 pub mod parts;
-pub mod problem;
 pub mod running;
 pub mod search;
-pub mod slots;
-pub mod start;
-pub mod subproblems;
-pub mod tree_text;
-pub mod whole_lines;
 
-pub use finding::{TreeTexts, find};
+pub use finding::find;

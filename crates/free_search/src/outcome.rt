@@ -1,6 +1,4 @@
-use crate::problem::Problem;
 use crate::search::Search;
-use crate::subproblems::State;
 use box_prices::{make_proper, push_duals, worth};
 use dual_pivots::Ended;
 use entries::NoMemory;
@@ -8,6 +6,7 @@ use exact_ends::exact_end;
 use fixed_numbers::{Fixed, NONE, PART_BITS, Scalar, at, put, reset};
 use fleet_model::Tables;
 use proof_lines::{Line, push_line};
+use search_tree::{Problem, State};
 use std::alloc::Global;
 
 // Rounded prices are in parts of 2^20 of a unit.
@@ -44,7 +43,7 @@ impl Search {
         match ended {
             Ended::Refused { column, up } => {
                 if self.refutes(problem, column, up)? {
-                    return self.make_leaf(alloc, tables, problem, number, Line::Refuted, SCALE);
+                    return self.make_leaf(alloc, tables, problem, number, &Line::Refuted, SCALE);
                 }
                 Ok(Outcome::Lost)
             }
@@ -64,7 +63,7 @@ impl Search {
     ) -> Result<Outcome, NoMemory> {
         if let Some(best) = self.best {
             if self.reaches(problem, best)? {
-                return self.make_leaf(alloc, tables, problem, number, Line::Priced, SCALE);
+                return self.make_leaf(alloc, tables, problem, number, &Line::Priced, SCALE);
             }
         }
         Ok(Outcome::Lost)
@@ -141,7 +140,7 @@ impl Search {
             self.plan.clear();
             self.plan.extend_from_slice(&self.pairs)?;
         }
-        self.make_leaf(alloc, tables, problem, number, Line::Priced, scale)
+        self.make_leaf(alloc, tables, problem, number, &Line::Priced, scale)
     }
 
     // Takes of each leg the pair that is flown, and answers what they cost, or none where a leg has none.
@@ -228,37 +227,23 @@ impl Search {
         }
     }
 
-    /// Makes a leaf of the subproblem, with the prices over a scale.
+    /// Makes a leaf of the subproblem: its first line, and the prices over a scale.
     pub fn make_leaf(
         &mut self,
         alloc: Global,
         tables: &Tables,
         problem: &Problem,
         number: u32,
-        first: Line,
+        first: &Line,
         scale: i128,
     ) -> Result<Outcome, NoMemory> {
         let begun = self.subproblems.text.len();
-        push_first(alloc, &mut self.subproblems.text, tables, first)?;
+        push_line(alloc, &mut self.subproblems.text, tables, first)?;
         let priced = &problem.priced;
         let text = &mut self.subproblems.text;
         push_duals(alloc, text, tables, priced, &self.duals, scale)?;
         self.subproblems.settle(number, State::Leaf, begun);
         Ok(Outcome::Leaf)
-    }
-}
-
-// Appends the first line of a leaf.
-fn push_first(
-    alloc: Global,
-    text: &mut Vec<u8>,
-    tables: &Tables,
-    first: Line,
-) -> Result<(), NoMemory> {
-    match first {
-        Line::Refuted => push_line(alloc, text, tables, &Line::Refuted),
-        Line::Priced => push_line(alloc, text, tables, &Line::Priced),
-        _ => push_line(alloc, text, tables, &Line::OpenNodes),
     }
 }
 

@@ -1,12 +1,10 @@
-use crate::gains::GAIN_BITS;
 use crate::outcome::Outcome;
-use crate::problem::Problem;
 use crate::running::parts_of;
 use crate::search::Search;
-use crate::subproblems::Subproblem;
 use entries::NoMemory;
 use fixed_numbers::PART_BITS;
 use fleet_model::Tables;
+use search_tree::{GAIN_BITS, Problem, Subproblem};
 use std::alloc::Global;
 
 // How much less than its value a subproblem is surely worth, in parts: a thousandth of a unit.

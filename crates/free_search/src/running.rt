@@ -1,9 +1,8 @@
-use crate::problem::Problem;
 use crate::search::Search;
-use crate::start::lay_start;
 use dual_pivots::{Ended, Limits};
 use entries::NoMemory;
 use fixed_numbers::{NONE, PART_BITS, place_of};
+use search_tree::{Problem, lay_start};
 
 // A thousandth of a unit, in parts: rounded prices may be worth so much less than what they were rounded from.
 const SLACK: i128 = 1 << 20;

@@ -1,10 +1,7 @@
-use crate::gains::Gains;
-use crate::problem::Problem;
-use crate::slots::Slots;
-use crate::subproblems::Subproblems;
 use dual_pivots::{Basis, Saved, Workspace};
 use entries::NoMemory;
 use fixed_numbers::Fixed;
+use search_tree::{Gains, Problem, Slots, Subproblems};
 use std::alloc::Global;
 
 /// What a search has found so far, and what it reckons with.

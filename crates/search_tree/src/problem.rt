@@ -1,9 +1,9 @@
-use crate::whole_lines::WholeLines;
+use crate::whole_lines::{WholeLines, whole_lines};
 use box_prices::PricedLines;
 use dual_pivots::Lines;
 use entries::NoMemory;
 use fleet_model::{Kept, Tables};
-use lp_rows::Outline;
+use lp_rows::{Outline, Program};
 use std::alloc::Global;
 
 /// What is searched: it stays the same at all subproblems.
@@ -19,8 +19,8 @@ pub struct Problem {
 }
 
 impl Problem {
-    /// That of the kept pairs.
-    pub fn new(
+    // That of the kept pairs.
+    fn new(
         alloc: Global,
         tables: &Tables,
         kept: &Kept,
@@ -42,5 +42,30 @@ impl Problem {
     /// How many pairs there are, whose columns are the first.
     pub fn pair_count(&self) -> usize {
         self.priced.pairs.len()
+    }
+}
+
+/// What is searched, where its numbers fit.
+pub fn problem_of(
+    alloc: Global,
+    tables: &Tables,
+    kept: &Kept,
+) -> Result<Option<Problem>, NoMemory> {
+    let program = Program::new(alloc, tables, kept)?;
+    problem_by(alloc, tables, kept, &program)
+}
+
+fn problem_by(
+    alloc: Global,
+    tables: &Tables,
+    kept: &Kept,
+    program: &Program,
+) -> Result<Option<Problem>, NoMemory> {
+    match whole_lines(alloc, program)? {
+        Some(whole) => {
+            let problem = Problem::new(alloc, tables, kept, &program.outline, whole)?;
+            Ok(Some(problem))
+        }
+        None => Ok(None),
     }
 }

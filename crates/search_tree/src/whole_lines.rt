@@ -15,21 +15,8 @@ pub struct WholeLines {
 
 /// The lines of a program with all arcs, where their numbers fit.
 pub fn whole_lines(alloc: Global, program: &Program) -> Result<Option<WholeLines>, NoMemory> {
-    let rows = &program.rows;
-    let outline = &program.outline;
     let mut added = Added::new(alloc);
-    added.begin(rows.columns)?;
-    added.lay(outline, rows.columns)?;
-    let mut more = Units::new(alloc);
-    more.turn(&added.units, rows.lines.len())?;
-    let lines = Lines::with_more(
-        alloc,
-        rows.columns,
-        rows.lines.as_slice(),
-        rows.costs.as_slice(),
-        &more,
-        added.count,
-    )?;
+    let lines = added.lines(alloc, program)?;
     let Added { arcs, .. } = added;
     match lines {
         Some(lines) => Ok(Some(WholeLines { lines, arcs })),
@@ -52,6 +39,17 @@ impl Added {
             arcs: Vec::new(alloc),
             count: 0,
         }
+    }
+
+    // The lines of a program, and these columns behind its own.
+    fn lines(&mut self, alloc: Global, program: &Program) -> Result<Option<Lines>, NoMemory> {
+        let rows = &program.rows;
+        self.begin(rows.columns)?;
+        self.lay(&program.outline, rows.columns)?;
+        let mut more = Units::new(alloc);
+        more.turn(&self.units, rows.lines.len())?;
+        let (lines, costs) = (rows.lines.as_slice(), rows.costs.as_slice());
+        Lines::with_more(alloc, rows.columns, lines, costs, &more, self.count)
     }
 
     // Begins with empty lists, so that the lists behind go by the numbers of columns.

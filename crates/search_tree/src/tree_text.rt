@@ -1,16 +1,87 @@
 //! The texts of a tree that was found.
+use crate::problem::Problem;
 use crate::subproblems::{State, Subproblems};
-use box_prices::text_lines::push_trim;
+use box_prices::text_lines::{push_bare, push_trim};
 use box_prices::texts::push_prices;
-use entries::NoMemory;
+use entries::{Entries, NoMemory};
 use fixed_numbers::NONE;
 use fleet_model::{Pair, Tables};
 use presolve::Trim;
 use proof_lines::{Line, Version, push_line};
 use std::alloc::Global;
 
-/// Appends the head of a proof, and the pairs that are set aside above the tree, each with what refutes it.
-pub fn push_head(
+/// The texts of a tree that proves a plan cheapest, or that there is none: that of the plan, which is read where the proof says that one
+/// comes with it, and that of the proof.
+#[derive(Drop)]
+pub struct TreeTexts {
+    pub plan: Entries<u8>,
+    pub proof: Entries<u8>,
+}
+
+/// The texts of tables in which a leg keeps no pair.
+pub fn bare_texts(
+    alloc: Global,
+    tables: &Tables,
+    removals: &[Trim],
+    leg: u32,
+) -> Result<Option<TreeTexts>, NoMemory> {
+    let mut proof = Vec::new(alloc);
+    push_bare_proof(alloc, &mut proof, tables, removals, leg)?;
+    Ok(Some(TreeTexts {
+        plan: Entries::from_vec(Vec::new(alloc)),
+        proof: Entries::from_vec(proof),
+    }))
+}
+
+fn push_bare_proof(
+    alloc: Global,
+    proof: &mut Vec<u8>,
+    tables: &Tables,
+    removals: &[Trim],
+    leg: u32,
+) -> Result<(), NoMemory> {
+    push_head(alloc, proof, tables, false, removals)?;
+    push_bare(alloc, proof, tables, leg)?;
+    push_end(alloc, proof, tables)
+}
+
+/// The texts of subproblems, and of the pairs of the plan that they prove cheapest, by their columns, where there is one.
+pub fn tree_texts(
+    alloc: Global,
+    tables: &Tables,
+    removals: &[Trim],
+    problem: &Problem,
+    subproblems: &Subproblems,
+    columns: Option<&[u32]>,
+) -> Result<Option<TreeTexts>, NoMemory> {
+    let mut proof = Vec::new(alloc);
+    let planned = columns.is_some();
+    push_proof(alloc, &mut proof, tables, planned, removals, subproblems)?;
+    let mut plan = Vec::new(alloc);
+    if let Some(columns) = columns {
+        push_plan(alloc, &mut plan, tables, problem, columns)?;
+    }
+    Ok(Some(TreeTexts {
+        plan: Entries::from_vec(plan),
+        proof: Entries::from_vec(proof),
+    }))
+}
+
+fn push_proof(
+    alloc: Global,
+    proof: &mut Vec<u8>,
+    tables: &Tables,
+    planned: bool,
+    removals: &[Trim],
+    subproblems: &Subproblems,
+) -> Result<(), NoMemory> {
+    push_head(alloc, proof, tables, planned, removals)?;
+    push_tree(alloc, proof, subproblems)?;
+    push_end(alloc, proof, tables)
+}
+
+// Appends the head of a proof, and the pairs that are set aside above the tree, each with what refutes it.
+fn push_head(
     alloc: Global,
     text: &mut Vec<u8>,
     tables: &Tables,
@@ -36,12 +107,8 @@ pub fn push_head(
     Ok(())
 }
 
-/// Appends the tree: of each subproblem its own lines, then its parts.
-pub fn push_tree(
-    alloc: Global,
-    text: &mut Vec<u8>,
-    subproblems: &Subproblems,
-) -> Result<(), NoMemory> {
+// Appends the tree: of each subproblem its own lines, then its parts.
+fn push_tree(alloc: Global, text: &mut Vec<u8>, subproblems: &Subproblems) -> Result<(), NoMemory> {
     let mut waiting = Vec::new(alloc);
     waiting.push(0u32)?;
     for _turn in 0..subproblems.all.len() {
@@ -71,25 +138,26 @@ fn push_own(
     Ok(())
 }
 
-/// Appends the last line of a proof.
-pub fn push_end(alloc: Global, text: &mut Vec<u8>, tables: &Tables) -> Result<(), NoMemory> {
+// Appends the last line of a proof.
+fn push_end(alloc: Global, text: &mut Vec<u8>, tables: &Tables) -> Result<(), NoMemory> {
     push_line(alloc, text, tables, &Line::End)
 }
 
-/// The text of a plan: a header, and of each leg its pair. Names are of letters and digits, so nothing is quoted.
-pub fn push_plan(
+// Appends a plan: a header, and of each leg its pair. Names are of letters and digits, so nothing is quoted.
+fn push_plan(
     alloc: Global,
     text: &mut Vec<u8>,
     tables: &Tables,
-    pairs: &[Pair],
+    problem: &Problem,
+    columns: &[u32],
 ) -> Result<(), NoMemory> {
     text.extend_from_slice(b"flight,fleet")?;
     if tables.windows {
         text.extend_from_slice(b",shift")?;
     }
     text.extend_from_slice(b"\n")?;
-    for pair in pairs {
-        push_pair(alloc, text, tables, *pair)?;
+    for column in columns {
+        push_pair(alloc, text, tables, problem.priced.pair(*column))?;
     }
     Ok(())
 }
