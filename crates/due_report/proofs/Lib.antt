@@ -1,3 +1,2 @@
-pub mod Begun
 pub mod Pushed
-pub mod Pieces
+pub mod Tellable

@@ -1,24 +1,21 @@
 //! What each named tail flies on each date.
-ghost use Rattle.std.specs.Prelude.{◌≡◌, ◌++◌, ◌*◌, ◌<◌, ◌^◌, IfOk, OnOk, length, map};
+ghost use Rattle.std.specs.Prelude.{◌≡◌, ◌++◌, ◌*◌, ◌<◌, ◌^◌, IfOk, IfSome, OnOk, length, map};
 ghost use Rattle.calendar_dates.specs.Days.{HasDays, day_on};
-ghost use Rattle.due_report.specs.Lines.{AreBegun, begun_lines, days_tails, due_text, fleet_due, fleets_due, placed_lines, tail_line, tail_names, tails_on};
-ghost use Rattle.due_report.specs.Placings.{ArePlacings, IsPlacing, OnSomeDay};
+ghost use Rattle.due_report.specs.Lines.{AreBegun, AreTellable, IsTellable, begun_lines, days_tails, due_text, fleet_due, fleets_due, placed_lines, tail_line, tail_names, tails_on};
+ghost use Rattle.due_report.specs.Placings.{ArePlacings, OnSomeDay};
 ghost use Rattle.fleet_model.specs.Legal.{IsAssignment};
 ghost use Rattle.fleet_model.specs.Schedule.{days_in, fleets_in};
-ghost use Rattle.euler_rotation.specs.FleetRotations.{AreFlown, AreRotations, IsFleetRotation, IsRotationFlown, last_made};
-ghost use Rattle.ground_turns.specs.Maps.{IsTour};
-ghost use Rattle.lines_of_flying.specs.Lines.{BeginsAfterStart};
+ghost use Rattle.euler_rotation.specs.FleetRotations.{AllComeRound, AreFlown, AreRotations, ComesRound, IsTourOf, last_made};
 ghost use Rattle.rotation_report.specs.Tails.{AreFleetLines, lines_by};
-ghost use Rattle.tail_dates.specs.Placing.{IsPlaced};
 
-use crate::unplaced::{push_lacking, push_late, push_late_at, push_number, push_some_at};
+use crate::unplaced::{push_lacking, push_late, push_late_at, push_some_at, push_wrong_number};
 use calendar_dates::{Date, dates_from};
 use entries::{Entries, NoMemory};
 use euler_rotation::{FleetRotation, Rotation};
 use fleet_model::{Assignment, Tables};
+use printed_lines::{Piece, push_line};
 use rotation_report::FleetLines;
 use rotation_report::tails::{flights_text, line_from, lines_by, push_no_tour};
-use rotation_report::text_lines::push_line;
 use std::alloc::Global;
 use tail_dates::{Placed, TailState};
 
@@ -40,36 +37,32 @@ pub fn due_lines(
     requires tours { AreFlown tables.now plan.now rotations.now }
     requires placings { OnSomeDay tables.now (λ day. ArePlacings tables.now plan.now rotations.now day tails.now placings.now) }
     requires dates { HasDays date count }
-    ensures { IfOk result (λ text. text.items ≡ due_text tables.now plan.now rotations.now tails.now placings.now (day_on date) count) }
+    ensures { IfOk result (λ text. text.items ≡ due_text tables.now rotations.now tails.now placings.now (day_on date) count) }
 {
     let dates = dates_from(alloc, date, count)?;
-    due_on(alloc, tables, plan, rotations, tails, placings, &dates)
+    due_on(alloc, tables, rotations, tails, placings, &dates)
 }
 
 /// The lines of named tails on some dates.
 fn due_on(
     alloc: Global,
     tables: &Tables,
-    plan: &Assignment,
     rotations: &[FleetRotation],
     tails: &[TailState],
     placings: &[Option<Placed>],
     dates: &[Date],
 ) -> Result<Vec<u8>, NoMemory>
-    requires plan { IsAssignment tables.now plan.now }
     requires rotations { AreRotations tables.now rotations.now }
-    requires tours { AreFlown tables.now plan.now rotations.now }
-    requires placings { OnSomeDay tables.now (λ day. ArePlacings tables.now plan.now rotations.now day tails.now placings.now) }
+    requires tours { AllComeRound tables.now rotations.now }
+    requires placings { AreTellable tables.now rotations.now tails.now placings.now }
     requires few { length dates.now < 2 ^ 32 }
-    ensures { IfOk result (λ text. text.items ≡ fleets_due tables.now plan.now rotations.now tails.now placings.now (map day_on dates.now) (length rotations.now)) }
+    ensures { IfOk result (λ text. text.items ≡ fleets_due tables.now rotations.now tails.now placings.now (map day_on dates.now) (length rotations.now)) }
 {
     let mut text = Vec::new(alloc);
     for fleet in 0..rotations.len() as u32 {
         let made = &rotations[fleet as usize];
         let placing = &placings[fleet as usize];
-        push_due(
-            alloc, &mut text, tables, plan, fleet, made, tails, placing, dates,
-        )?;
+        push_due(alloc, &mut text, tables, fleet, made, tails, placing, dates)?;
     }
     Ok(text)
 }
@@ -79,56 +72,53 @@ fn push_due(
     alloc: Global,
     text: &mut Vec<u8>,
     tables: &Tables,
-    plan: &Assignment,
     fleet: u32,
     made: &FleetRotation,
     tails: &[TailState],
     placing: &Option<Placed>,
     dates: &[Date],
 ) -> Result<(), NoMemory>
-    requires plan { IsAssignment tables.now plan.now }
     requires fleet { fleet < fleets_in tables.now }
-    requires made { IsFleetRotation tables.now made.now }
-    requires tour { IsRotationFlown tables.now plan.now fleet (last_made made.now) }
-    requires placing { OnSomeDay tables.now (λ day. IsPlacing tables.now plan.now fleet day tails.now (last_made made.now) placing.now) }
+    requires tour { ComesRound tables.now fleet made.now.used (last_made made.now) }
+    requires placing { IfSome placing.now (IsTellable tables.now fleet made.now.used tails.now) }
     requires few { length dates.now < 2 ^ 32 }
-    ensures { OnOk result (text.new.items ≡ text.old.items ++ fleet_due tables.now plan.now fleet made.now tails.now placing.now (map day_on dates.now)) }
+    ensures { OnOk result (text.new.items ≡ text.old.items ++ fleet_due tables.now fleet made.now tails.now placing.now (map day_on dates.now)) }
 {
     let Some(placed) = placing else {
-        return push_no_tour(alloc, text, tables, plan, fleet, made);
+        return push_no_tour(alloc, text, tables, fleet, made);
     };
     match made.last() {
         Rotation::Tour(tour) => {
             let tour = tour.as_slice();
-            push_placed(alloc, text, tables, plan, fleet, tour, tails, placed, dates)
+            push_placed(
+                alloc, text, tables, fleet, made.used, tour, tails, placed, dates,
+            )
         }
-        _ => push_no_tour(alloc, text, tables, plan, fleet, made),
+        _ => push_no_tour(alloc, text, tables, fleet, made),
     }
 }
 
-/// Appends the lines of a fleet that has a tour.
+/// Appends the lines of a fleet that has a tour, which so many aircraft fly.
 fn push_placed(
     alloc: Global,
     text: &mut Vec<u8>,
     tables: &Tables,
-    plan: &Assignment,
     fleet: u32,
+    used: u32,
     tour: &[u32],
     tails: &[TailState],
     placed: &Placed,
     dates: &[Date],
 ) -> Result<(), NoMemory>
-    requires plan { IsAssignment tables.now plan.now }
     requires fleet { fleet < fleets_in tables.now }
-    requires tour { IsTour tables.now plan.now fleet tour.now }
-    requires begins { BeginsAfterStart tables.now fleet tour.now }
-    requires placed { OnSomeDay tables.now (λ day. IsPlaced tables.now plan.now fleet tour.now day tails.now placed.now) }
+    requires tour { IsTourOf tables.now fleet used tour.now }
+    requires placed { IsTellable tables.now fleet used tails.now placed.now }
     requires few { length dates.now < 2 ^ 32 }
-    ensures { OnOk result (text.new.items ≡ text.old.items ++ placed_lines tables.now plan.now fleet tour.now tails.now (map day_on dates.now) placed.now) }
+    ensures { OnOk result (text.new.items ≡ text.old.items ++ placed_lines tables.now fleet used tour.now tails.now (map day_on dates.now) placed.now) }
 {
     match placed {
         Placed::WrongNumber { tails, used } => {
-            push_number(alloc, text, tables, fleet, *tails, *used)
+            push_wrong_number(alloc, text, tables, fleet, *tails, *used)
         }
         Placed::Late {
             within,
@@ -149,7 +139,7 @@ fn push_placed(
         } => push_late_at(alloc, text, tables, fleet, *place, *within, *tails, *starts),
         Placed::Lines(starts) => {
             let starts = starts.as_slice();
-            push_begun(alloc, text, tables, plan, fleet, tour, tails, starts, dates)
+            push_begun(alloc, text, tables, fleet, used, tour, tails, starts, dates)
         }
     }
 }
@@ -159,22 +149,20 @@ fn push_begun(
     alloc: Global,
     text: &mut Vec<u8>,
     tables: &Tables,
-    plan: &Assignment,
     fleet: u32,
+    used: u32,
     tour: &[u32],
     tails: &[TailState],
     starts: &[u64],
     dates: &[Date],
 ) -> Result<(), NoMemory>
-    requires plan { IsAssignment tables.now plan.now }
     requires fleet { fleet < fleets_in tables.now }
-    requires tour { IsTour tables.now plan.now fleet tour.now }
-    requires begins { BeginsAfterStart tables.now fleet tour.now }
-    requires begun { AreBegun tables.now (lines_by tables.now plan.now fleet tour.now) (tail_names fleet tails.now) starts.now }
+    requires tour { IsTourOf tables.now fleet used tour.now }
+    requires begun { AreBegun tables.now used (tail_names fleet tails.now) starts.now }
     requires few { length dates.now < 2 ^ 32 }
-    ensures { OnOk result (text.new.items ≡ text.old.items ++ begun_lines tables.now plan.now fleet tour.now tails.now (map day_on dates.now) starts.now) }
+    ensures { OnOk result (text.new.items ≡ text.old.items ++ begun_lines tables.now fleet used tour.now tails.now (map day_on dates.now) starts.now) }
 {
-    let flown = lines_by(alloc, tables, plan, fleet, tour)?;
+    let flown = lines_by(alloc, tables, fleet, used, tour)?;
     let names = names_of(alloc, tails, fleet)?;
     push_days(alloc, text, tables, &flown, &names, starts, dates)
 }
@@ -204,7 +192,7 @@ fn push_days(
     dates: &[Date],
 ) -> Result<(), NoMemory>
     requires flown { AreFleetLines tables.now flown.now }
-    requires begun { AreBegun tables.now flown.now names.now starts.now }
+    requires begun { AreBegun tables.now flown.now.used names.now starts.now }
     requires few { length dates.now < 2 ^ 32 }
     ensures { OnOk result (text.new.items ≡ text.old.items ++ days_tails tables.now flown.now names.now starts.now (map day_on dates.now) (length dates.now)) }
 {
@@ -227,7 +215,7 @@ fn push_day(
     day: u32,
 ) -> Result<(), NoMemory>
     requires flown { AreFleetLines tables.now flown.now }
-    requires begun { AreBegun tables.now flown.now names.now starts.now }
+    requires begun { AreBegun tables.now flown.now.used names.now starts.now }
     ensures { OnOk result (text.new.items ≡ text.old.items ++ tails_on tables.now flown.now names.now starts.now (day_on date) day (length names.now)) }
 {
     let date = date.to_string(alloc)?;
@@ -255,13 +243,14 @@ fn push_tail(
 {
     let flights = flights_text(alloc, tables, line_from(tables, flown, day, first))?;
     push_line(
+        alloc,
         text,
         &[
-            date.as_bytes(),
-            b" ".as_slice(),
-            name,
-            b":".as_slice(),
-            flights.as_slice(),
+            Piece::Text(date.as_bytes()),
+            Piece::Text(b" "),
+            Piece::Text(name),
+            Piece::Text(b":"),
+            Piece::Text(flights.as_slice()),
         ],
     )
 }

@@ -6,12 +6,12 @@ ghost use Rattle.tail_dates.specs.Places.{IsPlace};
 
 use entries::NoMemory;
 use fleet_model::Tables;
-use rotation_report::text_lines::push_line;
+use printed_lines::{Piece, push_line};
 use std::alloc::Global;
 use tail_dates::Place;
 
 /// Appends `F: tails N of M`.
-pub(crate) fn push_number(
+pub(crate) fn push_wrong_number(
     alloc: Global,
     text: &mut Vec<u8>,
     tables: &Tables,
@@ -22,16 +22,15 @@ pub(crate) fn push_number(
     requires { fleet < fleets_in tables.now }
     ensures { OnOk result (text.new.items ≡ text.old.items ++ number_line tables.now fleet tails used) }
 {
-    let tails = tails.to_string(alloc)?;
-    let used = used.to_string(alloc)?;
     push_line(
+        alloc,
         text,
         &[
-            tables.fleet(fleet).name.as_slice(),
-            b": tails ".as_slice(),
-            tails.as_bytes(),
-            b" of ".as_slice(),
-            used.as_bytes(),
+            Piece::Text(tables.fleet(fleet).name.as_slice()),
+            Piece::Text(b": tails "),
+            Piece::Count(tails),
+            Piece::Text(b" of "),
+            Piece::Count(u64::from(used)),
         ],
     )
 }
@@ -49,19 +48,17 @@ pub(crate) fn push_late(
     requires { fleet < fleets_in tables.now }
     ensures { OnOk result (text.new.items ≡ text.old.items ++ late_line tables.now fleet within tails starts) }
 {
-    let within = within.to_string(alloc)?;
-    let tails = tails.to_string(alloc)?;
-    let starts = starts.to_string(alloc)?;
     push_line(
+        alloc,
         text,
         &[
-            tables.fleet(fleet).name.as_slice(),
-            b": late within ".as_slice(),
-            within.as_bytes(),
-            b", tails ".as_slice(),
-            tails.as_bytes(),
-            b", starts ".as_slice(),
-            starts.as_bytes(),
+            Piece::Text(tables.fleet(fleet).name.as_slice()),
+            Piece::Text(b": late within "),
+            Piece::Count(within),
+            Piece::Text(b", tails "),
+            Piece::Count(tails),
+            Piece::Text(b", starts "),
+            Piece::Count(starts),
         ],
     )
 }
@@ -78,16 +75,15 @@ pub(crate) fn push_some_at(
     requires { fleet < fleets_in tables.now }
     ensures { OnOk result (text.new.items ≡ text.old.items ++ some_at_line tables.now fleet at tails) }
 {
-    let at = at.to_string(alloc)?;
-    let tails = tails.to_string(alloc)?;
     push_line(
+        alloc,
         text,
         &[
-            tables.fleet(fleet).name.as_slice(),
-            b": at ".as_slice(),
-            at.as_bytes(),
-            b" of ".as_slice(),
-            tails.as_bytes(),
+            Piece::Text(tables.fleet(fleet).name.as_slice()),
+            Piece::Text(b": at "),
+            Piece::Count(at),
+            Piece::Text(b" of "),
+            Piece::Count(tails),
         ],
     )
 }
@@ -106,18 +102,17 @@ pub(crate) fn push_lacking(
     requires place { IsPlace tables.now place }
     ensures { OnOk result (text.new.items ≡ text.old.items ++ lacking_line tables.now fleet place tails starts) }
 {
-    let tails = tails.to_string(alloc)?;
-    let starts = starts.to_string(alloc)?;
     push_line(
+        alloc,
         text,
         &[
-            tables.fleet(fleet).name.as_slice(),
-            b": at ".as_slice(),
-            name_of(tables, place),
-            b" tails ".as_slice(),
-            tails.as_bytes(),
-            b", starts ".as_slice(),
-            starts.as_bytes(),
+            Piece::Text(tables.fleet(fleet).name.as_slice()),
+            Piece::Text(b": at "),
+            Piece::Text(name_of(tables, place)),
+            Piece::Text(b" tails "),
+            Piece::Count(tails),
+            Piece::Text(b", starts "),
+            Piece::Count(starts),
         ],
     )
 }
@@ -137,21 +132,19 @@ pub(crate) fn push_late_at(
     requires place { IsPlace tables.now place }
     ensures { OnOk result (text.new.items ≡ text.old.items ++ late_at_line tables.now fleet place within tails starts) }
 {
-    let within = within.to_string(alloc)?;
-    let tails = tails.to_string(alloc)?;
-    let starts = starts.to_string(alloc)?;
     push_line(
+        alloc,
         text,
         &[
-            tables.fleet(fleet).name.as_slice(),
-            b": late at ".as_slice(),
-            name_of(tables, place),
-            b" within ".as_slice(),
-            within.as_bytes(),
-            b", tails ".as_slice(),
-            tails.as_bytes(),
-            b", starts ".as_slice(),
-            starts.as_bytes(),
+            Piece::Text(tables.fleet(fleet).name.as_slice()),
+            Piece::Text(b": late at "),
+            Piece::Text(name_of(tables, place)),
+            Piece::Text(b" within "),
+            Piece::Count(within),
+            Piece::Text(b", tails "),
+            Piece::Count(tails),
+            Piece::Text(b", starts "),
+            Piece::Count(starts),
         ],
     )
 }

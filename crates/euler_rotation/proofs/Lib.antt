@@ -19,3 +19,4 @@ pub mod EntriesKept
 pub mod EntriesRise
 pub mod Filtered
 pub mod OtherTables
+pub mod Counted

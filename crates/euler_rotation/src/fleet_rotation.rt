@@ -15,6 +15,8 @@ pub struct FleetRotation {
     pub first: Rotation,
     /// The rotation without them, where they were given up for it.
     pub second: Option<Rotation>,
+    /// How many aircraft of the fleet the plan uses.
+    pub used: u32,
 }
 
 impl FleetRotation {

@@ -65,11 +65,14 @@ impl Search {
         if !self.goes(alloc, tables, problem, nodes)? {
             return Ok(None);
         }
-        let plan = match self.best {
-            Some(_) => Some(self.plan.as_slice()),
-            None => None,
-        };
-        tree_texts(alloc, tables, removals, problem, &self.subproblems, plan)
+        let subproblems = &self.subproblems;
+        match self.best {
+            Some(_) => {
+                let plan = self.plan.as_slice();
+                tree_texts(alloc, tables, removals, problem, subproblems, Some(plan))
+            }
+            None => tree_texts(alloc, tables, removals, problem, subproblems, None),
+        }
     }
 
     // Searches the whole, and answers whether all of it is shown.

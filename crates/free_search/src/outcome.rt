@@ -238,12 +238,26 @@ impl Search {
         scale: i128,
     ) -> Result<Outcome, NoMemory> {
         let begun = self.subproblems.text.len();
-        push_line(alloc, &mut self.subproblems.text, tables, first)?;
+        push_first(alloc, &mut self.subproblems.text, tables, first)?;
         let priced = &problem.priced;
         let text = &mut self.subproblems.text;
         push_duals(alloc, text, tables, priced, &self.duals, scale)?;
         self.subproblems.settle(number, State::Leaf, begun);
         Ok(Outcome::Leaf)
+    }
+}
+
+// Appends the first line of a leaf.
+fn push_first(
+    alloc: Global,
+    text: &mut Vec<u8>,
+    tables: &Tables,
+    first: &Line,
+) -> Result<(), NoMemory> {
+    match first {
+        Line::Refuted => push_line(alloc, text, tables, &Line::Refuted),
+        Line::Priced => push_line(alloc, text, tables, &Line::Priced),
+        _ => push_line(alloc, text, tables, &Line::OpenNodes),
     }
 }
 

@@ -31,20 +31,20 @@ pub fn lines(
     ensures whole { IfOk result (λ lines. concat lines ≡ tour.now) }
     ensures days { IfOk result (λ lines. length lines ≡ used_of tables.now (weights_of plan.now) fleet * days_in tables.now) }
 {
-    Ok(Entries::from_vec(cut(alloc, tables, fleet, tour)?))
+    Ok(cut(alloc, tables, fleet, tour)?)
 }
 
-// A list of legs, cut at the nights between them.
-fn cut(
+/// A list of legs, cut at the nights between them: the lines of a tour, whichever plan it is of.
+pub fn cut(
     alloc: Global,
     tables: &Tables,
     fleet: u32,
     tour: &[u32],
-) -> Result<Vec<Entries<u32>>, NoMemory>
+) -> Result<Entries<Entries<u32>>, NoMemory>
     requires fleet { fleet < fleets_in tables.now }
     requires some { 0 < length tour.now }
     requires known { AreLegsOfTables tables.now tour.now }
-    ensures { IfOk result (λ lines. lines.items ≡ lines_of tables.now fleet tour.now) }
+    ensures { IfOk result (λ lines. lines ≡ lines_of tables.now fleet tour.now) }
 {
     let mut lines = Vec::new(alloc);
     let early = first_day(tables, fleet, tour);
@@ -58,7 +58,7 @@ fn cut(
     // the nights that follow the last leg lead into the next period by as many days as the first line begins before the
     // first leg
     lines.truncate(lines.len() - early as usize);
-    Ok(lines)
+    Ok(Entries::from_vec(lines))
 }
 
 // Ends a line with each of so many nights, and gives the line after them.

@@ -9,5 +9,5 @@ pub mod mapping;
 mod needs;
 mod places;
 
-pub use days::{first_day, lines, nights_after, periods_after, turn_after};
+pub use days::{cut, first_day, lines, nights_after, periods_after, turn_after};
 pub use mapping::successors;

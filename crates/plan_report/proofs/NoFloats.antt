@@ -27,7 +27,7 @@ fleets_have_none t (solved.Infeasible tree) = refl
 fleets_have_none t (solved.Unsettled bound tree) = refl
 
 rotations_have_none : (t : Tables) (s : Solved) (rotations : List FleetRotation) → has_float (array (items_of (rotations_data t s rotations))) ≡ false
-rotations_have_none t (solved.Planned plan cost bound tree) rotations = list_has_none (rotation_data t plan rotations) (λ k. refl) (range_with_len 0 (length rotations))
+rotations_have_none t (solved.Planned plan cost bound tree) rotations = list_has_none (rotation_data t rotations) (λ k. refl) (range_with_len 0 (length rotations))
 rotations_have_none t (solved.Infeasible tree) rotations = refl
 rotations_have_none t (solved.Unsettled bound tree) rotations = refl
 

@@ -43,12 +43,12 @@ fleets_data t (solved.Infeasible tree) = []
 fleets_data t (solved.Unsettled bound tree) = []
 
 -- what becomes of a fleet's rotation
-abbrev pub rotation_data : Tables → List ℕ → List FleetRotation → ℕ → Data
-rotation_data t a rotations f = string (rotation_words t a f (rotation_of rotations f))
+abbrev pub rotation_data : Tables → List FleetRotation → ℕ → Data
+rotation_data t rotations f = string (rotation_words t (rotation_of rotations f))
 
 -- the rotations, where there is a plan
 abbrev pub rotations_data : Tables → Solved → List FleetRotation → List Data
-rotations_data t (solved.Planned plan cost bound tree) rotations = list_below (rotation_data t plan rotations) (length rotations)
+rotations_data t (solved.Planned plan cost bound tree) rotations = list_below (rotation_data t rotations) (length rotations)
 rotations_data t (solved.Infeasible tree) rotations = []
 rotations_data t (solved.Unsettled bound tree) rotations = []
 

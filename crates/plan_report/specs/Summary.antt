@@ -10,7 +10,8 @@ use Rattle.fleet_model.specs.Schedule.{fleet_of, fleets_in}
 use Rattle.fleet_model.specs.declared.tables.Tables.{Tables}
 use Rattle.euler_rotation.specs.FleetRotations.{rotation_of}
 use Rattle.rotation_report.specs.RotationWords.{rotation_words}
-use Rattle.rotation_report.specs.TextLines.{fleet_lines, line_of, number_word}
+use Rattle.printed_lines.specs.Lines.{line_of}
+use Rattle.rotation_report.specs.TextLines.{fleet_lines, number_word}
 use Rattle.euler_rotation.specs.declared.fleet_rotation.FleetRotation.{FleetRotation}
 
 -- how the search ended
@@ -39,17 +40,17 @@ count_lines counts =
     ++ line_of (codes "open: " ∷ decimal counts.open_nodes ∷ codes " nodes, " ∷ decimal counts.open_pivots ∷ codes " pivots, " ∷ decimal counts.open_grew ∷ codes " grew" ∷ [])
 
 -- the line of a fleet's rotation
-abbrev pub rotation_line : Tables → List ℕ → List FleetRotation → ℕ → List ℕ
-rotation_line t a rotations f = line_of (codes "rotation " ∷ (fleet_of t f).name ∷ codes ": " ∷ rotation_words t a f (rotation_of rotations f) ∷ [])
+abbrev pub rotation_line : Tables → List FleetRotation → ℕ → List ℕ
+rotation_line t rotations f = line_of (codes "rotation " ∷ (fleet_of t f).name ∷ codes ": " ∷ rotation_words t (rotation_of rotations f) ∷ [])
 
 -- such a line for each of the first fleets
-abbrev pub rotation_lines : Tables → List ℕ → List FleetRotation → ℕ → List ℕ
-rotation_lines t a rotations zero = []
-rotation_lines t a rotations (suc n) = rotation_lines t a rotations n ++ rotation_line t a rotations n
+abbrev pub rotation_lines : Tables → List FleetRotation → ℕ → List ℕ
+rotation_lines t rotations zero = []
+rotation_lines t rotations (suc n) = rotation_lines t rotations n ++ rotation_line t rotations n
 
 -- the lines of the fleets and of their rotations, where there is a plan
 abbrev pub plan_lines : Tables → Solved → List FleetRotation → List ℕ
-plan_lines t (solved.Planned plan cost bound tree) rotations = fleet_lines t plan (fleets_in t) ++ rotation_lines t plan rotations (length rotations)
+plan_lines t (solved.Planned plan cost bound tree) rotations = fleet_lines t plan (fleets_in t) ++ rotation_lines t rotations (length rotations)
 plan_lines t (solved.Infeasible tree) rotations = []
 plan_lines t (solved.Unsettled bound tree) rotations = []
 

@@ -261,9 +261,7 @@ fn rotations_value(
     ensures { IfOk result (λ value. view value ≡ array (items_of (rotations_data tables.now solved.now rotations.now))) }
 {
     match solved {
-        Solved::Planned { assignment, .. } => {
-            Ok(Value::Array(made_rotations(alloc, tables, assignment, rotations)?))
-        }
+        Solved::Planned { .. } => Ok(Value::Array(made_rotations(alloc, tables, rotations)?)),
         Solved::Infeasible { .. } | Solved::Unsettled { .. } => Ok(Value::Array(Vec::new(alloc))),
     }
 }
@@ -272,16 +270,14 @@ fn rotations_value(
 fn made_rotations(
     alloc: Global,
     tables: &Tables,
-    plan: &Assignment,
     rotations: &[FleetRotation],
 ) -> Result<Vec<Value>, NoMemory>
-    requires plan { IsAssignment tables.now plan.now }
-    requires rotations { AreRotations tables.now rotations.now }
-    ensures { IfOk result (λ values. map view values.items ≡ list_below (rotation_data tables.now plan.now rotations.now) (length rotations.now)) }
+    requires { AreRotations tables.now rotations.now }
+    ensures { IfOk result (λ values. map view values.items ≡ list_below (rotation_data tables.now rotations.now) (length rotations.now)) }
 {
     let mut values = Vec::new(alloc);
     for fleet in 0..rotations.len() as u32 {
-        values.push(rotation_value(alloc, tables, plan, rotations, fleet)?)?;
+        values.push(rotation_value(alloc, tables, rotations, fleet)?)?;
     }
     Ok(values)
 }
@@ -290,14 +286,11 @@ fn made_rotations(
 fn rotation_value(
     alloc: Global,
     tables: &Tables,
-    plan: &Assignment,
     rotations: &[FleetRotation],
     fleet: u32,
 ) -> Result<Value, NoMemory>
-    requires plan { IsAssignment tables.now plan.now }
-    requires rotations { AreRotations tables.now rotations.now }
-    requires fleet { fleet < length rotations.now }
-    ensures { IfOk result (λ value. view value ≡ rotation_data tables.now plan.now rotations.now fleet) }
+    requires { fleet < length rotations.now }
+    ensures { IfOk result (λ value. view value ≡ rotation_data tables.now rotations.now fleet) }
 {
-    Ok(Value::String(rotation_words(alloc, tables, plan, fleet, &rotations[fleet as usize])?))
+    Ok(Value::String(rotation_words(alloc, tables, &rotations[fleet as usize])?))
 }

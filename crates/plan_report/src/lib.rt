@@ -2,6 +2,7 @@
 #![tactic(auto)]
 
 pub mod json;
+pub mod laws;
 pub mod summary_lines;
 
 pub use euler_rotation::FleetRotation;

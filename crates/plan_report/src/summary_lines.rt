@@ -1,18 +1,18 @@
 //! The summary of a solution and its rotations, in lines.
 ghost use Rattle.std.specs.Prelude.{◌≡◌, ◌++◌, ◌<◌, [], ◌∷◌, IfOk, OnOk, codes, length};
-ghost use Rattle.std.specs.Fmt.{decimal};
 ghost use Rattle.dual_bound.specs.Solved.{PlanFits, plan_cost};
-ghost use Rattle.fleet_model.specs.Legal.{IsAssignment};
 ghost use Rattle.euler_rotation.specs.FleetRotations.{AreRotations};
 ghost use Rattle.plan_report.specs.Summary.{count_lines, outcome_word, plan_lines, printed_bound, result_lines, rotation_line, rotation_lines, summary_text};
-ghost use Rattle.rotation_report.specs.TextLines.{line_of, number_word};
+ghost use Rattle.printed_lines.specs.Lines.{line_of};
+ghost use Rattle.rotation_report.specs.TextLines.{number_word};
 
 use dual_bound::{Solved, TreeCounts};
 use entries::NoMemory;
 use euler_rotation::FleetRotation;
-use fleet_model::{Assignment, Tables};
+use fleet_model::Tables;
+use printed_lines::{Piece, push_line};
 use rotation_report::rotation_words;
-use rotation_report::text_lines::{push_fleets, push_line};
+use rotation_report::text_lines::push_fleets;
 use std::alloc::Global;
 
 /// The summary of a solution and its rotations: how the search ended, cost, bound, splits and open leaves, and where there
@@ -64,7 +64,7 @@ fn push_plan(
     match solved {
         Solved::Planned { assignment, .. } => {
             push_fleets(alloc, text, tables, assignment)?;
-            push_rotations(alloc, text, tables, assignment, rotations)
+            push_rotations(alloc, text, tables, rotations)
         }
         Solved::Infeasible { .. } | Solved::Unsettled { .. } => Ok(()),
     }
@@ -74,7 +74,12 @@ fn push_plan(
 fn push_result(alloc: Global, text: &mut Vec<u8>, solved: &Solved) -> Result<(), NoMemory>
     ensures { OnOk result (text.new.items ≡ text.old.items ++ result_lines solved.now) }
 {
-    push_line(text, &[b"outcome: ".as_slice(), outcome(solved).as_bytes()])?;
+    let word = outcome(solved);
+    push_line(
+        alloc,
+        text,
+        &[Piece::Text(b"outcome: "), Piece::Text(word.as_bytes())],
+    )?;
     push_cost(alloc, text, solved)?;
     push_bound(alloc, text, solved)?;
     Ok(())
@@ -97,12 +102,13 @@ fn push_cost(alloc: Global, text: &mut Vec<u8>, solved: &Solved) -> Result<(), N
     ensures { OnOk result (text.new.items ≡ text.old.items ++ line_of (codes "cost: " ∷ number_word (plan_cost solved.now) ∷ [])) }
 {
     match solved {
-        Solved::Planned { cost, .. } => {
-            let cost = cost.to_string(alloc)?;
-            push_line(text, &[b"cost: ".as_slice(), cost.as_bytes()])
-        }
+        Solved::Planned { cost, .. } => push_line(
+            alloc,
+            text,
+            &[Piece::Text(b"cost: "), Piece::Number(*cost)],
+        ),
         Solved::Infeasible { .. } | Solved::Unsettled { .. } => {
-            push_line(text, &[b"cost: ".as_slice(), b"none".as_slice()])
+            push_line(alloc, text, &[Piece::Text(b"cost: "), Piece::Text(b"none")])
         }
     }
 }
@@ -112,11 +118,18 @@ fn push_bound(alloc: Global, text: &mut Vec<u8>, solved: &Solved) -> Result<(), 
     ensures { OnOk result (text.new.items ≡ text.old.items ++ line_of (codes "bound: " ∷ number_word (printed_bound solved.now) ∷ [])) }
 {
     match solved {
-        Solved::Planned { bound, .. } | Solved::Unsettled { bound, .. } => {
-            let bound = bound.to_string(alloc)?;
-            push_line(text, &[b"bound: ".as_slice(), bound.as_bytes()])
+        Solved::Planned { bound, .. } | Solved::Unsettled { bound, .. } => push_line(
+            alloc,
+            text,
+            &[Piece::Text(b"bound: "), Piece::Number(*bound)],
+        ),
+        Solved::Infeasible { .. } => {
+            push_line(
+                alloc,
+                text,
+                &[Piece::Text(b"bound: "), Piece::Text(b"none")],
+            )
         }
-        Solved::Infeasible { .. } => push_line(text, &[b"bound: ".as_slice(), b"none".as_slice()]),
     }
 }
 
@@ -124,22 +137,24 @@ fn push_bound(alloc: Global, text: &mut Vec<u8>, solved: &Solved) -> Result<(), 
 fn push_counts(alloc: Global, text: &mut Vec<u8>, counts: TreeCounts) -> Result<(), NoMemory>
     ensures { OnOk result (text.new.items ≡ text.old.items ++ count_lines counts) }
 {
-    push_count(alloc, text, b"splits: ", counts.splits)?;
-    push_count(alloc, text, b"\nopen: ", counts.open_nodes)?;
-    push_count(alloc, text, b" nodes, ", counts.open_pivots)?;
-    push_count(alloc, text, b" pivots, ", counts.open_grew)?;
-    text.extend_from_slice(b" grew\n")?;
-    Ok(())
-}
-
-/// Appends some words and a count.
-fn push_count(alloc: Global, text: &mut Vec<u8>, before: &[u8], count: u64) -> Result<(), NoMemory>
-    ensures { OnOk result (text.new.items ≡ text.old.items ++ before.now ++ decimal count) }
-{
-    text.extend_from_slice(before)?;
-    let digits = count.to_string(alloc)?;
-    text.extend_from_slice(digits.as_bytes())?;
-    Ok(())
+    push_line(
+        alloc,
+        text,
+        &[Piece::Text(b"splits: "), Piece::Count(counts.splits)],
+    )?;
+    push_line(
+        alloc,
+        text,
+        &[
+            Piece::Text(b"open: "),
+            Piece::Count(counts.open_nodes),
+            Piece::Text(b" nodes, "),
+            Piece::Count(counts.open_pivots),
+            Piece::Text(b" pivots, "),
+            Piece::Count(counts.open_grew),
+            Piece::Text(b" grew"),
+        ],
+    )
 }
 
 /// Appends the line `rotation F: A` of each rotation.
@@ -147,15 +162,13 @@ fn push_rotations(
     alloc: Global,
     text: &mut Vec<u8>,
     tables: &Tables,
-    plan: &Assignment,
     rotations: &[FleetRotation],
 ) -> Result<(), NoMemory>
-    requires plan { IsAssignment tables.now plan.now }
-    requires rotations { AreRotations tables.now rotations.now }
-    ensures { OnOk result (text.new.items ≡ text.old.items ++ rotation_lines tables.now plan.now rotations.now (length rotations.now)) }
+    requires { AreRotations tables.now rotations.now }
+    ensures { OnOk result (text.new.items ≡ text.old.items ++ rotation_lines tables.now rotations.now (length rotations.now)) }
 {
     for fleet in 0..rotations.len() as u32 {
-        push_rotation(alloc, text, tables, plan, rotations, fleet)?;
+        push_rotation(alloc, text, tables, rotations, fleet)?;
     }
     Ok(())
 }
@@ -165,23 +178,22 @@ fn push_rotation(
     alloc: Global,
     text: &mut Vec<u8>,
     tables: &Tables,
-    plan: &Assignment,
     rotations: &[FleetRotation],
     fleet: u32,
 ) -> Result<(), NoMemory>
-    requires plan { IsAssignment tables.now plan.now }
     requires rotations { AreRotations tables.now rotations.now }
     requires fleet { fleet < length rotations.now }
-    ensures { OnOk result (text.new.items ≡ text.old.items ++ rotation_line tables.now plan.now rotations.now fleet) }
+    ensures { OnOk result (text.new.items ≡ text.old.items ++ rotation_line tables.now rotations.now fleet) }
 {
-    let words = rotation_words(alloc, tables, plan, fleet, &rotations[fleet as usize])?;
+    let words = rotation_words(alloc, tables, &rotations[fleet as usize])?;
     push_line(
+        alloc,
         text,
         &[
-            b"rotation ".as_slice(),
-            tables.fleet(fleet).name.as_slice(),
-            b": ".as_slice(),
-            words.as_bytes(),
+            Piece::Text(b"rotation "),
+            Piece::Text(tables.fleet(fleet).name.as_slice()),
+            Piece::Text(b": "),
+            Piece::Text(words.as_bytes()),
         ],
     )
 }

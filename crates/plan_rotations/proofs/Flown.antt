@@ -72,6 +72,7 @@ module _ (t : Tables) (a : List ℕ) (days visits : ℕ) where
         let all_of = rotation_of all f in
         last_is t a f days visits (IsRotationFlown t a f) (are_some all_of.pairs && is_given_up all_of.first) all_of.first all_of.second (flown t a f [] days visits)
         (flown t a f all_of.pairs days visits all_of.first made.first.right) made.second;
+    counted = record { each = λ f lt. (is.each f (omega (arith, lt, is.each_fleet))).counted };
   }
 
   pub are_kept : (all : List FleetRotation) → ArePlanRotations t a days visits all → AreKept t all

@@ -8,7 +8,7 @@ use Rattle.through_flights.specs.Choice.{AreThroughsListed}
 use Rattle.euler_rotation.specs.Answers.{IsRotation, IsRotationComplete}
 use Rattle.euler_rotation.specs.declared.rotation.Rotation.{Rotation}
 use Rattle.euler_rotation.specs.declared.rotation.Rotation.TheVariants as rotation
-use Rattle.euler_rotation.specs.FleetRotations.{rotation_of}
+use Rattle.euler_rotation.specs.FleetRotations.{TellsUse, rotation_of}
 use Rattle.euler_rotation.specs.declared.fleet_rotation.FleetRotation.{FleetRotation}
 
 -- through pairs that are worth most of all through sets, each worth something, by the leg that arrives
@@ -48,6 +48,7 @@ pub record IsMadeRotation (t : Tables) (a : List ℕ) (f days visits : ℕ) (mad
   pub pairs : AreWorthMost t a f made.pairs
   pub first : IsRotationWith t a f made.pairs days visits made.first
   pub second : IsSecond t a f days visits made.pairs made.first made.second
+  pub counted : TellsUse t a f made
 
 -- one of each of the first fleets, in the order of the table
 pub record AreMadeBelow (t : Tables) (a : List ℕ) (days visits : ℕ) (all : List FleetRotation) (fleets : ℕ) : Type 0 where

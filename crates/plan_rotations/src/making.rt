@@ -9,6 +9,7 @@ ghost use Rattle.plan_rotations.specs.Rotations.{ArePlanRotations, AreWorthMost,
 use entries::{Entries, NoMemory};
 use euler_rotation::{FleetRotation, Rotation, rotate};
 use fleet_model::{Assignment, Connection, Tables};
+use plan_judge::used;
 use std::alloc::Global;
 use through_flights::choose;
 
@@ -80,6 +81,7 @@ fn rotation_of(
         pairs,
         first,
         second,
+        used: used(tables, plan, fleet),
     })
 }
 

@@ -22,8 +22,8 @@ use Rattle.ground_turns.proofs.Places.{lower_row}
 use Rattle.lines_of_flying.specs.Lines.{BeginsAfterStart, day_of, days_of_tour, legs_on_day, lines_of, nights_after, periods_after}
 use Rattle.lines_of_flying.proofs.TourLines.{days_are_use, known_legs}
 use Rattle.lines_of_flying.proofs.WholeTours.{joined_all, joined_more, lines_are_tour}
-use Rattle.rotation_report.specs.TailLaws.{EachLegOnItsDay, departs_on, flown_on}
-use Rattle.rotation_report.specs.Tails.{line_on, lines_by}
+use Rattle.rotation_report.specs.TailLaws.{EachLegOnItsDay, departs_on, flown_on, lines_by_plan}
+use Rattle.rotation_report.specs.Tails.{line_on}
 use Rattle.rotation_report.proofs.RoundLines.{all_once, has_lines, round_from}
 use Rattle.sums.specs.Below.{sum_below}
 use Rattle.sums.specs.Places.{list_below}
@@ -203,15 +203,15 @@ module _ (t : Tables) (a : List ℕ) (f : ℕ) (tour : List ℕ) (is : IsTour t 
       none_flown used days none = (let zero_is : used ≡ 0 = omega (arith, none) in rw zero_is (omega arith))
 
   -- a date's lines are those of its day of the period, from one of them on
-  on_date : (d : ℕ) → IsPermutation (flown_on t (lines_by t a f tour) d) (filter (departs_on t f (d % days)) tour)
+  on_date : (d : ℕ) → IsPermutation (flown_on t (lines_by_plan t a f tour) d) (filter (departs_on t f (d % days)) tour)
   unfolding days used line
   on_date d =
       let day = d % days in
       let within : day < days = mod-lt d (some_days t) in
       let own : List (List ℕ) = list_below (λ m. line (m * days + day)) used in
       let long : length own ≡ used = length-list_below (λ m. line (m * days + day)) used in
-      let same : list_below (line_on t (lines_by t a f tour) d) used ≡ list_below (round_from own (d / days)) (length own) =
-      list_below-agree (line_on t (lines_by t a f tour) d) (round_from own (d / days)) used (λ k below. line_is d k) ∙ ap (list_below (round_from own (d / days))) (sym long) in
+      let same : list_below (line_on t (lines_by_plan t a f tour) d) used ≡ list_below (round_from own (d / days)) (length own) =
+      list_below-agree (line_on t (lines_by_plan t a f tour) d) (round_from own (d / days)) used (λ k below. line_is d k) ∙ ap (list_below (round_from own (d / days))) (sym long) in
       subst₂ (λ lines legs. IsPermutation (concat lines) legs) (sym same) (legs_by_lines day within) (all_once own (d / days) (rw long some_used))
     where
       moved : (k whole rest n d : ℕ) → d ≡ whole * n + rest → k * n + d ≡ (k + whole) * n + rest
@@ -220,7 +220,7 @@ module _ (t : Tables) (a : List ℕ) (f : ℕ) (tour : List ℕ) (is : IsTour t 
       split : (k d n : ℕ) → k * n + d ≡ (k + d / n) * n + d % n
       split k d n = moved k (d / n) (d % n) n d (sym (div-add-mod' d n))
 
-      line_is : (d k : ℕ) → line_on t (lines_by t a f tour) d k ≡ round_from (list_below (λ m. line (m * days + d % days)) used) (d / days) k
+      line_is : (d k : ℕ) → line_on t (lines_by_plan t a f tour) d k ≡ round_from (list_below (λ m. line (m * days + d % days)) used) (d / days) k
       line_is d k =
           let day = d % days in
           let within : day < days = mod-lt d (some_days t) in

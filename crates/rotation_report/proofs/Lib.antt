@@ -1,8 +1,6 @@
 pub mod DatedLegs
 pub mod OwnDates
-pub mod Pieces
 pub mod PlainText
 pub mod RoundLines
 pub mod RowWriting
 pub mod TourLegs
-pub mod ToldWords

@@ -16,8 +16,8 @@ use Rattle.ground_turns.specs.Maps.{IsTour}
 use Rattle.lines_of_flying.specs.Lines.{BeginsAfterStart, lines_of}
 use Rattle.lines_of_flying.proofs.TourLines.{days_are_use}
 use Rattle.lines_of_flying.proofs.WholeTours.{lines_are_tour}
-use Rattle.rotation_report.specs.TailLaws.{ComesToNextLine, EachAircraftFliesAll, FollowsNextAircraft, flown_by}
-use Rattle.rotation_report.specs.Tails.{line_on, lines_by}
+use Rattle.rotation_report.specs.TailLaws.{ComesToNextLine, EachAircraftFliesAll, FollowsNextAircraft, flown_by, lines_by_plan}
+use Rattle.rotation_report.specs.Tails.{line_on}
 use Rattle.sums.specs.Places.{list_below}
 use Rattle.sums.proofs.Rounds.{all_round, moved_entry}
 use Rattle.sums.proofs.Places.{list_below-agree}
@@ -83,19 +83,19 @@ module _ (t : Tables) (a : List ℕ) (f : ℕ) (tour : List ℕ) (is : IsTour t 
   unfolding lines
   has_lines = some
 
-  line_is : (d k : ℕ) → line_on t (lines_by t a f tour) d k ≡ get_or lines ((k * days_in t + d) % length lines) []
+  line_is : (d k : ℕ) → line_on t (lines_by_plan t a f tour) d k ≡ get_or lines ((k * days_in t + d) % length lines) []
   unfolding lines used
   line_is d k = ap (λ n. get_or lines ((k * days_in t + d) % n) []) (sym count)
 
-  each_aircraft : (k : ℕ) → IsPermutation (flown_by t (lines_by t a f tour) k (used * days_in t)) tour
+  each_aircraft : (k : ℕ) → IsPermutation (flown_by t (lines_by_plan t a f tour) k (used * days_in t)) tour
   each_aircraft k =
-      let same : list_below (λ d. line_on t (lines_by t a f tour) d k) (used * days_in t) ≡ list_below (round_from lines (k * days_in t)) (length lines) =
-      list_below-agree (λ d. line_on t (lines_by t a f tour) d k) (round_from lines (k * days_in t)) (used * days_in t) (λ d lt.
+      let same : list_below (λ d. line_on t (lines_by_plan t a f tour) d k) (used * days_in t) ≡ list_below (round_from lines (k * days_in t)) (length lines) =
+      list_below-agree (λ d. line_on t (lines_by_plan t a f tour) d k) (round_from lines (k * days_in t)) (used * days_in t) (λ d lt.
       line_is d k ∙ ap (λ j. get_or lines (j % length lines) []) (add_comm (k * days_in t) d))
       ∙ ap (list_below (round_from lines (k * days_in t))) (sym count) in
       subst₂ (λ list legs. IsPermutation (concat list) legs) (sym same) whole (all_once lines (k * days_in t) some)
 
-  next_line : (d k : ℕ) → get_or lines (suc ((k * days_in t + d) % length lines) % length lines) [] ≡ line_on t (lines_by t a f tour) (suc d) k
+  next_line : (d k : ℕ) → get_or lines (suc ((k * days_in t + d) % length lines) % length lines) [] ≡ line_on t (lines_by_plan t a f tour) (suc d) k
   next_line d k =
       ap (λ j. get_or lines (j % length lines) []) (plus_one ((k * days_in t + d) % length lines))
       ∙ ap (λ j. get_or lines j []) (mod-add-mod (k * days_in t + d) (length lines) 1)

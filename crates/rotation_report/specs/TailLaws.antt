@@ -14,6 +14,10 @@ use Rattle.rotation_report.specs.Tails.{days_lines, line_on, lines_by}
 use Rattle.rotation_report.specs.declared.flying.FleetLines.{FleetLines}
 use Rattle.sums.specs.Places.{list_below}
 
+-- the lines of a fleet's tour, and the aircraft that an assignment uses, which fly them
+abbrev pub lines_by_plan : Tables → List ℕ → ℕ → List ℕ → FleetLines
+lines_by_plan t a f tour = lines_by t f (used_of t (weights_of a) f) tour
+
 -- what all aircraft fly so many days after a first day of the period, one aircraft after another
 abbrev pub flown_on : Tables → FleetLines → ℕ → List ℕ
 flown_on t flown d = concat (list_below (line_on t flown d) flown.used)
@@ -29,12 +33,12 @@ departs_on t f day l = day_of_minute (departure t (leg_on l f)) == day
 -- on each date those legs of a fleet's tour are flown that depart on its day of the period, each by one aircraft
 abbrev pub EachLegOnItsDay : Type 0
 EachLegOnItsDay = (t : Tables) (a : List ℕ) (f : ℕ) (tour : List ℕ) (d : ℕ) → IsTour t a f tour → BeginsAfterStart t f tour
-    → IsPermutation (flown_on t (lines_by t a f tour) d) (filter (departs_on t f (d % days_in t)) tour)
+    → IsPermutation (flown_on t (lines_by_plan t a f tour) d) (filter (departs_on t f (d % days_in t)) tour)
 
 -- each aircraft flies each leg of the tour once, in as many days as the tour has
 abbrev pub EachAircraftFliesAll : Type 0
 EachAircraftFliesAll = (t : Tables) (a : List ℕ) (f : ℕ) (tour : List ℕ) (k : ℕ) → IsTour t a f tour → BeginsAfterStart t f tour
-    → IsPermutation (flown_by t (lines_by t a f tour) k (used_of t (weights_of a) f * days_in t)) tour
+    → IsPermutation (flown_by t (lines_by_plan t a f tour) k (used_of t (weights_of a) f * days_in t)) tour
 
 -- of a list of lines the one that is flown on a date, and on the next date the one after it, going round
 pub record IsNextLine (lines : List (List ℕ)) (today tomorrow : List ℕ) : Type 0 where
@@ -46,7 +50,7 @@ pub record IsNextLine (lines : List (List ℕ)) (today tomorrow : List ℕ) : Ty
 -- an aircraft comes to the tour's next line each day
 abbrev pub ComesToNextLine : Type 0
 ComesToNextLine = (t : Tables) (a : List ℕ) (f : ℕ) (tour : List ℕ) (d k : ℕ) → IsTour t a f tour → BeginsAfterStart t f tour
-    → IsNextLine (lines_of t f tour) (line_on t (lines_by t a f tour) d k) (line_on t (lines_by t a f tour) (suc d) k)
+    → IsNextLine (lines_of t f tour) (line_on t (lines_by_plan t a f tour) d k) (line_on t (lines_by_plan t a f tour) (suc d) k)
 
 -- a period later an aircraft flies what the next one flew
 abbrev pub FollowsNextAircraft : Type 0

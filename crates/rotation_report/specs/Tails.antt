@@ -4,21 +4,19 @@ use Rattle.std.specs.Fmt.{decimal}
 use Rattle.std.specs.List.{flat_map}
 use Rattle.euler_rotation.specs.declared.rotation.Rotation.{Rotation}
 use Rattle.euler_rotation.specs.declared.rotation.Rotation.TheVariants as rotation
-use Rattle.fleet_model.specs.Counts.{weights_of}
 use Rattle.fleet_model.specs.Schedule.{days_in, fleet_of, fleets_in, leg_of}
-use Rattle.fleet_model.specs.Use.{used_of}
 use Rattle.fleet_model.specs.declared.tables.Tables.{Tables}
 use Rattle.lines_of_flying.specs.Lines.{AreLegsOfTables, lines_of}
 use Rattle.calendar_dates.specs.Days.{Day, day_text, days_from, no_day}
 use Rattle.euler_rotation.specs.FleetRotations.{last_made, rotation_of}
 use Rattle.rotation_report.specs.RotationWords.{rotation_words}
-use Rattle.rotation_report.specs.TextLines.{line_of}
+use Rattle.printed_lines.specs.Lines.{line_of}
 use Rattle.euler_rotation.specs.declared.fleet_rotation.FleetRotation.{FleetRotation}
 use Rattle.rotation_report.specs.declared.flying.FleetLines.{FleetLines}
 
--- the lines of a fleet's tour, and the aircraft that fly them
-abbrev pub lines_by : Tables → List ℕ → ℕ → List ℕ → FleetLines
-lines_by t a f tour = record { fleet = f; used = used_of t (weights_of a) f; lines = lines_of t f tour }
+-- the lines of a fleet's tour, and how many aircraft fly them
+abbrev pub lines_by : Tables → ℕ → ℕ → List ℕ → FleetLines
+lines_by t f used tour = record { fleet = f; used = used; lines = lines_of t f tour }
 
 -- lines of the tables' legs, one for each day that the aircraft take
 pub record AreFleetLines (t : Tables) (flown : FleetLines) : Type 0 where
@@ -62,26 +60,26 @@ days_lines t flown past days (suc d) =
     days_lines t flown past days d ++ day_lines t flown (slice_index_or days d no_day) (past + d) flown.used
 
 -- that a fleet has no tour
-abbrev pub no_tour_line : Tables → List ℕ → ℕ → FleetRotation → List ℕ
-no_tour_line t a f made = line_of ((fleet_of t f).name ∷ codes ": " ∷ rotation_words t a f made ∷ [])
+abbrev pub no_tour_line : Tables → ℕ → FleetRotation → List ℕ
+no_tour_line t f made = line_of ((fleet_of t f).name ∷ codes ": " ∷ rotation_words t made ∷ [])
 
 -- the lines of a fleet on some days
-abbrev pub rotation_tails : Tables → List ℕ → ℕ → FleetRotation → ℕ → List Day → Rotation → List ℕ
-rotation_tails t a f made past days rotation.Unused = no_tour_line t a f made
-rotation_tails t a f made past days (rotation.TooFewNights have used) = no_tour_line t a f made
-rotation_tails t a f made past days (rotation.Apart legs) = no_tour_line t a f made
-rotation_tails t a f made past days (rotation.Tour tour) = days_lines t (lines_by t a f tour) past days (length days)
-rotation_tails t a f made past days rotation.None = no_tour_line t a f made
-rotation_tails t a f made past days (rotation.Spent order prefix) = no_tour_line t a f made
+abbrev pub rotation_tails : Tables → ℕ → FleetRotation → ℕ → List Day → Rotation → List ℕ
+rotation_tails t f made past days rotation.Unused = no_tour_line t f made
+rotation_tails t f made past days (rotation.TooFewNights have used) = no_tour_line t f made
+rotation_tails t f made past days (rotation.Apart legs) = no_tour_line t f made
+rotation_tails t f made past days (rotation.Tour tour) = days_lines t (lines_by t f made.used tour) past days (length days)
+rotation_tails t f made past days rotation.None = no_tour_line t f made
+rotation_tails t f made past days (rotation.Spent order prefix) = no_tour_line t f made
 
-abbrev pub fleet_tails : Tables → List ℕ → ℕ → FleetRotation → ℕ → List Day → List ℕ
-fleet_tails t a f made past days = rotation_tails t a f made past days (last_made made)
+abbrev pub fleet_tails : Tables → ℕ → FleetRotation → ℕ → List Day → List ℕ
+fleet_tails t f made past days = rotation_tails t f made past days (last_made made)
 
 -- the lines of the first fleets
-abbrev pub fleets_tails : Tables → List ℕ → List FleetRotation → ℕ → List Day → ℕ → List ℕ
-fleets_tails t a rotations past days zero = []
-fleets_tails t a rotations past days (suc f) = fleets_tails t a rotations past days f ++ fleet_tails t a f (rotation_of rotations f) past days
+abbrev pub fleets_tails : Tables → List FleetRotation → ℕ → List Day → ℕ → List ℕ
+fleets_tails t rotations past days zero = []
+fleets_tails t rotations past days (suc f) = fleets_tails t rotations past days f ++ fleet_tails t f (rotation_of rotations f) past days
 
 -- the lines of tails for so many dates, from the first on, which comes so many days after a first day of the period
-unfoldable pub tails_text : Tables → List ℕ → List FleetRotation → ℕ → Day → ℕ → List ℕ
-tails_text t a rotations past first count = fleets_tails t a rotations past (days_from first count) (length rotations)
+unfoldable pub tails_text : Tables → List FleetRotation → ℕ → Day → ℕ → List ℕ
+tails_text t rotations past first count = fleets_tails t rotations past (days_from first count) (length rotations)

@@ -1,15 +1,11 @@
--- Lines of text, and those of the fleets.
+-- Lines of the fleets, and numbers that there may be none of.
 use Rattle.std.specs.Prelude.{ℕ, zero, suc, List, [], ◌∷◌, ◌++◌, codes, ℤ, Option, Some, None}
-use Rattle.std.specs.List.{concat}
 use Rattle.std.specs.Fmt.{decimal, signed_decimal}
 use Rattle.fleet_model.specs.declared.tables.Tables.{Tables}
 use Rattle.fleet_model.specs.Counts.{weights_of}
 use Rattle.fleet_model.specs.Schedule.{fleet_of}
 use Rattle.fleet_model.specs.Use.{used_of}
-
--- pieces of a line, joined, and a line feed
-abbrev pub line_of : List (List ℕ) → List ℕ
-line_of pieces = concat pieces ++ 10 ∷ []
+pub use Rattle.printed_lines.specs.Lines.{line_of}
 
 -- a number in decimal, or none
 abbrev pub number_word : Option ℤ → List ℕ

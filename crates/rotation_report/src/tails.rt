@@ -3,21 +3,19 @@ ghost use Rattle.std.specs.Prelude.{◌≡◌, ◌++◌, ◌+◌, ◌*◌, ◌<�
 ghost use Rattle.std.specs.List.{flat_map};
 ghost use Rattle.fleet_model.specs.Legal.{IsAssignment};
 ghost use Rattle.fleet_model.specs.Schedule.{days_in, fleets_in};
-ghost use Rattle.ground_turns.specs.Maps.{IsTour};
-ghost use Rattle.lines_of_flying.specs.Lines.{AreLegsOfTables, BeginsAfterStart};
+ghost use Rattle.lines_of_flying.specs.Lines.{AreLegsOfTables};
 ghost use Rattle.calendar_dates.specs.Days.{HasDays, day_on};
-ghost use Rattle.euler_rotation.specs.FleetRotations.{AreFlown, AreRotations, IsFleetRotation, IsRotationFlown, last_made};
+ghost use Rattle.euler_rotation.specs.FleetRotations.{AllComeRound, AreFlown, AreRotations, ComesRound, IsTourOf, last_made};
 ghost use Rattle.rotation_report.specs.Tails.{AreFleetLines, dated_line, day_lines, days_lines, fleet_tails, fleets_tails, flights_text, line_from, line_on, lines_by, no_tour_line, spaced_flight, tails_text};
 
 use crate::flying::FleetLines;
-use crate::text_lines::push_line;
 use crate::words::rotation_words;
 use calendar_dates::{Date, dates_from};
 use entries::NoMemory;
 use euler_rotation::{FleetRotation, Rotation};
 use fleet_model::{Assignment, Tables};
-use lines_of_flying::lines;
-use plan_judge::used;
+use lines_of_flying::cut;
+use printed_lines::{Piece, push_line};
 use std::alloc::Global;
 
 /// The lines of tails for so many dates, from the first on, which comes so many days after a first day of the period: of each
@@ -38,31 +36,29 @@ pub fn tail_lines(
     requires tours { AreFlown tables.now plan.now rotations.now }
     requires dates { HasDays date count }
     requires few { past + count < 2 ^ 32 }
-    ensures { IfOk result (λ text. text.items ≡ tails_text tables.now plan.now rotations.now past (day_on date) count) }
+    ensures { IfOk result (λ text. text.items ≡ tails_text tables.now rotations.now past (day_on date) count) }
 {
     let dates = dates_from(alloc, date, count)?;
-    tails_on(alloc, tables, plan, rotations, past, &dates)
+    tails_on(alloc, tables, rotations, past, &dates)
 }
 
 /// The lines of tails on some dates, of which the first comes so many days after a first day of the period.
 fn tails_on(
     alloc: Global,
     tables: &Tables,
-    plan: &Assignment,
     rotations: &[FleetRotation],
     past: u32,
     dates: &[Date],
 ) -> Result<Vec<u8>, NoMemory>
-    requires plan { IsAssignment tables.now plan.now }
     requires rotations { AreRotations tables.now rotations.now }
-    requires tours { AreFlown tables.now plan.now rotations.now }
+    requires tours { AllComeRound tables.now rotations.now }
     requires few { past + length dates.now < 2 ^ 32 }
-    ensures { IfOk result (λ text. text.items ≡ fleets_tails tables.now plan.now rotations.now past (map day_on dates.now) (length rotations.now)) }
+    ensures { IfOk result (λ text. text.items ≡ fleets_tails tables.now rotations.now past (map day_on dates.now) (length rotations.now)) }
 {
     let mut text = Vec::new(alloc);
     for fleet in 0..rotations.len() as u32 {
         let made = &rotations[fleet as usize];
-        push_tails(alloc, &mut text, tables, plan, fleet, made, past, dates)?;
+        push_tails(alloc, &mut text, tables, fleet, made, past, dates)?;
     }
     Ok(text)
 }
@@ -72,55 +68,42 @@ fn push_tails(
     alloc: Global,
     text: &mut Vec<u8>,
     tables: &Tables,
-    plan: &Assignment,
     fleet: u32,
     made: &FleetRotation,
     past: u32,
     dates: &[Date],
 ) -> Result<(), NoMemory>
-    requires plan { IsAssignment tables.now plan.now }
     requires fleet { fleet < fleets_in tables.now }
-    requires made { IsFleetRotation tables.now made.now }
-    requires tour { IsRotationFlown tables.now plan.now fleet (last_made made.now) }
+    requires tour { ComesRound tables.now fleet made.now.used (last_made made.now) }
     requires few { past + length dates.now < 2 ^ 32 }
-    ensures { OnOk result (text.new.items ≡ text.old.items ++ fleet_tails tables.now plan.now fleet made.now past (map day_on dates.now)) }
+    ensures { OnOk result (text.new.items ≡ text.old.items ++ fleet_tails tables.now fleet made.now past (map day_on dates.now)) }
 {
     match made.last() {
         Rotation::Tour(tour) => {
-            push_tour(
-                alloc,
-                text,
-                tables,
-                plan,
-                fleet,
-                tour.as_slice(),
-                past,
-                dates,
-            )
+            let tour = tour.as_slice();
+            push_tour(alloc, text, tables, fleet, made.used, tour, past, dates)
         }
-        _ => push_no_tour(alloc, text, tables, plan, fleet, made),
+        _ => push_no_tour(alloc, text, tables, fleet, made),
     }
 }
 
-/// Appends the lines of a fleet that has a tour.
+/// Appends the lines of a tour that so many aircraft fly.
 fn push_tour(
     alloc: Global,
     text: &mut Vec<u8>,
     tables: &Tables,
-    plan: &Assignment,
     fleet: u32,
+    used: u32,
     tour: &[u32],
     past: u32,
     dates: &[Date],
 ) -> Result<(), NoMemory>
-    requires plan { IsAssignment tables.now plan.now }
     requires fleet { fleet < fleets_in tables.now }
-    requires tour { IsTour tables.now plan.now fleet tour.now }
-    requires begins { BeginsAfterStart tables.now fleet tour.now }
+    requires tour { IsTourOf tables.now fleet used tour.now }
     requires few { past + length dates.now < 2 ^ 32 }
-    ensures { OnOk result (text.new.items ≡ text.old.items ++ days_lines tables.now (lines_by tables.now plan.now fleet tour.now) past (map day_on dates.now) (length (map day_on dates.now))) }
+    ensures { OnOk result (text.new.items ≡ text.old.items ++ days_lines tables.now (lines_by tables.now fleet used tour.now) past (map day_on dates.now) (length (map day_on dates.now))) }
 {
-    let flown = lines_by(alloc, tables, plan, fleet, tour)?;
+    let flown = lines_by(alloc, tables, fleet, used, tour)?;
     push_days(alloc, text, tables, &flown, past, dates)
 }
 
@@ -129,45 +112,41 @@ pub fn push_no_tour(
     alloc: Global,
     text: &mut Vec<u8>,
     tables: &Tables,
-    plan: &Assignment,
     fleet: u32,
     made: &FleetRotation,
 ) -> Result<(), NoMemory>
-    requires plan { IsAssignment tables.now plan.now }
-    requires fleet { fleet < fleets_in tables.now }
-    requires made { IsFleetRotation tables.now made.now }
-    ensures { OnOk result (text.new.items ≡ text.old.items ++ no_tour_line tables.now plan.now fleet made.now) }
+    requires { fleet < fleets_in tables.now }
+    ensures { OnOk result (text.new.items ≡ text.old.items ++ no_tour_line tables.now fleet made.now) }
 {
-    let words = rotation_words(alloc, tables, plan, fleet, made)?;
+    let words = rotation_words(alloc, tables, made)?;
     push_line(
+        alloc,
         text,
         &[
-            tables.fleet(fleet).name.as_slice(),
-            b": ".as_slice(),
-            words.as_bytes(),
+            Piece::Text(tables.fleet(fleet).name.as_slice()),
+            Piece::Text(b": "),
+            Piece::Text(words.as_bytes()),
         ],
     )
 }
 
-/// The lines of a tour, and the aircraft that fly them.
+/// The lines of a tour, and how many aircraft fly them.
 pub fn lines_by(
     alloc: Global,
     tables: &Tables,
-    plan: &Assignment,
     fleet: u32,
+    used: u32,
     tour: &[u32],
 ) -> Result<FleetLines, NoMemory>
-    requires plan { IsAssignment tables.now plan.now }
     requires fleet { fleet < fleets_in tables.now }
-    requires tour { IsTour tables.now plan.now fleet tour.now }
-    requires begins { BeginsAfterStart tables.now fleet tour.now }
-    ensures value { IfOk result (λ flown. flown ≡ lines_by tables.now plan.now fleet tour.now) }
+    requires tour { IsTourOf tables.now fleet used tour.now }
+    ensures value { IfOk result (λ flown. flown ≡ lines_by tables.now fleet used tour.now) }
     ensures fits { IfOk result (AreFleetLines tables.now) }
 {
     Ok(FleetLines {
         fleet,
-        used: used(tables, plan, fleet),
-        lines: lines(alloc, tables, plan, fleet, tour)?,
+        used,
+        lines: cut(alloc, tables, fleet, tour)?,
     })
 }
 
@@ -223,18 +202,18 @@ fn push_tail(
     requires aircraft { aircraft < flown.now.used }
     ensures { OnOk result (text.new.items ≡ text.old.items ++ dated_line tables.now flown.now date.now day aircraft) }
 {
-    let number = (aircraft + 1).to_string(alloc)?;
     let flights = flights_text(alloc, tables, line_on(tables, flown, day, aircraft))?;
     push_line(
+        alloc,
         text,
         &[
-            date.as_bytes(),
-            b" ".as_slice(),
-            tables.fleet(flown.fleet).name.as_slice(),
-            b"/".as_slice(),
-            number.as_bytes(),
-            b":".as_slice(),
-            flights.as_slice(),
+            Piece::Text(date.as_bytes()),
+            Piece::Text(b" "),
+            Piece::Text(tables.fleet(flown.fleet).name.as_slice()),
+            Piece::Text(b"/"),
+            Piece::Count(u64::from(aircraft) + 1),
+            Piece::Text(b":"),
+            Piece::Text(flights.as_slice()),
         ],
     )
 }

@@ -1,24 +1,14 @@
-//! Lines of text, put together from pieces.
-ghost use Rattle.std.specs.Prelude.{◌≡◌, ◌++◌, ◌<◌, OnOk, map};
-ghost use Rattle.rotation_report.specs.TextLines.{fleet_line, fleet_lines, line_of};
+//! The lines of the fleets.
+ghost use Rattle.std.specs.Prelude.{◌≡◌, ◌++◌, ◌<◌, OnOk};
+ghost use Rattle.rotation_report.specs.TextLines.{fleet_line, fleet_lines};
 ghost use Rattle.fleet_model.specs.Legal.{IsAssignment};
 ghost use Rattle.fleet_model.specs.Schedule.{fleets_in};
 
 use entries::NoMemory;
 use fleet_model::{Assignment, Tables};
 use plan_judge::used;
+use printed_lines::{Piece, push_line};
 use std::alloc::Global;
-
-/// Appends pieces and a line feed to a text.
-pub fn push_line(text: &mut Vec<u8>, pieces: &[&[u8]]) -> Result<(), NoMemory>
-    ensures { OnOk result (text.new.items ≡ text.old.items ++ line_of (map (λ piece. piece.now) pieces.now)) }
-{
-    for piece in pieces {
-        text.extend_from_slice(piece)?;
-    }
-    text.push(b'\n')?;
-    Ok(())
-}
 
 /// Appends the line `fleet F: used N of M` of each fleet.
 pub fn push_fleets(
@@ -49,17 +39,16 @@ fn push_fleet(
     ensures { OnOk result (text.new.items ≡ text.old.items ++ fleet_line tables.now plan.now fleet) }
 {
     let flown = tables.fleet(fleet);
-    let used = used(tables, plan, fleet).to_string(alloc)?;
-    let has = flown.aircraft.to_string(alloc)?;
     push_line(
+        alloc,
         text,
         &[
-            b"fleet ".as_slice(),
-            flown.name.as_slice(),
-            b": used ".as_slice(),
-            used.as_bytes(),
-            b" of ".as_slice(),
-            has.as_bytes(),
+            Piece::Text(b"fleet "),
+            Piece::Text(flown.name.as_slice()),
+            Piece::Text(b": used "),
+            Piece::Count(u64::from(used(tables, plan, fleet))),
+            Piece::Text(b" of "),
+            Piece::Count(u64::from(flown.aircraft)),
         ],
     )
 }

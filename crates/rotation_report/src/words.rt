@@ -1,15 +1,12 @@
 //! What becomes of a fleet's rotation, in words.
-ghost use Rattle.std.specs.Prelude.{◌≡◌, ◌++◌, ◌<◌, IfOk, OnOk, codes, string_bytes};
+ghost use Rattle.std.specs.Prelude.{◌≡◌, ◌++◌, ◌*◌, IfOk, codes, string_bytes};
 ghost use Rattle.std.specs.Fmt.{decimal};
-ghost use Rattle.fleet_model.specs.Legal.{IsAssignment};
-ghost use Rattle.fleet_model.specs.Schedule.{fleets_in};
-ghost use Rattle.rotation_report.specs.RotationWords.{days_used, rotation_words, words_of_rotation};
-ghost use Rattle.euler_rotation.specs.FleetRotations.{IsFleetRotation, IsOfLegs};
+ghost use Rattle.fleet_model.specs.Schedule.{days_in};
+ghost use Rattle.rotation_report.specs.RotationWords.{rotation_words, words_of_rotation};
 
 use entries::NoMemory;
 use euler_rotation::{FleetRotation, Rotation};
-use fleet_model::{Assignment, Tables};
-use plan_judge::used;
+use fleet_model::Tables;
 use std::alloc::Global;
 
 /// What becomes of a fleet's rotation: of the one without through pairs where these were given up, and that they were.
@@ -17,112 +14,71 @@ use std::alloc::Global;
 pub fn rotation_words(
     alloc: Global,
     tables: &Tables,
-    plan: &Assignment,
-    fleet: u32,
     made: &FleetRotation,
 ) -> Result<String, NoMemory>
-    requires plan { IsAssignment tables.now plan.now }
-    requires fleet { fleet < fleets_in tables.now }
-    requires made { IsFleetRotation tables.now made.now }
-    ensures { IfOk result (λ words. string_bytes words ≡ rotation_words tables.now plan.now fleet made.now) }
+    ensures { IfOk result (λ words. string_bytes words ≡ rotation_words tables.now made.now) }
 {
+    let days = days_round(tables, made.used);
     match &made.second {
-        Some(second) => words_of(alloc, tables, plan, fleet, second, " without throughs"),
-        None => words_of(alloc, tables, plan, fleet, &made.first, ""),
+        Some(second) => words_without(alloc, second, days),
+        None => words_of(alloc, &made.first, days),
     }
 }
 
-/// A rotation in words, and an ending.
-fn words_of(
-    alloc: Global,
-    tables: &Tables,
-    plan: &Assignment,
-    fleet: u32,
-    rotation: &Rotation,
-    ending: &str,
-) -> Result<String, NoMemory>
-    requires plan { IsAssignment tables.now plan.now }
-    requires fleet { fleet < fleets_in tables.now }
-    requires legs { IsOfLegs tables.now rotation.now }
-    ensures { IfOk result (λ words. string_bytes words ≡ words_of_rotation tables.now plan.now fleet rotation.now ++ ending.now) }
+/// The days in which an aircraft comes round a tour: those of the period, for each aircraft that flies it.
+fn days_round(tables: &Tables, used: u32) -> u64
+    ensures { result ≡ used * days_in tables.now }
 {
-    let mut words = String::new(alloc);
-    push_words(alloc, &mut words, tables, plan, fleet, rotation)?;
-    words.push_str(ending)?;
+    u64::from(used) * u64::from(tables.day_count())
+}
+
+/// A rotation in words, and that its through pairs were given up.
+fn words_without(alloc: Global, rotation: &Rotation, days: u64) -> Result<String, NoMemory>
+    ensures { IfOk result (λ words. string_bytes words ≡ words_of_rotation days rotation.now ++ codes " without throughs") }
+{
+    let mut words = words_of(alloc, rotation, days)?;
+    words.push_str(" without throughs")?;
     Ok(words)
 }
 
-/// Appends a rotation in words.
-fn push_words(
-    alloc: Global,
-    words: &mut String,
-    tables: &Tables,
-    plan: &Assignment,
-    fleet: u32,
-    rotation: &Rotation,
-) -> Result<(), NoMemory>
-    requires plan { IsAssignment tables.now plan.now }
-    requires fleet { fleet < fleets_in tables.now }
-    requires legs { IsOfLegs tables.now rotation.now }
-    ensures { OnOk result (string_bytes words.new ≡ string_bytes words.old ++ words_of_rotation tables.now plan.now fleet rotation.now) }
+/// A rotation in words, in whose tour an aircraft comes round in so many days.
+fn words_of(alloc: Global, rotation: &Rotation, days: u64) -> Result<String, NoMemory>
+    ensures { IfOk result (λ words. string_bytes words ≡ words_of_rotation days rotation.now) }
 {
     match rotation {
-        Rotation::Unused => push_plain(words, "unused"),
-        Rotation::TooFewNights { have, used } => push_nights(alloc, words, *have, *used),
-        Rotation::Apart { legs } => {
-            push_number(alloc, words, "apart ", legs.len() as u64)?;
-            push_plain(words, " legs")
-        }
-        Rotation::Tour(tour) => {
-            let days = days_used(tables, plan, fleet);
-            push_tour(alloc, words, tour.len(), days)
-        }
-        Rotation::None => push_plain(words, "none"),
-        Rotation::Spent { .. } => push_plain(words, "visits spent"),
+        Rotation::Unused => plain_words(alloc, "unused"),
+        Rotation::TooFewNights { have, used } => night_words(alloc, *have, *used),
+        Rotation::Apart { legs } => apart_words(alloc, legs.len()),
+        Rotation::Tour(tour) => tour_words(alloc, tour.len(), days),
+        Rotation::None => plain_words(alloc, "none"),
+        Rotation::Spent { .. } => plain_words(alloc, "visits spent"),
     }
 }
 
-/// Appends in words that a fleet has fewer nights than it needs.
-fn push_nights(alloc: Global, words: &mut String, have: u32, used: u32) -> Result<(), NoMemory>
-    ensures { OnOk result (string_bytes words.new ≡ string_bytes words.old ++ codes "too few nights " ++ decimal have ++ codes " of " ++ decimal used) }
+/// These words.
+fn plain_words(alloc: Global, words: &str) -> Result<String, NoMemory>
+    ensures { IfOk result (λ text. string_bytes text ≡ words.now) }
 {
-    push_number(alloc, words, "too few nights ", u64::from(have))?;
-    push_number(alloc, words, " of ", u64::from(used))
+    Ok(String::from_str(alloc, words)?)
 }
 
-/// Appends in words that an aircraft comes round a tour of so many legs in so many days.
-fn push_tour(alloc: Global, words: &mut String, legs: usize, days: u64) -> Result<(), NoMemory>
-    ensures { OnOk result (string_bytes words.new ≡ string_bytes words.old ++ codes "tour of " ++ decimal legs ++ codes " legs in " ++ decimal days ++ codes " days") }
+/// That a fleet has fewer nights than it needs.
+fn night_words(alloc: Global, have: u32, used: u32) -> Result<String, NoMemory>
+    ensures { IfOk result (λ words. string_bytes words ≡ codes "too few nights " ++ decimal have ++ codes " of " ++ decimal used) }
 {
-    push_number(alloc, words, "tour of ", legs as u64)?;
-    push_number(alloc, words, " legs in ", days)?;
-    words.push_str(" days")?;
-    Ok(())
+    Ok(format!(in alloc; "too few nights {} of {}", have, used)?)
 }
 
-/// The days in which an aircraft comes round a tour: those of the period, for each aircraft that the fleet uses.
-fn days_used(tables: &Tables, plan: &Assignment, fleet: u32) -> u64
-    requires plan { IsAssignment tables.now plan.now }
-    requires fleet { fleet < fleets_in tables.now }
-    ensures { result ≡ days_used tables.now plan.now fleet }
+/// That so many legs are apart from the others.
+fn apart_words(alloc: Global, legs: usize) -> Result<String, NoMemory>
+    ensures { IfOk result (λ words. string_bytes words ≡ codes "apart " ++ decimal legs ++ codes " legs") }
 {
-    u64::from(used(tables, plan, fleet)) * u64::from(tables.day_count())
+    Ok(format!(in alloc; "apart {} legs", legs)?)
 }
 
-/// Appends some words.
-fn push_plain(words: &mut String, more: &str) -> Result<(), NoMemory>
-    ensures { OnOk result (string_bytes words.new ≡ string_bytes words.old ++ more.now) }
+/// That an aircraft comes round a tour of so many legs in so many days.
+fn tour_words(alloc: Global, legs: usize, days: u64) -> Result<String, NoMemory>
+    ensures { IfOk result (λ words. string_bytes words ≡ codes "tour of " ++ decimal legs ++ codes " legs in " ++ decimal days ++ codes " days") }
 {
-    words.push_str(more)?;
-    Ok(())
-}
-
-/// Appends some words and a number.
-fn push_number(alloc: Global, words: &mut String, before: &str, number: u64) -> Result<(), NoMemory>
-    ensures { OnOk result (string_bytes words.new ≡ string_bytes words.old ++ before.now ++ decimal number) }
-{
-    words.push_str(before)?;
-    let digits = number.to_string(alloc)?;
-    words.push_str(digits.as_str())?;
-    Ok(())
+    Ok(format!(in alloc; "tour of {} legs in {} days", legs, days)?)
 }

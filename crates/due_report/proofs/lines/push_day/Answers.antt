@@ -1,7 +1,7 @@
 use Rattle.std.proofs.Common.{◌≡◌, ◌++◌, ◌<◌, [], length, slice_index, slice_index_or, refl, ap, ◌∙◌, arith, rules}
 use Rattle.std.proofs.lemmas.List.{get_or_default}
 use Rattle.calendar_dates.specs.Days.{day_on, day_text}
-use Rattle.rotation_report.proofs.Pieces.{lines_more}
+use Rattle.printed_lines.proofs.Joined.{lines_more}
 use Rattle.due_report.specs.Lines.{tail_line, tails_on}
 use Rattle.due_report.proofs.lines.push_day.Goals as goal
 

@@ -1,7 +1,7 @@
 use Rattle.std.proofs.Common.{◌≡◌, ◌++◌, ◌<◌, length, map, slice_index_or, refl, sym, ap, ◌∙◌, arith}
 use Rattle.std.proofs.lemmas.List.{get_or-map}
 use Rattle.calendar_dates.specs.Days.{day_on, no_day}
-use Rattle.rotation_report.proofs.Pieces.{lines_more}
+use Rattle.printed_lines.proofs.Joined.{lines_more}
 use Rattle.due_report.specs.Lines.{days_tails, tails_on}
 use Rattle.due_report.proofs.lines.push_days.Goals as goal
 

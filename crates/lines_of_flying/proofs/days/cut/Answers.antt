@@ -27,7 +27,8 @@ returns c =
     let tour = c.args.tour.now in
     let all : c.loop-place.place ≡ length tour = omega (arith, c.loop-place-test.false, c.loop-place.auto.place-end) in
     let long : c.len.result ≡ length c.loop-place.lines.items = omega (arith, c.len.ensures, c.loop-place.lines.ok) in
-    c.truncate.ensures.items
+    c.from_vec.ensures
+    ∙ c.truncate.ensures.items
     ∙ ap (λ n. take (n - c.first_day-early.result) c.loop-place.lines.items) long
     ∙ last_lines t c.args.fleet tour c.first_day-early.result c.loop-place.lines.items c.first_day-early.ensures.value
     (c.loop-place.invariant.ended ∙ ap (λ n. list_below (λ d. legs_on_day t c.args.fleet tour d n) (day_of t c.args.fleet tour n)) all)

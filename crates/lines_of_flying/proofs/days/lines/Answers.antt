@@ -9,8 +9,8 @@ cut-requires-clause-known c = known_legs c.args.tables.now c.args.plan.now c.arg
 
 pub returns-clause-days : goal.returns-clause-days
 returns-clause-days c =
-    ap length (c.from_vec.ensures ∙ c.in_ok-cut.ensures) ∙ days_are_use c.args.tables.now c.args.plan.now c.args.fleet c.args.tour.now c.requires.tour
+    ap length c.in_ok-cut.ensures ∙ days_are_use c.args.tables.now c.args.plan.now c.args.fleet c.args.tour.now c.requires.tour
 
 pub returns-clause-whole : goal.returns-clause-whole
 returns-clause-whole c =
-    ap concat (c.from_vec.ensures ∙ c.in_ok-cut.ensures) ∙ lines_are_tour c.args.tables.now c.args.fleet c.args.tour.now c.args.plan.now c.requires.tour c.requires.begins
+    ap concat c.in_ok-cut.ensures ∙ lines_are_tour c.args.tables.now c.args.fleet c.args.tour.now c.args.plan.now c.requires.tour c.requires.begins

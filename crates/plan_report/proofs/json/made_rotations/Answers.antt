@@ -8,4 +8,4 @@ use Rattle.plan_report.proofs.json.made_rotations.Goals as goal
 pub loop-fleet-preserved : goal.loop-fleet-preserved
 loop-fleet-preserved c =
     ap (map view) c.in_ok-push.ensures.items ∙ map_push view c.loop-fleet.values.items c.in_ok-rotation_value.field-0
-    ∙ list_below-push (rotation_data c.args.tables.now c.args.plan.now c.args.rotations.now) c.loop-fleet.fleet (map view c.loop-fleet.values.items) (view c.in_ok-rotation_value.field-0) c.loop-fleet.invariant c.in_ok-rotation_value.ensures
+    ∙ list_below-push (rotation_data c.args.tables.now c.args.rotations.now) c.loop-fleet.fleet (map view c.loop-fleet.values.items) (view c.in_ok-rotation_value.field-0) c.loop-fleet.invariant c.in_ok-rotation_value.ensures

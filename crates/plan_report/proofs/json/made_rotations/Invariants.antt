@@ -5,4 +5,4 @@ use Rattle.plan_report.specs.Json.{rotation_data}
 use Rattle.plan_report.proofs.json.made_rotations.Given as goal
 
 abbrev pub invariant-loop-fleet : goal.invariant-loop-fleet
-invariant-loop-fleet l = map view l.values.items ≡ list_below (rotation_data l.tables l.plan l.rotations) l.fleet
+invariant-loop-fleet l = map view l.values.items ≡ list_below (rotation_data l.tables l.rotations) l.fleet

@@ -19,4 +19,5 @@ returns c =
       pairs = c.in_ok-pairs.ensures;
       first = subst (λ held. IsRotationWith t plan c.args.fleet held c.args.days c.args.visits c.in_ok-first.first) c.as_slice.ensures c.in_ok-first.ensures;
       second = subst (λ wanted. IsMadeIf wanted t plan c.args.fleet c.args.days c.args.visits c.in_ok-second.second) c.wants_second-wanted.ensures c.in_ok-second.ensures;
+      counted = c.used.ensures;
     }

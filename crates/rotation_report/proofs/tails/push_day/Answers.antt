@@ -1,7 +1,7 @@
 use Rattle.std.proofs.Common.{refl, rules, ◌≡◌, ◌++◌, ap, ◌∙◌, arith}
 use Rattle.calendar_dates.specs.Days.{day_on, day_text}
 use Rattle.rotation_report.specs.Tails.{dated_line, day_lines}
-use Rattle.rotation_report.proofs.Pieces.{lines_more}
+use Rattle.printed_lines.proofs.Joined.{lines_more}
 use Rattle.rotation_report.proofs.tails.push_day.Goals as goal
 
 pub loop-aircraft-preserved : goal.loop-aircraft-preserved

@@ -2,7 +2,7 @@ use Rattle.std.proofs.Common.{◌≡◌, ◌++◌, ◌+◌, ◌<◌, length, map
 use Rattle.std.proofs.lemmas.List.{get_or-map}
 use Rattle.calendar_dates.specs.Days.{day_on, no_day}
 use Rattle.rotation_report.specs.Tails.{day_lines, days_lines}
-use Rattle.rotation_report.proofs.Pieces.{lines_more}
+use Rattle.printed_lines.proofs.Joined.{lines_more}
 use Rattle.rotation_report.proofs.tails.push_days.Goals as goal
 
 pub loop-day-preserved : goal.loop-day-preserved

@@ -2,7 +2,11 @@ use Rattle.std.proofs.Common.{◌≡◌, length, sym, ap, ◌∙◌, arith}
 use Rattle.std.proofs.lemmas.List.{length-map}
 use Rattle.sums.proofs.Places.{length-list_below}
 use Rattle.calendar_dates.specs.Days.{day_after, day_on}
+use Rattle.euler_rotation.proofs.Counted.{all_come_round}
 use Rattle.rotation_report.proofs.tails.tail_lines.Goals as goal
+
+pub tails_on-requires-clause-tours : goal.tails_on-requires-clause-tours
+tails_on-requires-clause-tours c = all_come_round c.args.tables.now c.args.plan.now c.args.rotations.now c.requires.tours
 
 pub tails_on-requires-clause-few : goal.tails_on-requires-clause-few
 tails_on-requires-clause-few c =

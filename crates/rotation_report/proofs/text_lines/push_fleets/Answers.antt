@@ -1,7 +1,7 @@
 use Rattle.std.proofs.Common.{refl, ◌≡◌, ◌++◌, ap, ◌∙◌, arith}
 use Rattle.fleet_model.specs.Schedule.{fleets_in}
 use Rattle.rotation_report.specs.TextLines.{fleet_line, fleet_lines}
-use Rattle.rotation_report.proofs.Pieces.{lines_more}
+use Rattle.printed_lines.proofs.Joined.{lines_more}
 use Rattle.rotation_report.proofs.text_lines.push_fleets.Goals as goal
 
 pub loop-fleet-preserved : goal.loop-fleet-preserved
