@@ -1,6 +1,5 @@
 pub mod Allowed
 pub mod Closings
-pub mod EndsSettled
 pub mod Examined
 pub mod FlownParts
 pub mod Leaves

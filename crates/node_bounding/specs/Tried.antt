@@ -1,5 +1,5 @@
 -- What the search for an end of a subproblem's lines comes to.
-use Rattle.std.specs.Prelude.{Option, ⊤}
+use Rattle.std.specs.Prelude.{Option}
 use Rattle.fleet_model.specs.Kept.{Domains}
 use Rattle.fleet_model.specs.declared.tables.Tables.{Tables}
 use Rattle.row_store.specs.declared.problem.Rows.{Rows}
@@ -8,12 +8,9 @@ use Rattle.end_check.specs.declared.hint.Hint.{Hint}
 use Rattle.end_check.specs.declared.hint.Hint.TheVariants as hint
 use Rattle.lp_rows.specs.Layout.{Starts}
 use Rattle.lp_rows.specs.Points.{AreLinesOf}
-use Rattle.dual_bound.specs.declared.trees.Cause.{Cause}
-use Rattle.dual_bound.specs.declared.trees.Cause.TheVariants as cause
 use Rattle.dual_lift.specs.declared.error.Excess.{Excess}
 use Rattle.price_lift.specs.BestPoint.{AreRefuting, IsBestPoint}
 use Rattle.price_lift.specs.EndLifts.{end_excess, refusing_excess}
-use Rattle.price_lift.specs.PaidBack.{IsFirstBy}
 use Rattle.node_bounding.specs.declared.relaxing.Relaxed.{Relaxed}
 use Rattle.node_bounding.specs.declared.relaxing.Relaxed.TheVariants as relaxed
 
@@ -34,25 +31,7 @@ Settles t keeps (relaxed.Refuted prices) = AreRefuting t keeps prices
 Settles t keeps (relaxed.Bounded best) = IsBestPoint t keeps best
 Settles t keeps (relaxed.Stopped why) = ⊥
 
--- .. or neither, and then nothing is said
-abbrev pub IsTried : Tables → Domains → Relaxed → Type 0
-IsTried t keeps (relaxed.Refuted prices) = AreRefuting t keeps prices
-IsTried t keeps (relaxed.Bounded best) = IsBestPoint t keeps best
-IsTried t keeps (relaxed.Stopped why) = ⊤
-
 -- what is first too large on the way from an end to prices and weights
 abbrev pub excess_from : Tables → Domains → Hint → Starts → Option Excess
 excess_from t keeps (hint.Point point) starts = end_excess t keeps point starts
 excess_from t keeps (hint.Refusal refusal) starts = refusing_excess t keeps refusal starts
-
--- an end settles nothing only where that is too large
-abbrev pub IsLeftFor : Tables → Domains → Hint → Cause → Type 0
-IsLeftFor t keeps end (cause.Lift step at) = IsFirstBy t keeps (excess_from t keeps end) (record { step = step; at = at })
-IsLeftFor t keeps end (cause.Pivots made) = ⊥
-IsLeftFor t keeps end (cause.Grew made row column) = ⊥
-IsLeftFor t keeps end (cause.Nodes mixed) = ⊥
-
-abbrev pub IsLeftBy : Tables → Domains → Hint → Relaxed → Type 0
-IsLeftBy t keeps end (relaxed.Refuted prices) = ⊤
-IsLeftBy t keeps end (relaxed.Bounded best) = ⊤
-IsLeftBy t keeps end (relaxed.Stopped why) = IsLeftFor t keeps end why

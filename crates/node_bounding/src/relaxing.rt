@@ -45,16 +45,18 @@ pub(crate) fn relax<S: EndFinder<Program>>(
 {
     let program = Program::new(alloc, tables, kept)?;
     let end = end_of::<S>(alloc, &program, pivots.unwrap_or(SEARCH_STEPS))?;
-    match tried(alloc, end, tables, kept, &program.outline)? {
-        Relaxed::Stopped(_) => {
-            let Program { outline, rows } = program;
-            proved_run::<Sparse>(alloc, tables, kept, &outline, rows, pivots)
+    if let Some(end) = end {
+        match tried(alloc, &end, tables, kept, &program.outline) {
+            Ok(settled) => return Ok(settled),
+            Err(LiftError::NoMemory) => return Err(NoMemory),
+            Err(LiftError::TooLarge { .. }) => {}
         }
-        settled => Ok(settled),
     }
+    let Program { outline, rows } = program;
+    proved_run::<Sparse>(alloc, tables, kept, &outline, rows, pivots)
 }
 
-/// What is lifted from an end, where nothing is too large for that; and else there are no prices.
+/// What is lifted from the last table of a run, where nothing is too large for that; and else there are no prices.
 pub(crate) fn told(lifted: Result<Relaxed, LiftError>) -> Result<Relaxed, NoMemory>
     ensures { IsLiftTold lifted result }
 {
