@@ -2,14 +2,15 @@
 
 from __future__ import annotations
 
+from collections import Counter
 from dataclasses import dataclass, replace
-from itertools import accumulate
 from typing import Dict, List, Optional, Tuple
 
 from drawing.calendars import Calendar
 from drawing.charts import Scale
 from drawing.colours import Palette
-from fleetplan.schedule import Plan, Schedule
+from fleetplan.schedule import Plan, Schedule, lacking
+from fleetplan.tables import NO_FLEET
 
 # Pixels: an aircraft at most, the tallest station, and what stands above it.
 TALL, TALLEST, ABOVE = 14, 112, 12
@@ -50,13 +51,12 @@ Changes = Dict[str, Dict[int, int]]
 def stations_of(schedule: Schedule, choice: Plan) -> List[Station]:
     """Returns the stations to which flights go, those with most departures and arrivals first."""
     found: Dict[str, Changes] = {it: {} for it in schedule.extra}
-    moves = dict.fromkeys(schedule.extra, 0)
     for fleet in schedule.aircraft:
-        for leg, busy in schedule.flown_by(choice, fleet):
-            for code, minute, change in ((leg.start, leg.departure, -1), (leg.end, (leg.departure + busy) % schedule.minutes, 1)):
-                own = found[code].setdefault(fleet, {})
-                own[minute] = own.get(minute, 0) + change
-                moves[code] += 1
+        for code, own in schedule.changes(schedule.flown_by(choice, fleet)).items():
+            if own:
+                found[code][fleet] = own
+    flown = [schedule.legs[flight] for flight, fleet in choice.items() if fleet != NO_FLEET]
+    moves = Counter(code for leg in flown for code in (leg.start, leg.end))
     stations = [
         Station(code, schedule.maintains[code], schedule.parking.get(code), moves[code], *stacked(changes, schedule.minutes))
         for code, changes in found.items()
@@ -67,7 +67,7 @@ def stations_of(schedule: Schedule, choice: Plan) -> List[Station]:
 
 def stacked(changes: Changes, minutes: int) -> Tuple[List[Tuple[int, int, int]], List[Stand]]:
     """Returns how many aircraft stand at a station from which minute to which, and the stands of each fleet on top of the others."""
-    counts = {fleet: at_first(own) for fleet, own in changes.items()}
+    counts = {fleet: lacking(own) for fleet, own in changes.items()}
     times = sorted({0, *(minute for own in changes.values() for minute in own)})
     totals: List[Tuple[int, int, int]] = []
     stands: Dict[str, List[Stand]] = {fleet: [] for fleet in changes}
@@ -80,11 +80,6 @@ def stacked(changes: Changes, minutes: int) -> Tuple[List[Tuple[int, int, int]],
         begun = totals.pop()[0] if totals and totals[-1][2] == below else first
         totals.append((begun, last, below))
     return totals, [it for own in stands.values() for it in own if it.count]
-
-
-def at_first(own: Dict[int, int]) -> int:
-    """Returns how many aircraft have to stand there before the first minute: as many as ever lack."""
-    return max(0, *(-sum_until for sum_until in accumulate(own[minute] for minute in sorted(own))))
 
 
 def grow(stands: List[Stand], it: Stand) -> None:

@@ -2,7 +2,7 @@
 
 from __future__ import annotations
 
-from dataclasses import asdict, dataclass
+from dataclasses import dataclass
 from typing import Any, Dict, List, Optional
 
 from markupsafe import Markup
@@ -13,7 +13,7 @@ from drawing.charts import Bar, Chart, Drawer, Scale
 from drawing.flights import Chain, Departure, window
 from drawing.library import Library
 from drawing.plans import Fleet, Plan, Row
-from drawing.templating import environment, script, styles
+from drawing.templating import environment, script, signed, styles
 from drawing.telling import Leg, Teller, legs_of, legs_out
 from fleetplan.tables import NO_FLEET
 from fleetplan.times import DAY
@@ -74,6 +74,7 @@ class Pages:
         self.env = environment()
         self.env.globals.update(
             plan=plan,
+            signed=signed,
             names=charts.NAMES,
             rules=Markup(colours.rules()),
             chart_style=styles(self.env, "chart.css"),
@@ -160,7 +161,7 @@ class Pages:
             "dayStart": wanted.day_start,
             "period": wanted.period,
             "first": wanted.first.isoformat() if wanted.first else None,
-            "legs": [asdict(it) for it in legs],
+            "legs": [vars(it) for it in legs],
             "bars": [bar_data(it, self.plan.calendar) for it in bars],
         }
 

@@ -9,6 +9,7 @@ from drawing.calendars import Calendar
 from drawing.colours import Palette
 from drawing.flights import Departure, Ground
 from drawing.plans import Plan, Row
+from drawing.templating import signed
 from drawing.zones import local_times
 from fleetplan.tables import NO_FLEET
 from fleetplan.times import DAY
@@ -42,6 +43,11 @@ class Leg:
     def then(self) -> str:
         """What follows: the next flight and the wait for it, or nights."""
         return self.nights if self.wait is None else f"{self.following}, wait {self.wait} min"
+
+    @property
+    def dearer(self) -> str:
+        """By how much it would be dearer with each other fleet."""
+        return ", ".join(f"{fleet} {signed(cost - self.cost)}" for fleet, cost in self.others)
 
 
 @dataclass

@@ -4,7 +4,9 @@ from __future__ import annotations
 
 import copy
 import os
-from typing import Dict, Iterable, List, Sequence, Tuple
+from collections import defaultdict
+from itertools import accumulate
+from typing import Dict, Iterable, List, Mapping, Sequence, Tuple
 
 from fleetplan.errors import Unread
 from fleetplan.files import told_of, write_all
@@ -158,37 +160,37 @@ class Schedule:
         settled.cost.update({(flight, NO_FLEET): skip for flight, skip in self.skips.items()})
         return settled, {it[0]: it[1] for it in rows}
 
-    def needs(self, flown: Flown) -> Tuple[Dict[str, int], Dict[str, List[int]], Dict[str, List[int]]]:
-        """Returns how many aircraft these flights want at the day start at each station, and the minutes of their departures and
-        readiness there, as ones."""
-        goes = {it: [0] * self.minutes for it in self.extra}
-        comes = {it: [0] * self.minutes for it in self.extra}
+    def changes(self, flown: Flown) -> Dict[str, Dict[int, int]]:
+        """Returns by how many the aircraft that stand at each station become more or fewer in each minute in which these flights depart there
+        or their aircraft become ready."""
+        found: Dict[str, Dict[int, int]] = {it: defaultdict(int) for it in self.extra}
         for leg, busy in flown:
-            goes[leg.start][leg.departure] += 1
-            comes[leg.end][(leg.departure + busy) % self.minutes] += 1
-        need = {}
-        for station in self.extra:
-            lacking = most = 0
-            for gone, come in zip(goes[station], comes[station]):
-                lacking += gone - come
-                most = max(most, lacking)
-            need[station] = most
-        return need, goes, comes
+            found[leg.start][leg.departure] -= 1
+            found[leg.end][(leg.departure + busy) % self.minutes] += 1
+        return found
+
+    def needs(self, flown: Flown) -> Dict[str, int]:
+        """Returns how many aircraft these flights want at the day start at each station."""
+        return {station: lacking(own) for station, own in self.changes(flown).items()}
 
     def stands(self, flown: Flown, station: str, day: int) -> int:
         """Returns how many aircraft of these flights are on the ground at a station at the end of a day."""
-        need, goes, comes = self.needs(flown)
-        return need[station] + sum(comes[station][: DAY * day]) - sum(goes[station][: DAY * day])
+        own = self.changes(flown)[station]
+        return lacking(own) + sum(change for minute, change in own.items() if minute < DAY * day)
 
     def used(self, flown: Flown) -> int:
         """Returns how many aircraft these flights use: those at stations at the first day's start, and those aloft or in a turn then."""
         flown = list(flown)
-        need, _, _ = self.needs(flown)
-        return sum(need.values()) + sum((leg.departure + busy) // self.minutes for leg, busy in flown)
+        return sum(self.needs(flown).values()) + sum((leg.departure + busy) // self.minutes for leg, busy in flown)
 
     def flown_by(self, plan: Plan, fleet: str) -> List[Tuple[Leg, int]]:
         """Returns the fleet's flights by a plan, each with its minutes until the aircraft is ready."""
         return [(leg, self.busy(leg, fleet)) for leg in self.legs.values() if plan[leg.flight] == fleet]
+
+
+def lacking(changes: Mapping[int, int]) -> int:
+    """Returns how many aircraft have to stand at a station before the first minute, so that none ever lacks, by the changes of each minute."""
+    return -min(accumulate((changes[minute] for minute in sorted(changes)), initial=0))
 
 
 def _fault(folder: str, table: str, what: str) -> Unread:

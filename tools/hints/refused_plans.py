@@ -158,7 +158,7 @@ def tell_use(call: Call, fleet: str, uses: str, there: str) -> List[str]:
     """Returns the same of a fleet of which more aircraft are wanted than there are."""
     (schedule, plan), used, has = schedule_of(call).planned(), int(uses), int(there)
     flown = schedule.flown_by(plan, fleet)
-    need, _, _ = schedule.needs(flown)
+    need = schedule.needs(flown)
     aloft = sum((leg.departure + busy) // schedule.minutes for leg, busy in flown)
     if sum(need.values()) + aloft != used or schedule.aircraft[fleet] != has:
         return []

@@ -5,11 +5,10 @@ from __future__ import annotations
 
 import os
 from bisect import bisect
+from functools import partial
 from typing import Dict, List, NamedTuple, Optional, Sequence, Union
 
-import jinja2
-
-from drawing.templating import TEMPLATES, styles
+from drawing.templating import environment, signed, styles
 from fleetplan.texts import shown
 from steps.differences import Interval
 from steps.rows import Row, asked_of, columns_of, compared_fleets
@@ -45,8 +44,8 @@ class Base(NamedTuple):
 def page(rows: Sequence[Row], sums: Sequence[Sum], folder: str, note: str = "") -> str:
     """Returns the page, which needs nothing beside itself but the pictures that it links to. A note stands at its head."""
     planned = [it for it in rows if it.cost is not None]
-    env = environment()
-    env.globals.update(number=number, signed=signed, link=lambda row: link(row, folder), difference=difference)
+    env = environment(OWN)
+    env.globals.update(number=number, signed=partial(signed, unknown=UNKNOWN), link=lambda row: link(row, folder), difference=difference)
     return env.get_template("summary.html").render(
         rows=rows,
         note=shown(note),
@@ -62,12 +61,6 @@ def page(rows: Sequence[Row], sums: Sequence[Sum], folder: str, note: str = "") 
         asked=asked_of(planned),
         style=styles(env, "chart.css") + styles(env, "page.css", width=0, tall=0, names=0),
     ) + "\n"
-
-
-def environment() -> jinja2.Environment:
-    """Returns the environment of the templates, in which all that is put in is escaped."""
-    loader = jinja2.FileSystemLoader([OWN, TEMPLATES])
-    return jinja2.Environment(loader=loader, autoescape=True, undefined=jinja2.StrictUndefined, trim_blocks=True, lstrip_blocks=True)
 
 
 def bases_of(rows: Sequence[Row]) -> List[Base]:
@@ -132,11 +125,6 @@ def difference(row: Row, change: str, fleet: str, sign: int) -> Union[int, str, 
 def number(value: Union[int, str, None]) -> str:
     """Returns a number, a word, or nothing."""
     return "" if value is None else f"{value:,}".replace("-", "−") if isinstance(value, int) else value
-
-
-def signed(value: Optional[int]) -> str:
-    """Returns a difference."""
-    return UNKNOWN if value is None else f"{value:+,}".replace("-", "−") if value else "0"
 
 
 def link(row: Row, folder: str) -> Optional[str]:
