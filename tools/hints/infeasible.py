@@ -184,8 +184,4 @@ def least_stay(schedule: Schedule, station: str, end: int) -> int:
         ready = [at + schedule.busy(leg, fleet) for fleet in schedule.fleets_of[flight] for at in times[flight]]
         if leg.end == station and ready:
             moves.append((min(it % schedule.minutes for it in ready), -1))
-    lacking = most = 0
-    for _, change in sorted(moves):
-        lacking += change
-        most = max(most, lacking)
-    return most
+    return max(itertools.accumulate((change for _, change in sorted(moves)), initial=0))

@@ -16,10 +16,8 @@ OPEN_END = "00XXX00"
 
 DATE = rf"(?:0[1-9]|[12][0-9]|3[01])(?:{'|'.join(MONTHS)})[0-9]{{2}}"
 TIME = r"(?:[01][0-9]|2[0-3])[0-5][0-9]|2400"
-VARIATION = r"[+-](?:0[0-9]|1[0-4])[0-5][0-9]"
 AIRLINE = r"[A-Z0-9]{2}[A-Z0-9 ]"
 NUMBER = r"[0-9]{4}| [0-9]{3}|  [0-9]{2}|   [0-9]"
-STATION = r"[A-Z]{3}"
 
 
 class BadLine(Unread):
@@ -29,17 +27,12 @@ class BadLine(Unread):
         super().__init__(f"{path} line {line}: {what} ({where}), it should be {should}", file=path, record=line)
 
 
-def bytes_from(first: int, last: int) -> str:
-    """Says where something stands in a line."""
-    return f"byte {first}" if first == last else f"bytes {first} to {last}"
-
-
 class Field:
     """Bytes of a line, counted from 1, with a name, a form, and that form in words."""
 
     def __init__(self, name: str, first: int, last: int, form: str, should: str) -> None:
         self.name, self.first, self.last, self.form, self.should = name, first, last, re.compile(form), should
-        self.where = bytes_from(first, last)
+        self.where = f"byte {first}" if first == last else f"bytes {first} to {last}"
 
     def of(self, line: str) -> str:
         """Returns the bytes of a line."""
@@ -74,35 +67,16 @@ class Layout:
         return self.fields[name]
 
 
-def a_date(name: str, first: int) -> Field:
-    """Returns the field of a date."""
-    return Field(name, first, first + 6, DATE, "a date as 05NOV26")
-
-
-def an_end(name: str, first: int) -> Field:
-    """Returns the field of a last date, which may be open."""
-    return Field(name, first, first + 6, f"{DATE}|{OPEN_END}", f"a date as 05NOV26, or {OPEN_END}")
-
-
-def a_creation(name: str, first: int) -> Field:
-    """Returns the field of a date that may be blank."""
-    return Field(name, first, first + 6, f"{DATE}| {{7}}", "a date as 05NOV26, or blank")
-
-
-def a_time(name: str, first: int) -> Field:
-    """Returns the field of a time."""
-    return Field(name, first, first + 3, TIME, "0000 to 2400")
-
-
-def a_passengers_time(name: str, first: int) -> Field:
-    """Returns the field of a time that may be blank."""
-    return Field(name, first, first + 3, f"{TIME}| {{4}}", "0000 to 2400, or blank")
-
-
-def a_station(name: str, first: int) -> Field:
-    """Returns the field of a station."""
-    return Field(name, first, first + 2, STATION, "three letters A to Z")
-
+# The form of a field, and that in words.
+A_DATE = DATE, "a date as 05NOV26"
+AN_END = f"{DATE}|{OPEN_END}", f"a date as 05NOV26, or {OPEN_END}"
+A_CREATION = f"{DATE}| {{7}}", "a date as 05NOV26, or blank"
+A_TIME = TIME, "0000 to 2400"
+A_PASSENGERS_TIME = f"{TIME}| {{4}}", "0000 to 2400, or blank"
+A_STATION = r"[A-Z]{3}", "three letters A to Z"
+A_VARIATION = r"[+-](?:0[0-9]|1[0-4])[0-5][0-9]", "+ or -, and hours and minutes to 1459"
+AN_OVERFLOW = "[A-Z0-9 ]", "a letter, a digit or a blank"
+DAYS_OFF = "[0-7A ]", "0 to 7, A for the day before, or a blank"
 
 AN_AIRLINE = Field("airline", 3, 5, AIRLINE, "two or three letters A to Z and digits")
 SUFFIX = Field("operational suffix", 2, 2, "[A-Z ]", "a letter or a blank")
@@ -111,9 +85,9 @@ ITINERARY = Field("itinerary variation", 10, 11, "[0-9]{2}| [0-9]", "two digits"
 SEQUENCE = Field("leg sequence", 12, 13, "0[1-9]|[1-9][0-9]| [1-9]", "01 to 99")
 SERVICE = Field("service type", 14, 14, "[A-Z]", "a letter")
 SERIAL = Field("serial number", 195, 200, "[0-9]{6}", "six digits")
-VARIED = "+ or -, and hours and minutes to 1459"
+# What names a leg, in its record and in those of its segments.
+NAMED = SUFFIX, AN_AIRLINE, FLIGHT, ITINERARY, SEQUENCE, SERVICE
 EACH_DAY = "each day's digit in its place or a blank, one digit at least"
-DAYS_OFF = "0 to 7, A for the day before, or a blank"
 
 # The flight that the aircraft flies next, and how many days later than it arrives. They are judged where they are used.
 ONWARD = Field(
@@ -127,53 +101,43 @@ CARRIER = Layout(
     Field("time mode", 2, 2, "[UL]", "U for UTC or L for local time"),
     AN_AIRLINE,
     Field("season", 11, 13, "[SW][0-9]{2}| {3}", "S or W and two digits, or blank"),
-    a_date("first date of validity", 15),
-    an_end("last date of validity", 22),
-    a_creation("creation date", 29),
+    Field("first date of validity", 15, 21, *A_DATE),
+    Field("last date of validity", 22, 28, *AN_END),
+    Field("creation date", 29, 35, *A_CREATION),
     SERIAL,
 )
 LEG = Layout(
-    SUFFIX,
-    AN_AIRLINE,
-    FLIGHT,
-    ITINERARY,
-    SEQUENCE,
-    SERVICE,
-    a_date("first date of the period", 15),
-    an_end("last date of the period", 22),
+    *NAMED,
+    Field("first date of the period", 15, 21, *A_DATE),
+    Field("last date of the period", 22, 28, *AN_END),
     Field("days of operation", 29, 35, "(?! {7})[1 ][2 ][3 ][4 ][5 ][6 ][7 ]", EACH_DAY),
     Field("frequency rate", 36, 36, "[12 ]", "a blank, or 2 for every second week"),
-    a_station("departure station", 37),
-    a_passengers_time("passengers' time of departure", 40),
-    a_time("aircraft's time of departure", 44),
-    Field("departure's variation from UTC", 48, 52, VARIATION, VARIED),
-    a_station("arrival station", 55),
-    a_time("aircraft's time of arrival", 58),
-    a_passengers_time("passengers' time of arrival", 62),
-    Field("arrival's variation from UTC", 66, 70, VARIATION, VARIED),
+    Field("departure station", 37, 39, *A_STATION),
+    Field("passengers' time of departure", 40, 43, *A_PASSENGERS_TIME),
+    Field("aircraft's time of departure", 44, 47, *A_TIME),
+    Field("departure's variation from UTC", 48, 52, *A_VARIATION),
+    Field("arrival station", 55, 57, *A_STATION),
+    Field("aircraft's time of arrival", 58, 61, *A_TIME),
+    Field("passengers' time of arrival", 62, 65, *A_PASSENGERS_TIME),
+    Field("arrival's variation from UTC", 66, 70, *A_VARIATION),
     Field("aircraft type", 73, 75, "[A-Z0-9]{3}", "three letters A to Z and digits"),
-    Field("itinerary variation overflow", 128, 128, "[A-Z0-9 ]", "a letter, a digit or a blank"),
+    Field("itinerary variation overflow", 128, 128, *AN_OVERFLOW),
     Field("operating airline disclosure", 149, 149, "[A-Z ]", "a letter or a blank"),
-    Field("departure's date variation", 193, 193, "[0-7A ]", DAYS_OFF),
-    Field("arrival's date variation", 194, 194, "[0-7A ]", DAYS_OFF),
+    Field("departure's date variation", 193, 193, *DAYS_OFF),
+    Field("arrival's date variation", 194, 194, *DAYS_OFF),
     SERIAL,
 )
 SEGMENT = Layout(
-    SUFFIX,
-    AN_AIRLINE,
-    FLIGHT,
-    ITINERARY,
-    SEQUENCE,
-    SERVICE,
-    Field("itinerary variation overflow", 28, 28, "[A-Z0-9 ]", "a letter, a digit or a blank"),
+    *NAMED,
+    Field("itinerary variation overflow", 28, 28, *AN_OVERFLOW),
     Field("data element identifier", 31, 33, "[0-9]{3}", "three digits"),
     SERIAL,
 )
 # The points of a segment are of no use here: one that isn't of its form is told.
-POINTS = a_station("board point", 34), a_station("off point", 37)
+POINTS = Field("board point", 34, 36, *A_STATION), Field("off point", 37, 39, *A_STATION)
 TRAILER = Layout(
     AN_AIRLINE,
-    a_creation("release date", 6),
+    Field("release date", 6, 12, *A_CREATION),
     Field("serial number check", 188, 193, "[0-9]{6}", "six digits"),
     Field("end code", 194, 194, "[CE]", "C where a carrier follows, or E"),
     SERIAL,

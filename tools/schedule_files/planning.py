@@ -181,14 +181,14 @@ def itinerary_of(leg: Leg) -> Itinerary:
     return leg.carrier.number, leg.name, leg.variation
 
 
-class Piece:
+class Piece(NamedTuple):
     """A leg's record in the new file: the leg, its itinerary, the part of that which it is in (None where that stays as it is), and its
     line there, but for what is counted anew."""
 
-    __slots__ = ("leg", "itinerary", "part", "line")
-
-    def __init__(self, leg: Leg, itinerary: Itinerary, part: Optional[Part], line: str) -> None:
-        self.leg, self.itinerary, self.part, self.line = leg, itinerary, part, line
+    leg: Leg
+    itinerary: Itinerary
+    part: Optional[Part]
+    line: str
 
 
 def pieces_of(schedule: Schedule, changes: Mapping[Itinerary, Changes], cut: Cut) -> List[Piece]:

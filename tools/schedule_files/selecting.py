@@ -3,7 +3,7 @@
 from __future__ import annotations
 
 from collections import Counter
-from typing import AbstractSet, Dict, List, Mapping, Optional, Sequence, Tuple
+from typing import AbstractSet, Dict, List, Mapping, NamedTuple, Optional, Sequence, Tuple
 
 from fleetplan.errors import Unread
 from fleetplan.tables import TABLE
@@ -41,21 +41,16 @@ class Flown:
 Codes = Optional[AbstractSet[str]]
 
 
-class Choice:
+class Choice(NamedTuple):
     """What a call asks for. `services`, `types` and `stations` are sets, or None where all will do; `airline` is one of the file's, or None
     where it has one alone; `families` has the fleet of aircraft types that aren't one of their own."""
 
-    def __init__(
-        self,
-        with_surface: bool = False,
-        services: Codes = None,
-        types: Codes = None,
-        stations: Codes = None,
-        airline: Optional[str] = None,
-        families: Optional[Mapping[str, str]] = None,
-    ) -> None:
-        self.with_surface, self.services, self.types, self.stations = with_surface, services, types, stations
-        self.airline, self.families = airline, dict(families or {})
+    with_surface: bool = False
+    services: Codes = None
+    types: Codes = None
+    stations: Codes = None
+    airline: Optional[str] = None
+    families: Mapping[str, str] = {}
 
     def fleet_of(self, kind: str) -> str:
         """Returns the fleet of an aircraft type."""

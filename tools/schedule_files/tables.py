@@ -4,7 +4,7 @@ from __future__ import annotations
 
 import os
 from collections import Counter
-from typing import Dict, Iterable, Iterator, List, Mapping, Optional, Sequence, Set, Tuple
+from typing import Dict, Iterable, Iterator, List, Mapping, NamedTuple, Optional, Sequence, Set, Tuple
 
 from costing.making import PARTED
 from fleetplan.forms import MOST_AIRCRAFT
@@ -26,23 +26,18 @@ from schedule_files.reading import Schedule
 from schedule_files.selecting import Choice, Flown
 
 
-class Sources:
+class Sources(NamedTuple):
     """The files of the caller's, each a path or None, the value of a through pair, the paths of tables that options have read, the files of
     figures that stand in the place of prices, what changes cost, and the value of an onward flight, None where they make no pairs."""
 
-    def __init__(
-        self,
-        stations: Optional[str] = None,
-        fleets: Optional[str] = None,
-        costs: Optional[str] = None,
-        through_value: int = 0,
-        asked: Optional[Mapping[str, str]] = None,
-        figured: Optional[Figured] = None,
-        changing: Changing = Changing(),
-        onward_value: Optional[int] = None,
-    ) -> None:
-        self.stations, self.fleets, self.costs, self.through_value = stations, fleets, costs, through_value
-        self.asked, self.figured, self.changing, self.onward_value = asked or {}, figured, changing, onward_value
+    stations: Optional[str] = None
+    fleets: Optional[str] = None
+    costs: Optional[str] = None
+    through_value: int = 0
+    asked: Mapping[str, str] = {}
+    figured: Optional[Figured] = None
+    changing: Changing = Changing()
+    onward_value: Optional[int] = None
 
     @property
     def options(self) -> Set[str]:
