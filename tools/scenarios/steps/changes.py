@@ -4,14 +4,14 @@ from __future__ import annotations
 
 import re
 from fractions import Fraction
-from typing import Callable, Dict, Optional, Sequence, Set, Tuple
+from typing import Callable, Dict, Set, Tuple
 
 from fleetplan.errors import Unread
 from fleetplan.forms import MOST_AIRCRAFT, MOST_PARKED, MOST_TURN, TRILLION
 from fleetplan.tables import DATED, HEADERS
 from fleetplan.times import DAY, clock, minute_of
 from steps.changing import CODE, FACTOR, NAME, Change, Reader, Step, Tables, by_part, record_of, times
-from steps.figures import demand, fuel
+from steps.figures import DEMAND, demand, fuel
 from steps.flagged import FLAGGED
 
 # Where a record of a station has its limit, if it has one.
@@ -22,21 +22,18 @@ def read_change(text: str) -> Change:
     """Returns what a text changes, or raises Unread."""
     name, *words = text.split() or [""]
     if name not in CHANGES:
-        raise Unread(f'no change is named "{name}", there are: {", ".join(form for form, _ in CHANGES.values())}')
-    form, change = CHANGES[name]
-    found = change(words)
-    if not found:
+        raise Unread(f'no change is named "{name}", there are: {", ".join(form for form, *_ in CHANGES.values())}')
+    form, pattern, change = CHANGES[name]
+    found = re.fullmatch(pattern, " ".join(words))
+    read = change(*found.groups()) if found else None
+    if not read:
         raise Unread(f'"{text}" doesn\'t read, it should be as {form}')
-    return found
+    return read
 
 
-def of_fleet(words: Sequence[str], column: int, most: int, has: str) -> Optional[Tuple[str, Step, Callable[[Tables], None]]]:
-    """Returns a fleet, a step, and what changes a number of its record by that, which has to stay within 0 and `most`; or None. `has` says what
-    the fleet has, with {} in the place of the number."""
-    found = re.fullmatch(f"{NAME} ([+-]?)([0-9]{{1,3}})", " ".join(words))
-    if not found:
-        return None
-    fleet, step = found[1], Step(found[2], int(found[3]))
+def of_fleet(fleet: str, step: Step, column: int, most: int, has: str) -> Callable[[Tables], None]:
+    """Returns what changes a number of a fleet's record by a step, which has to stay within 0 and `most`. `has` says what the fleet has, with {} in
+    the place of the number."""
 
     def change(tables: Tables) -> None:
         row = record_of(tables, "fleets.csv", fleet)
@@ -45,35 +42,28 @@ def of_fleet(words: Sequence[str], column: int, most: int, has: str) -> Optional
             raise Unread(f"fleets.csv gives {fleet} {has.format(row[column])}, and it may have 0 to {most}")
         row[column] = str(number)
 
-    return fleet, step, change
+    return change
 
 
-def aircraft(words: Sequence[str]) -> Optional[Change]:
+def aircraft(fleet: str, sign: str, count: str) -> Change:
     """Another number of aircraft."""
-    found = of_fleet(words, 1, MOST_AIRCRAFT, "{} aircraft")
-    if not found:
-        return None
-    fleet, step, change = found
+    step = Step(sign, int(count))
     number = "one" if step.number == 1 else str(step.number)
-    return Change(change, step.told(f"{number} {fleet} in all", f"{number} {fleet} more", f"{number} {fleet} less", f"as many {fleet}"))
+    told = step.told(f"{number} {fleet} in all", f"{number} {fleet} more", f"{number} {fleet} less", f"as many {fleet}")
+    return Change(of_fleet(fleet, step, 1, MOST_AIRCRAFT, "{} aircraft"), told)
 
 
-def turn(words: Sequence[str]) -> Optional[Change]:
+def turn(fleet: str, sign: str, count: str) -> Change:
     """Another number of minutes from landing to the next departure."""
-    found = of_fleet(words, 2, MOST_TURN, "a turn of {} minutes")
-    if not found:
-        return None
-    fleet, step, change = found
+    step = Step(sign, int(count))
     minutes = f"{step.number} minutes"
-    return Change(change, f"{fleet} turns {step.told(f'in {minutes}', f'{minutes} slower', f'{minutes} faster', 'as fast')}")
+    told = f"{fleet} turns {step.told(f'in {minutes}', f'{minutes} slower', f'{minutes} faster', 'as fast')}"
+    return Change(of_fleet(fleet, step, 2, MOST_TURN, "a turn of {} minutes"), told)
 
 
-def block(words: Sequence[str]) -> Optional[Change]:
+def block(start: str, end: str, sign: str, count: str) -> Change:
     """So many minutes more or less in the air, from one station to another: the legs depart when they do, and arrive later or earlier."""
-    found = re.fullmatch(f"{CODE} {CODE} ([+-])([0-9]{{1,3}})", " ".join(words))
-    if not found:
-        return None
-    start, end, step = found[1], found[2], Step(found[3], int(found[4]))
+    step = Step(sign, int(count))
 
     def change(tables: Tables) -> None:
         legs = [it for it in tables["legs.csv"] if (it[-4], it[-2]) == (start, end)]
@@ -89,12 +79,9 @@ def block(words: Sequence[str]) -> Optional[Change]:
     return Change(change, f"{start} to {end} takes {told}")
 
 
-def cost(words: Sequence[str]) -> Optional[Change]:
+def cost(fleet: str, by: str) -> Change:
     """All costs of a fleet times a factor."""
-    found = re.fullmatch(f"{NAME} {FACTOR}", " ".join(words))
-    if not found:
-        return None
-    fleet, factor = found[1], Fraction(found[2])
+    factor = Fraction(by)
 
     def change(tables: Tables) -> None:
         record_of(tables, "fleets.csv", fleet)
@@ -108,11 +95,8 @@ def cost(words: Sequence[str]) -> Optional[Change]:
     return Change(change, f"{fleet} costs {by_part(factor)}")
 
 
-def drop_leg(words: Sequence[str]) -> Optional[Change]:
+def drop_leg(flight: str) -> Change:
     """A leg that isn't flown, so that no cost and no through pair speaks of it."""
-    if len(words) != 1:
-        return None
-    flight = words[0]
 
     def change(tables: Tables) -> None:
         record_of(tables, "legs.csv", flight)
@@ -121,11 +105,8 @@ def drop_leg(words: Sequence[str]) -> Optional[Change]:
     return Change(change, f"{flight} isn't flown")
 
 
-def parking(words: Sequence[str]) -> Optional[Change]:
+def parking(station: str, limit: str) -> Change:
     """Another limit of how many aircraft may stay at a station for a night, or `-` for any number."""
-    if len(words) != 2 or not re.fullmatch("-|[0-9]{1,5}", words[1]):
-        return None
-    station, limit = words
 
     def change(tables: Tables) -> None:
         if limit != "-" and int(limit) > MOST_PARKED:
@@ -138,46 +119,38 @@ def parking(words: Sequence[str]) -> Optional[Change]:
     return Change(change, f"{station} has room for {'any number' if limit == '-' else limit} at night")
 
 
-def only_day(words: Sequence[str]) -> Optional[Change]:
+def only_day(day: str) -> Change:
     """The legs of one day of a period alone, as a schedule of one day."""
-    if len(words) != 1 or not re.fullmatch("[1-7]", words[0]):
-        return None
-    day = int(words[0])
 
     def change(tables: Tables) -> None:
         legs = tables["legs.csv"]
         if any(len(it) != len(DATED) for it in legs):
             raise Unread("legs.csv tells no day of its flights")
-        drop(tables, {it[0] for it in legs if int(it[1]) != day})
+        drop(tables, {it[0] for it in legs if int(it[1]) != int(day)})
         for it in legs:
             it[1] = "1"
 
     return Change(change, f"day {day} alone")
 
 
-def window(words: Sequence[str]) -> Optional[Change]:
+def window(flight: str, shift: str, extra: str) -> Change:
     """A leg that may depart so many minutes later, or earlier, for so much more."""
-    make = record_more("windows.csv", words, ("-?[0-9]{1,3}", "-?[0-9]{1,13}"))
-    if not make:
-        return None
-    flight, minutes, extra = words[0], int(words[1]), int(words[2])
-    return Change(make, f"{flight} may depart {abs(minutes)} minutes {'earlier' if minutes < 0 else 'later'} for {extra}")
+    minutes = int(shift)
+    told = f"{flight} may depart {abs(minutes)} minutes {'earlier' if minutes < 0 else 'later'} for {int(extra)}"
+    return Change(record_more("windows.csv", flight, shift, extra), told)
 
 
-def optional(words: Sequence[str]) -> Optional[Change]:
+def optional(flight: str, skip: str) -> Change:
     """A leg that may be left out, for so much."""
-    make = record_more("optional.csv", words, ("-?[0-9]{1,13}",))
-    return Change(make, f"{words[0]} may be left out for {int(words[1])}") if make else None
+    return Change(record_more("optional.csv", flight, skip), f"{flight} may be left out for {int(skip)}")
 
 
-def record_more(name: str, words: Sequence[str], forms: Tuple[str, ...]) -> Optional[Callable[[Tables], None]]:
-    """Returns what adds a record of a leg, with numbers of these forms, to a table that may not stand there yet."""
-    if len(words) != 1 + len(forms) or not all(re.fullmatch(form, it) for form, it in zip(forms, words[1:])):
-        return None
+def record_more(name: str, flight: str, *numbers: str) -> Callable[[Tables], None]:
+    """Returns what adds a record of a leg to a table that may not stand there yet."""
 
     def change(tables: Tables) -> None:
-        record_of(tables, "legs.csv", words[0])
-        tables.setdefault(name, []).append(list(words))
+        record_of(tables, "legs.csv", flight)
+        tables.setdefault(name, []).append([flight, *numbers])
 
     return change
 
@@ -189,19 +162,19 @@ def drop(tables: Tables, flights: Set[str]) -> None:
     tables["throughs.csv"][:] = [it for it in tables["throughs.csv"] if flights.isdisjoint(it[:2])]
 
 
-# Of each change the form that is told, and what reads its words.
-CHANGES: Dict[str, Tuple[str, Reader]] = {
-    "aircraft": ("aircraft FLEET -1 (or +1, or 5)", aircraft),
-    "turn": ("turn FLEET +5 (or -5, or 40)", turn),
-    "block": ("block STATION STATION +10 (or -10)", block),
-    "cost": ("cost FLEET *1.1", cost),
-    "drop-leg": ("drop-leg FLIGHT", drop_leg),
-    "parking": ("parking STATION 2 (or -)", parking),
-    "only-day": ("only-day DAY", only_day),
-    "window": ("window FLIGHT 10 5", window),
-    "optional": ("optional FLIGHT 30", optional),
-    "demand": ("demand *0.8 (or demand FLIGHT *0.8, or demand market 0.15 seed 7, or demand day 0.15 seed 7)", demand),
-    "fuel": ("fuel *1.5", fuel),
+# Of each change the form that is told, that of its words, and what reads them.
+CHANGES: Dict[str, Tuple[str, str, Reader]] = {
+    "aircraft": ("aircraft FLEET -1 (or +1, or 5)", f"{NAME} ([+-]?)([0-9]{{1,3}})", aircraft),
+    "turn": ("turn FLEET +5 (or -5, or 40)", f"{NAME} ([+-]?)([0-9]{{1,3}})", turn),
+    "block": ("block STATION STATION +10 (or -10)", f"{CODE} {CODE} ([+-])([0-9]{{1,3}})", block),
+    "cost": ("cost FLEET *1.1", f"{NAME} {FACTOR}", cost),
+    "drop-leg": ("drop-leg FLIGHT", r"(\S+)", drop_leg),
+    "parking": ("parking STATION 2 (or -)", r"(\S+) (-|[0-9]{1,5})", parking),
+    "only-day": ("only-day DAY", "([1-7])", only_day),
+    "window": ("window FLIGHT 10 5", r"(\S+) (-?[0-9]{1,3}) (-?[0-9]{1,13})", window),
+    "optional": ("optional FLIGHT 30", r"(\S+) (-?[0-9]{1,13})", optional),
+    "demand": ("demand *0.8 (or demand FLIGHT *0.8, or demand market 0.15 seed 7, or demand day 0.15 seed 7)", DEMAND, demand),
+    "fuel": ("fuel *1.5", FACTOR, fuel),
 }
 # The flag without which the program wouldn't read the table that a change adds to.
 FLAG_OF = {"window": "--windows", "optional": "--optional"}

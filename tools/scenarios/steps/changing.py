@@ -3,7 +3,7 @@
 from __future__ import annotations
 
 from fractions import Fraction
-from typing import Callable, Dict, List, NamedTuple, Optional, Sequence
+from typing import Callable, Dict, List, NamedTuple, Optional
 
 from costing.repricing import Scaling
 from fleetplan.errors import Unread
@@ -31,8 +31,8 @@ class Change(NamedTuple):
     told: str
 
 
-# What reads the words of a change behind its name, or returns None where they haven't its form.
-Reader = Callable[[Sequence[str]], Optional[Change]]
+# What reads the words of a change behind its name, which have its form, or returns None where a number is out of its range.
+Reader = Callable[..., Optional[Change]]
 
 
 class Step(NamedTuple):

@@ -3,10 +3,9 @@
 from __future__ import annotations
 
 import hashlib
-import re
 from fractions import Fraction
 from statistics import NormalDist
-from typing import Callable, Dict, List, Optional, Sequence
+from typing import Callable, Dict, List, Optional
 
 from costing.figures import NAMES
 from costing.legs import Leg, read_legs
@@ -23,36 +22,31 @@ FILES = (*NAMES, "names.csv")
 NEEDED = NAMES[:2]
 # The greatest spread of a level, as that of a demand may be.
 MOST_SPREAD = Fraction(1, 2)
+# The words of a change of demand.
+DEMAND = rf"(?:{NAME} )?{FACTOR}|(market|day) (0|0?\.[0-9]{{1,6}}) seed ([0-9]{{1,9}})"
 # Levels have so many decimals.
 PLACES = 3
 
 
-def demand(words: Sequence[str]) -> Optional[Change]:
-    """More or less demand, mean and spread: of all flights or one, or a level of each market or day that is drawn from a seed."""
-    text = " ".join(words)
-    found = re.fullmatch(f"(?:{NAME} )?{FACTOR}", text)
-    if found:
-        flight, factor = found[1], Fraction(found[2])
+def demand(flight: Optional[str], by: Optional[str], kind: str, spread: str, seed: str) -> Optional[Change]:
+    """More or less demand, mean and spread: of all flights or one by a factor, or else a level of each market or day that is drawn from a seed."""
+    if by:
+        factor = Fraction(by)
         told = f"demand {f'of {flight} ' if flight else ''}is {by_part(factor)}"
         return Change(lambda tables: scaled(tables, lambda leg: factor, flight), told)
-    found = re.fullmatch(r"(market|day) (0|0?\.[0-9]{1,6}) seed ([0-9]{1,9})", text)
-    if not found or Fraction(found[2]) > MOST_SPREAD:
-        return None
-    kind, spread, seed = found[1], Fraction(found[2]), int(found[3])
 
     def change(tables: Tables) -> None:
         of = days_in(tables.folder) if kind == "day" else {}
-        scaled(tables, lambda leg: level(seed, kind, of.get(leg.flight, "1") if kind == "day" else market(leg), spread), None)
+        names = (lambda leg: of.get(leg.flight, "1")) if kind == "day" else market
+        scaled(tables, lambda leg: level(int(seed), kind, names(leg), Fraction(spread)), None)
 
-    return Change(change, f"demand of each {kind} is drawn with spread {found[2]} from seed {seed}")
+    told = f"demand of each {kind} is drawn with spread {spread} from seed {int(seed)}"
+    return Change(change, told) if Fraction(spread) <= MOST_SPREAD else None
 
 
-def fuel(words: Sequence[str]) -> Optional[Change]:
+def fuel(by: str) -> Change:
     """Each price of fuel times a factor."""
-    found = re.fullmatch(FACTOR, " ".join(words))
-    if not found:
-        return None
-    factor = Fraction(found[1])
+    factor = Fraction(by)
 
     def change(tables: Tables) -> None:
         tables.scaling.fuel(factor)
