@@ -1,7 +1,5 @@
 """Steps of a write that fail, or at which a process ends: a call of os is another one, once."""
 
-from __future__ import annotations
-
 import contextlib
 import os
 import resource

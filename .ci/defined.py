@@ -1,7 +1,5 @@
 """What the sources of crates define: definitions of specs/, functions of src/, and the numbers and the words that stand in them."""
 
-from __future__ import annotations
-
 import re
 from functools import lru_cache
 from pathlib import Path

@@ -1,7 +1,5 @@
 """Names of definitions that stand in the specs of two crates or more."""
 
-from __future__ import annotations
-
 import re
 from pathlib import Path
 from typing import Dict, List, Set

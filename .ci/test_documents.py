@@ -14,8 +14,6 @@
 - A crate has at most 120 functions and 1,500 lines of code: comments, imports and clauses aren't counted.
 """
 
-from __future__ import annotations
-
 import re
 from functools import lru_cache
 from pathlib import Path

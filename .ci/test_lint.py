@@ -2,8 +2,6 @@
 
 The files of a folder are asked about together, and those of another one apart, since some scripts have the same name."""
 
-from __future__ import annotations
-
 import subprocess
 from pathlib import Path
 from typing import List

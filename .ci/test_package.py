@@ -3,8 +3,6 @@
 Calls are tried on a stand-in for the program, which prints what a row says and notes its words; the example runs on the program in a
 scratch folder with tools/ and examples/."""
 
-from __future__ import annotations
-
 import datetime
 import os
 import re

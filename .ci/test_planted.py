@@ -4,8 +4,6 @@ An edit of .ci/planted has the lines `file: FILE`, `old: TEXT`, `new: TEXT` and 
 wrong for a user. The text stands once in the file; a backslash with an n in it is the end of a line, and two are one. The words are those of
 pytest for some tests that want no program. Each edit is tried in a copy of its own, several side by side."""
 
-from __future__ import annotations
-
 import os
 import re
 import shutil

@@ -12,8 +12,6 @@ say with its clauses in parentheses.
 
 Elsewhere in the page such a name is a crate, a word of some crate, or a path. The page names each crate of crates.txt."""
 
-from __future__ import annotations
-
 import re
 from functools import lru_cache
 from pathlib import Path

@@ -1,7 +1,5 @@
 """The released program, and the one that rt ci has built."""
 
-from __future__ import annotations
-
 from pathlib import Path
 
 import pytest

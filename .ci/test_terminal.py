@@ -2,8 +2,6 @@
 
 Calls in a terminal stand in .ci/expected-terminal (.ci/collecting.py)."""
 
-from __future__ import annotations
-
 import re
 import shutil
 import subprocess

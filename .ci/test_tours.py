@@ -1,7 +1,5 @@
 """Tours and named aircraft beside all orders of the legs and all choices, on small schedules. `bench/tours` has more of them, by hand."""
 
-from __future__ import annotations
-
 from pathlib import Path
 from typing import List, Optional, Tuple
 

@@ -6,8 +6,6 @@ usage: by_highs.py MODEL      (the text of plan_by_cbc.program)
 It wants scipy, which has HiGHS in it; Debian's python3-scipy is for /usr/bin/python3.
 """
 
-from __future__ import annotations
-
 import re
 import sys
 from pathlib import Path

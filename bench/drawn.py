@@ -8,8 +8,6 @@ legs that may be left out, a week, rings, all of these rules at once, and legs a
 that may fly a part of them. Of many there is no plan, since aircraft are taken away. Days start at 03:00, those of rings at 00:00.
 """
 
-from __future__ import annotations
-
 import random
 import sys
 import tempfile

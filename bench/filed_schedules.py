@@ -1,7 +1,5 @@
 """Schedules of folders with the five tables, as schedule files of made airlines: tools/ssim is to make the same tables of them."""
 
-from __future__ import annotations
-
 import re
 from typing import Any, Callable, Dict, List, Mapping, Optional, Sequence, Tuple
 

@@ -9,8 +9,6 @@ that it leaves behind. Each tour goes to a fleet that may fly all of it, at leas
 the aircraft of its tours and some more: so there is a legal plan. With MOST the costs are drawn from 1 to MOST in place of that.
 """
 
-from __future__ import annotations
-
 import random
 from typing import Dict, List, Optional, Sequence, Tuple
 

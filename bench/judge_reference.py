@@ -7,8 +7,6 @@ It takes tables that read, and stops with an error where they don't. It counts a
 and stops with an error where flights under way and aircraft on the ground don't sum to the aircraft used.
 """
 
-from __future__ import annotations
-
 import csv
 import re
 import sys

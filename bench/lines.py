@@ -5,8 +5,6 @@ last of these. Its lines are those of fleet assignment: each leg is flown once, 
 it again, and a fleet uses no more aircraft than it has.
 """
 
-from __future__ import annotations
-
 import itertools
 from typing import Callable, Dict, Iterable, Iterator, List, NamedTuple, Sequence, Tuple
 

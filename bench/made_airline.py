@@ -9,8 +9,6 @@ over midnight on its way, flights to stations at -0330 and +0545, one every seco
 may fly with another's aircraft, and a bus.
 """
 
-from __future__ import annotations
-
 import sys
 from pathlib import Path
 from typing import Dict, Iterator

@@ -5,8 +5,6 @@ a trim, whose `yes` child is refuted by prices: a rent of 1, and at all stations
 and of 0 after it. What is left is one assignment, that of the first fleet. No turn passes the day start.
 """
 
-from __future__ import annotations
-
 from pathlib import Path
 from typing import Callable, Iterable, Iterator, Optional, Sequence, Tuple
 

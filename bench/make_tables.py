@@ -12,8 +12,6 @@ The plan is legal because each fleet flies round trips alone, each of them is ba
 fleet flies more of them than it has aircraft. It is so by any day start.
 """
 
-from __future__ import annotations
-
 import sys
 from pathlib import Path
 from typing import Dict, List, Sequence, Tuple

@@ -1,7 +1,5 @@
 """Times `fleetplan judge` beside a Python process whose csv module merely reads the same files."""
 
-from __future__ import annotations
-
 import shutil
 import sys
 import tempfile

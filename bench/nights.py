@@ -7,8 +7,6 @@ The tables are those of hubs.py. At each station but the hubs at most MOST aircr
 given.
 """
 
-from __future__ import annotations
-
 import hubs
 from shared import Place, put, write_by_words
 

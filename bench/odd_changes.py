@@ -1,7 +1,5 @@
 """Random words of calls, and random changes of words and files, for bench/hostile."""
 
-from __future__ import annotations
-
 import random
 import re
 from pathlib import Path

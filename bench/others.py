@@ -1,7 +1,5 @@
 """Other solvers beside the program: cbc, glpsol and HiGHS, on the same integer program. HiGHS is called by scipy."""
 
-from __future__ import annotations
-
 import re
 import shutil
 from pathlib import Path

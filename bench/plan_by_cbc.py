@@ -10,8 +10,6 @@ which are some that become ready and then some that depart, to the next one, and
 limit, a node lies within a day.
 """
 
-from __future__ import annotations
-
 import subprocess
 import sys
 import tempfile

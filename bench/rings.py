@@ -5,8 +5,6 @@ dearer fleet, which serves all rings, flies a trip or more. The linear relaxatio
 halves. So each ring wants splits of its own, and rings side by side want each with each. Costs are drawn from a number.
 """
 
-from __future__ import annotations
-
 import random
 from shared import Place, put
 

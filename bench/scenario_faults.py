@@ -1,7 +1,5 @@
 """Faults of the machine, and slips of a planner's, in runs of tools/scenarios."""
 
-from __future__ import annotations
-
 import contextlib
 import os
 import re

@@ -1,7 +1,5 @@
 """Scenarios with days, room at night, windows and optional legs, in runs of tools/scenarios."""
 
-from __future__ import annotations
-
 import json
 import random
 import shutil

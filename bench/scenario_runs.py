@@ -1,7 +1,5 @@
 """Runs of tools/scenarios in scratch folders, and what stands there afterwards."""
 
-from __future__ import annotations
-
 import contextlib
 import os
 import random

@@ -1,8 +1,6 @@
 """Lines of schedule files (chapter 7 of the Standard Schedules Information Manual), for made airlines. It shares no code with
 tools/schedule_files: it puts texts at bytes."""
 
-from __future__ import annotations
-
 from typing import Iterable, List, Sequence, Tuple
 
 LENGTH = 200

@@ -4,8 +4,6 @@ All legs on the first fleet are always a legal assignment, so each schedule has 
 part of a second at 100 legs, and a second or two at 1,000.
 """
 
-from __future__ import annotations
-
 import sys
 from pathlib import Path
 from typing import Any, Dict, List, Optional

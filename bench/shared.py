@@ -1,7 +1,5 @@
 """What the scripts of this folder share: the package of the tools, the built program, tables, and runs with their seconds."""
 
-from __future__ import annotations
-
 import csv
 import os
 import sys

@@ -7,8 +7,6 @@ The tables are those of hubs.py. Each fifth leg may be left out, for half more t
 FEWER, 0 where it isn't given, in percent of its own, rounded down.
 """
 
-from __future__ import annotations
-
 from typing import Dict, List, Tuple
 
 import hubs

@@ -1,7 +1,5 @@
 """What the program answers about tours and named aircraft, beside all tours and all choices of walked_tours.py."""
 
-from __future__ import annotations
-
 import random
 import re
 from datetime import date, timedelta

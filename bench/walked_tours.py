@@ -3,8 +3,6 @@
 Nothing here knows how the program reckons. Minutes count from the day start of day 1. An aircraft departs, is aloft, is in its turn, and
 waits until the departure that follows, minute by minute; each day start that it passes is a night. All orders of the legs are tried."""
 
-from __future__ import annotations
-
 import itertools
 import random
 from functools import lru_cache

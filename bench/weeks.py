@@ -10,8 +10,6 @@ Each fleet has the aircraft with which the tours are a legal plan, as judge_refe
 given; that plan is written too. Some flights that follow each other at a hub are through pairs.
 """
 
-from __future__ import annotations
-
 import random
 import tempfile
 from pathlib import Path

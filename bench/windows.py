@@ -8,8 +8,6 @@ more minutes later and earlier, in turn, each dearer than the one before. Each f
 in percent of its own, rounded down.
 """
 
-from __future__ import annotations
-
 import random
 from typing import List
 

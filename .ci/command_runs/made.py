@@ -1,7 +1,5 @@
 """Calls made from the table of words: of each command good ones, and those with something wrong."""
 
-from __future__ import annotations
-
 from typing import Dict, Iterator, List
 
 from fleetplan.words import COMMANDS, HELP, OPTIONS, VERSION

@@ -7,8 +7,6 @@ are none, only its status is compared. The status is 0: a command that ends with
 In .ci/expected, .ci/expected-terminal and examples/*/expected they stand as a line `$ COMMAND`, its output, and a line `status N`. A line
 `..` in an output stands for any lines."""
 
-from __future__ import annotations
-
 import re
 from pathlib import Path
 from typing import Iterator, List, Optional, Sequence, Tuple

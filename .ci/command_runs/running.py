@@ -3,8 +3,6 @@
 In the folder lie ./fleetplan with the program, tools/, examples/, and given/, a second copy of the examples. Nothing outside it is written,
 and nothing is built. Without a terminal output and errors are one text, without hints."""
 
-from __future__ import annotations
-
 import os
 import re
 import shutil

@@ -1,7 +1,5 @@
 """Calls of tools/costs within this process, and what stands in folders."""
 
-from __future__ import annotations
-
 import contextlib
 import csv
 import importlib.machinery

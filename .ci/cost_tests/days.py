@@ -1,7 +1,5 @@
 """The day of the cases: two fleets, four legs, and the figures that examples/demand has."""
 
-from __future__ import annotations
-
 from pathlib import Path
 from typing import Dict
 

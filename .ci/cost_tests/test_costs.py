@@ -1,7 +1,5 @@
 """Costs of a folder's figures: the rows of integrals, the parts of each cost, which pairs there are, and what is told."""
 
-from __future__ import annotations
-
 import math
 from decimal import ROUND_FLOOR, Decimal
 from pathlib import Path

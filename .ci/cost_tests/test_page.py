@@ -1,7 +1,5 @@
 """The page of the parts: what stands in it, and how long the greatest one takes."""
 
-from __future__ import annotations
-
 import json
 import os
 import random

@@ -1,7 +1,5 @@
 """What is refused: each with its status, file, record and column, in one line, and nothing is written."""
 
-from __future__ import annotations
-
 import os
 from pathlib import Path
 from typing import Dict, NamedTuple, Optional

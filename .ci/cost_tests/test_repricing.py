@@ -1,7 +1,5 @@
 """The pairs of a costs.csv, priced anew."""
 
-from __future__ import annotations
-
 from fractions import Fraction
 from pathlib import Path
 from typing import Dict, List, Optional, Sequence

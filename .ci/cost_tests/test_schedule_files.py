@@ -1,7 +1,5 @@
 """Tables of a schedule file with costs by figures, in the place of prices: the same as tools/costs makes of them."""
 
-from __future__ import annotations
-
 import re
 from pathlib import Path
 from typing import Dict, List

@@ -1,7 +1,5 @@
 """How many passengers find no seat, and the mean by how many were carried. The numbers are from numeric integration (scipy, mpmath)."""
 
-from __future__ import annotations
-
 from fractions import Fraction
 from typing import Optional
 

@@ -1,7 +1,5 @@
 """All files or none: writes that fail, a process that is killed in the midst of them, and what a call leaves alone."""
 
-from __future__ import annotations
-
 import os
 import subprocess
 import sys

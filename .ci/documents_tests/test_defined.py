@@ -1,7 +1,5 @@
 """What is read of the sources of crates: definitions, functions, numbers and letters."""
 
-from __future__ import annotations
-
 from pathlib import Path
 from typing import List
 

@@ -1,7 +1,5 @@
 """No name of a definition comes into a further crate: those that stand in two crates or more are listed in .ci/shared_names."""
 
-from __future__ import annotations
-
 import subprocess
 import sys
 from pathlib import Path

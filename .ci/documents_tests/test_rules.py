@@ -8,8 +8,6 @@
   each definition that says a kind's name stands on a line of the kind.
 """
 
-from __future__ import annotations
-
 import re
 from pathlib import Path
 from typing import Dict, FrozenSet, Iterator, List, Tuple

@@ -6,8 +6,6 @@ A line of a way has a crate, functions of it in their order, and the types that 
 - Each type stands in its file, and a function of the line names it.
 - A way has no more functions than it had: who shortens it takes the number along."""
 
-from __future__ import annotations
-
 import re
 from pathlib import Path
 from typing import Dict, Iterator, List, NamedTuple

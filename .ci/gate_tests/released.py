@@ -1,7 +1,5 @@
 """The program that rt ci has built beside the released one."""
 
-from __future__ import annotations
-
 import subprocess
 from typing import Dict, Optional
 

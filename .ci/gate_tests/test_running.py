@@ -1,7 +1,5 @@
 """.ci/run, with commands in the place of rt and of pytest: its status is 0 only where each part passed and counted enough."""
 
-from __future__ import annotations
-
 import os
 import shutil
 from pathlib import Path

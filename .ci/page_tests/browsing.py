@@ -1,7 +1,5 @@
 """A browser without a window."""
 
-from __future__ import annotations
-
 import os
 import re
 from pathlib import Path

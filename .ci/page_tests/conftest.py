@@ -1,7 +1,5 @@
 """What the cases share: the plans that are drawn, and the browser."""
 
-from __future__ import annotations
-
 from pathlib import Path
 from typing import Any, Iterator
 

@@ -1,7 +1,5 @@
 """What is looked for in a page, by scripts that run in it."""
 
-from __future__ import annotations
-
 from typing import List, Tuple
 
 # The words in the charts that are in sight, with their boxes, by chart.

@@ -1,7 +1,5 @@
 """The plans that are drawn: each is a copy of an example, solved and drawn once."""
 
-from __future__ import annotations
-
 import shutil
 from dataclasses import dataclass
 from pathlib import Path

@@ -1,7 +1,5 @@
 """Pages in a real browser: all flights are there, no label covers another one, and search, zoom and clicks work."""
 
-from __future__ import annotations
-
 import os
 import re
 import time

@@ -1,7 +1,5 @@
 """Pages as texts, without a browser: what stands in them goes by the tables, by what the program says, and by figures counted here."""
 
-from __future__ import annotations
-
 import os
 import re
 import shutil

@@ -1,7 +1,5 @@
 """What is too much is refused in one line, within 512 MB and five seconds of the processor; and the greatest tables are drawn within them."""
 
-from __future__ import annotations
-
 import itertools
 import shutil
 import string

@@ -1,7 +1,5 @@
 """The summary of a run names a program that isn't the clone's own, with its sum."""
 
-from __future__ import annotations
-
 import contextlib
 import hashlib
 import io

@@ -1,8 +1,6 @@
 """Answers of scenarios that a full disk, a machine that was switched off, or a hand has torn: their scenarios weren't solved, the others have
 their rows, and the next call makes them anew."""
 
-from __future__ import annotations
-
 import json
 import os
 import tempfile

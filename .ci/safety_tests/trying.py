@@ -1,7 +1,5 @@
 """Tools called as anybody does, within little memory and time, with a stand-in for the program."""
 
-from __future__ import annotations
-
 import os
 import sys
 from pathlib import Path

@@ -1,7 +1,5 @@
 """Runs of scenarios as they stand in a folder when all steps have ended, laid by hand."""
 
-from __future__ import annotations
-
 import contextlib
 import csv
 import io

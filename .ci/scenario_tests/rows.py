@@ -1,7 +1,5 @@
 """Rows of texts in tools/scenarios: what goes in, and what has to come."""
 
-from __future__ import annotations
-
 from typing import Any, Dict, List, Optional, Tuple
 
 TABLES = {

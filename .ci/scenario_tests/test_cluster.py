@@ -1,8 +1,6 @@
 """What a job of a cluster does, without a cluster and an engine: which call of the engine it makes, and that no two tries of it work at once.
 And runs of the program on a machine whose disk is full."""
 
-from __future__ import annotations
-
 import base64
 import subprocess
 import tempfile

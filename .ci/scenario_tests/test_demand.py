@@ -1,8 +1,6 @@
 """Changes of demand and fuel: the pairs of costs.csv are priced anew, and none is added. What is expected comes from numeric integration by
 scipy and its normal law, apart from the tools."""
 
-from __future__ import annotations
-
 import csv
 import io
 import os

@@ -1,7 +1,5 @@
 """What the summary tells of a scenario against its base: its changes in words, differences, tours, days added up; and what wasn't solved."""
 
-from __future__ import annotations
-
 import re
 from pathlib import Path
 from typing import Any, Dict, Tuple

@@ -1,7 +1,5 @@
 """Runs of the engine, with a program that prints recorded answers: what is old is known by its bytes."""
 
-from __future__ import annotations
-
 import os
 import shutil
 import subprocess

@@ -1,7 +1,5 @@
 """Records of several scenarios: lists in braces, ranges, and their products; and the changes that a fleet's turn and a block time have."""
 
-from __future__ import annotations
-
 from pathlib import Path
 from typing import Dict, List, Tuple
 

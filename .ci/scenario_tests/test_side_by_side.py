@@ -1,7 +1,5 @@
 """What tools/scenarios/table and tools/scenarios/compare print of summaries."""
 
-from __future__ import annotations
-
 import re
 import subprocess
 import sys

@@ -1,7 +1,5 @@
 """What a run of scenarios tells before it begins: their number and about the time, pictures that are left out, and a lock that stands there."""
 
-from __future__ import annotations
-
 from pathlib import Path
 from typing import Dict, List, Optional, Tuple
 

@@ -1,8 +1,6 @@
 """What tools/scenarios does with texts: changes of tables, records of scenarios.csv, and the summary. It takes no program and no engine:
 bench/scenarios tries those, by hand."""
 
-from __future__ import annotations
-
 import os
 import shutil
 from pathlib import Path

@@ -1,8 +1,6 @@
 """Other times and legs that may be left out beside the tables, legs that a planner adds or changes there, and a plan that brings a
 flight to one date twice."""
 
-from __future__ import annotations
-
 from typing import Dict, List, Optional, Sequence, Tuple
 
 from pathlib import Path

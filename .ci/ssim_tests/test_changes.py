@@ -1,7 +1,5 @@
 """Few changes: what each costs, flights that keep their fleet, and what is told of a plan."""
 
-from __future__ import annotations
-
 import shutil
 from pathlib import Path
 from typing import List, Tuple

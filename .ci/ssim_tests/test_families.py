@@ -1,7 +1,5 @@
 """Families of aircraft types, one of several airlines, and onward flights."""
 
-from __future__ import annotations
-
 import shutil
 from pathlib import Path
 from typing import Dict, List, Tuple

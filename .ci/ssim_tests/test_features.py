@@ -1,7 +1,5 @@
 """Each feature of `tables` as a small schedule, with the records that a person would write."""
 
-from __future__ import annotations
-
 from typing import Any, Dict, List, Mapping, Optional, Sequence, Tuple
 
 from pathlib import Path

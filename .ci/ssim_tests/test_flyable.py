@@ -1,8 +1,6 @@
 """A plan is written back where its fleets can fly the new file: small seasons reckoned by hand, the example, and drawn seasons against a
 reckoning of their own."""
 
-from __future__ import annotations
-
 import random
 import shutil
 from pathlib import Path

@@ -1,8 +1,6 @@
 """Lines changed at random: each file ends in a refusal by name with nothing written, or in tables that the program reads. Plans with
 shifts and legs left out that are drawn for these are refused by name, or written so that the legs depart then."""
 
-from __future__ import annotations
-
 import os
 import random
 import re

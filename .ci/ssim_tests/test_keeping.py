@@ -1,7 +1,5 @@
 """What a caller has typed stays, and files of two dates don't read together."""
 
-from __future__ import annotations
-
 import os
 import shutil
 import threading

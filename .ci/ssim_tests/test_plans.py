@@ -1,7 +1,5 @@
 """Plans written back: the records that they change, and that nothing else changes on any date."""
 
-from __future__ import annotations
-
 import datetime
 import random
 from typing import Dict, List, Mapping, Optional, Sequence, Tuple, TypeVar, Union

@@ -1,7 +1,5 @@
 """Each refusal: one line that says where and what, status 6, 7 or 2, and nothing written."""
 
-from __future__ import annotations
-
 from typing import Dict, List, Tuple
 
 from pathlib import Path

@@ -1,7 +1,5 @@
 """The schedules of the examples as schedule files, in UTC and in local times: the tables made of them are the same again."""
 
-from __future__ import annotations
-
 from pathlib import Path
 
 import pytest

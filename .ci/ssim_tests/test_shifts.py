@@ -1,7 +1,5 @@
 """Plans with shifts and with legs left out, written back: the records that they change, and when all legs depart then."""
 
-from __future__ import annotations
-
 import datetime
 import random
 from typing import Any, Dict, List, Optional, Sequence, Tuple

@@ -1,8 +1,6 @@
 """From the example to tables with other times and legs that may be left out, to a cheapest plan, and back into the file: its tables are
 that plan."""
 
-from __future__ import annotations
-
 import re
 from typing import List, Optional, Sequence, Tuple
 

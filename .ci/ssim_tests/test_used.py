@@ -1,8 +1,6 @@
 """Only what is used is judged: warnings by line; the file that is read is written over only where that is asked for; and the variations from
 UTC in names.csv, with a season over the end of daylight saving."""
 
-from __future__ import annotations
-
 import subprocess
 import sys
 from pathlib import Path

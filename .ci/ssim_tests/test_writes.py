@@ -1,7 +1,5 @@
 """Writes that fail, and a program that doesn't judge: each file stands whole, as it was or as it should be, and nothing beside it."""
 
-from __future__ import annotations
-
 import os
 import shutil
 from functools import partial

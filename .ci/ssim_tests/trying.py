@@ -1,7 +1,5 @@
 """Calls of tools/ssim within this process, and what stands in folders."""
 
-from __future__ import annotations
-
 import contextlib
 import importlib.machinery
 import io

@@ -1,7 +1,5 @@
 """How each tool begins and ends: whatever happens, in one line, and without a traceback."""
 
-from __future__ import annotations
-
 import os
 import resource
 import shutil

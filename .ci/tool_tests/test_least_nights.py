@@ -1,7 +1,5 @@
 """What hints say of a least night that leaves no tour. What the program would tell is written by hand."""
 
-from __future__ import annotations
-
 import re
 from pathlib import Path
 from typing import List

@@ -1,7 +1,5 @@
 """Nights that are too short for maintenance: as rotation.csv tells them, and as they are drawn."""
 
-from __future__ import annotations
-
 import os
 import re
 import subprocess

@@ -1,7 +1,5 @@
 """No text of a table, a name or an answer breaks a page, or becomes a part of it."""
 
-from __future__ import annotations
-
 import os
 import shutil
 import subprocess

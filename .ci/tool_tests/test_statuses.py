@@ -1,7 +1,5 @@
 """With which status each tool ends, and that it says why in one line; none of this asks the program."""
 
-from __future__ import annotations
-
 import os
 import shutil
 import subprocess

@@ -1,7 +1,5 @@
 """What the tools tell: one line a sentence, of letters that a terminal can show, whatever stands in files, names and words."""
 
-from __future__ import annotations
-
 import contextlib
 import io
 import os

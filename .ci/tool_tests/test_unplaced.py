@@ -1,7 +1,5 @@
 """What hints say of aircraft that can't start where they are. What the program would tell is written by hand."""
 
-from __future__ import annotations
-
 import datetime
 import shutil
 from pathlib import Path

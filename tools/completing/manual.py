@@ -1,7 +1,5 @@
 """The page of the manual."""
 
-from __future__ import annotations
-
 from typing import Iterable, Iterator
 
 from fleetplan.words import COMMANDS, OPTIONS

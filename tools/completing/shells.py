@@ -1,7 +1,5 @@
 """Scripts by which bash, zsh and fish complete the words of a call."""
 
-from __future__ import annotations
-
 from typing import Dict, Iterator, List, Tuple
 
 from fleetplan.forms import Choice

@@ -1,7 +1,5 @@
 """Numbers with decimals: their form, how they are rounded, and how they are written."""
 
-from __future__ import annotations
-
 import re
 from fractions import Fraction
 from typing import Dict, Optional

@@ -1,7 +1,5 @@
 """Which pairs of legs and fleets there are, each with its cost, and why others aren't."""
 
-from __future__ import annotations
-
 from typing import Callable, Collection, Dict, List, Mapping, Optional, Sequence, Tuple
 
 from costing.figures import Figures

@@ -1,7 +1,5 @@
 """The legs that are priced, and which names of a file of figures stand for them."""
 
-from __future__ import annotations
-
 import os
 from typing import Dict, List, Mapping, NamedTuple, Optional, Sequence, Tuple
 

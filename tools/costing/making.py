@@ -1,7 +1,5 @@
 """The files that tools/costs writes, and tools/ssim where it has figures."""
 
-from __future__ import annotations
-
 from typing import Collection, Dict, List, Mapping, Tuple
 
 from costing.amounts import Writer, written

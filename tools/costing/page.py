@@ -1,7 +1,5 @@
 """The page of the parts: what a chosen leg costs with each fleet, and the costs of all legs."""
 
-from __future__ import annotations
-
 import json
 import os
 from html import escape

@@ -3,8 +3,6 @@
 Hane, C. A. and others (1995): The fleet assignment problem. Mathematical Programming 70. Subramanian, R. and others (1994): Coldstart,
 fleet assignment at Delta Air Lines. Interfaces 24."""
 
-from __future__ import annotations
-
 import math
 from fractions import Fraction
 from typing import Dict, Iterable, List, Mapping, NamedTuple, Optional, Sequence, Tuple

@@ -18,8 +18,6 @@ It raises Unread, in one line with file, record and column, where a file of figu
 type, fuel has no price, a cost would be above 10^12, or a flight of `scaling` is none of `legs`. optional.csv isn't priced anew:
 `skips` does that for the legs that it is given."""
 
-from __future__ import annotations
-
 import os
 from fractions import Fraction
 from typing import Dict, Optional, Sequence

@@ -3,8 +3,6 @@
 Swan, W. (2002): Airline demand distributions: passenger revenue management and spill. Transportation Research E 38.
 Li, M. Z. F. and Oum, T. H. (2000): Airline spill analysis, beyond the normal demand. European Journal of Operational Research 125."""
 
-from __future__ import annotations
-
 import math
 from fractions import Fraction
 from typing import Optional

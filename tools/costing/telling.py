@@ -1,7 +1,5 @@
 """What is told of figures, of the pairs that they give, and of a plan by them."""
 
-from __future__ import annotations
-
 from fractions import Fraction
 from typing import Collection, Iterator, List, Mapping, Optional, Sequence, Tuple
 

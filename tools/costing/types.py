@@ -1,7 +1,5 @@
 """What a fleet costs, and where and when it may not fly."""
 
-from __future__ import annotations
-
 import re
 from fractions import Fraction
 from typing import List, NamedTuple, Optional, Sequence, Tuple

@@ -1,7 +1,5 @@
 """The words of a call of tools/costs, and the files that it reads and writes."""
 
-from __future__ import annotations
-
 import os
 from typing import Iterator, List, Mapping, Optional, Sequence, Set
 

@@ -1,8 +1,6 @@
 """What the program says of a folder: its check of the proof, its verdict on the plan, what other numbers of aircraft are worth, and who
 flies what on dates."""
 
-from __future__ import annotations
-
 import datetime
 import os
 from dataclasses import dataclass

@@ -1,7 +1,5 @@
 """When a minute of a chart is: its clock time, and its date or its day of the period."""
 
-from __future__ import annotations
-
 import datetime
 import re
 from typing import List, Optional

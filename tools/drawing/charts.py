@@ -1,7 +1,5 @@
 """Rows of aircraft as shapes and words: where each stands in its row, in hundredths of the row's width and in pixels."""
 
-from __future__ import annotations
-
 from dataclasses import dataclass, field, replace
 from typing import Callable, Dict, List, Optional, Sequence, Tuple
 

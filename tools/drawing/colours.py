@@ -1,7 +1,5 @@
 """The colour of each fleet, and of the letters that are readable on it."""
 
-from __future__ import annotations
-
 from typing import Iterable, List
 
 # Colours that are told apart in print and by most eyes. Further fleets have the same ones, hatched.

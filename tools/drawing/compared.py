@@ -1,7 +1,5 @@
 """How a plan differs from another one: the legs whose fleet or time of departure is another, and what that costs."""
 
-from __future__ import annotations
-
 import os
 from dataclasses import dataclass
 from typing import Dict, List, Optional, Tuple

@@ -1,7 +1,5 @@
 """The figures that a planner asks for, by fleet and in sum."""
 
-from __future__ import annotations
-
 from dataclasses import dataclass
 from typing import List, Optional
 

@@ -1,7 +1,5 @@
 """The aircraft on the ground at each station: of all fleets, stacked, with the limit of a night."""
 
-from __future__ import annotations
-
 from collections import Counter
 from dataclasses import dataclass, replace
 from typing import Dict, List, Optional, Tuple

@@ -1,7 +1,5 @@
 """What stands above the charts: how good the plan is, its figures, and how it differs from another one."""
 
-from __future__ import annotations
-
 from dataclasses import dataclass
 from typing import List, Optional, Tuple
 

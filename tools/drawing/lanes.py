@@ -1,7 +1,5 @@
 """Flights without a tour in rows: each goes on from where the one before it landed, and as few aircraft fly them as can."""
 
-from __future__ import annotations
-
 from typing import Dict, List, Tuple
 
 from drawing.flights import Departure

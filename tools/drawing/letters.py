@@ -1,7 +1,5 @@
 """How wide a text is, before a browser has set it: as wide as in DejaVu Sans, which is wider than most letters."""
 
-from __future__ import annotations
-
 from functools import lru_cache
 
 # Thousandths of the size of the letters. Other letters count as the widest small ones.

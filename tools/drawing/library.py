@@ -1,7 +1,5 @@
 """What pages are made with, where Debian's packages have it: Jinja2, and D3, which a page holds."""
 
-from __future__ import annotations
-
 import os
 import re
 import sys

@@ -1,7 +1,5 @@
 """The page of a plan, and the chart of one fleet, by the templates beside this file."""
 
-from __future__ import annotations
-
 from dataclasses import dataclass
 from typing import Any, Dict, List, Optional
 

@@ -1,7 +1,5 @@
 """A plan as it is drawn: the schedule at its times, each fleet with its rows of aircraft, and what the program says of it."""
 
-from __future__ import annotations
-
 import copy
 import datetime
 import os

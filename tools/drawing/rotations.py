@@ -1,7 +1,5 @@
 """The tour of each fleet as departures that follow each other, as rotation.csv or the program's `tails` tells it."""
 
-from __future__ import annotations
-
 import os
 from dataclasses import dataclass, field
 from typing import Dict, List, Optional, Tuple

@@ -1,7 +1,5 @@
 """Flights in words: what stands in the table, in a bar, above it and below the pointer."""
 
-from __future__ import annotations
-
 from dataclasses import dataclass, field
 from typing import Dict, List, Optional, Tuple
 

@@ -1,7 +1,5 @@
 """The templates of pages, which lie beside this file."""
 
-from __future__ import annotations
-
 import os
 from typing import Optional
 

@@ -1,7 +1,5 @@
 """Local times of flights, where names.csv of a folder has their variations from UTC, as tools/ssim writes it."""
 
-from __future__ import annotations
-
 import os
 from typing import Dict, Optional, Tuple
 

@@ -2,8 +2,6 @@
 
 For programs that call it: Schedule.read and .write, and solve, judge, check, whatif, tails, due and make, as docs/python.md tells."""
 
-from __future__ import annotations
-
 import importlib
 from typing import TYPE_CHECKING, Any
 

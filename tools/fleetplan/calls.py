@@ -1,7 +1,5 @@
 """Calls of the program, each with its answer and the files that it wrote."""
 
-from __future__ import annotations
-
 import datetime
 import json
 import os

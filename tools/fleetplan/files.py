@@ -3,8 +3,6 @@
 A file keeps its mode, and one that a link leads to stays behind the link. What is put is on the disk before. SIGTERM and SIGHUP end a write
 as Ctrl-C does, so that nothing is left beside; what a killed process has left there goes with the first write an hour later."""
 
-from __future__ import annotations
-
 import contextlib
 import errno
 import fcntl

@@ -1,7 +1,5 @@
 """The forms of fields and of words, and what is wrong with one that hasn't its form."""
 
-from __future__ import annotations
-
 import datetime
 import difflib
 import re

@@ -1,7 +1,5 @@
 """Tables as frames of pandas, for those who have it."""
 
-from __future__ import annotations
-
 import os
 from typing import Any, Dict, Mapping
 

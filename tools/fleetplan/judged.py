@@ -1,7 +1,5 @@
 """Files of a caller's, each field judged by its form, and each record by what stands there once."""
 
-from __future__ import annotations
-
 from typing import Callable, List, Mapping, Optional, Sequence, Set, Tuple
 
 from fleetplan.errors import Unread

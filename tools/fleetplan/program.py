@@ -1,7 +1,5 @@
 """The built program, and the one way in which it is called."""
 
-from __future__ import annotations
-
 import os
 import selectors
 import shutil

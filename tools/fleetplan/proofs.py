@@ -1,7 +1,5 @@
 """What can be counted in the text of a proof, which is read by parts: it may be as long as the disk has room for."""
 
-from __future__ import annotations
-
 import os
 import stat
 from typing import Dict

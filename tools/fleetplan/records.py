@@ -1,7 +1,5 @@
 """The files of a folder, read as the program reads them, and written: bytes, records and fields."""
 
-from __future__ import annotations
-
 import csv
 import io
 import os

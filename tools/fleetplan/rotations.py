@@ -1,7 +1,5 @@
 """What `solve` wrote of a schedule: its plan, and what became of each fleet's rotation."""
 
-from __future__ import annotations
-
 import os
 import re
 from typing import Dict, Iterable, List, NamedTuple, NoReturn, Optional, Sequence, Tuple

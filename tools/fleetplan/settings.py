@@ -1,7 +1,5 @@
 """The settings of a folder: what stands in its settings.csv, for words that a call over it needn't say."""
 
-from __future__ import annotations
-
 import os
 from typing import Dict, Iterable, List, Optional
 

@@ -1,7 +1,5 @@
 """The tables of a folder: of each its columns with their forms, what stands there once, and the most records."""
 
-from __future__ import annotations
-
 from typing import NamedTuple, Tuple
 
 from fleetplan.forms import MOST_AIRCRAFT, MOST_LEFT, MOST_TURN, TRILLION, Wrong, code, flag, free, limit, name, place, shift, time, whole

@@ -1,7 +1,5 @@
 """Texts from files and words of calls, as they are shown in one line and told."""
 
-from __future__ import annotations
-
 import contextlib
 import os
 import shlex

@@ -1,7 +1,5 @@
 """Times of the day, and minutes."""
 
-from __future__ import annotations
-
 import re
 
 # The minutes of a day.

@@ -1,7 +1,5 @@
 """How each tool ends: its page of help, a pipe whose reader goes, what can't be written, and Ctrl-C."""
 
-from __future__ import annotations
-
 import contextlib
 import os
 import signal

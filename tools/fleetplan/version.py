@@ -1,7 +1,5 @@
 """What the program is, in one line: its version, its commit, and the kit that proves it."""
 
-from __future__ import annotations
-
 import os
 import re
 import subprocess

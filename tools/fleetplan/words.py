@@ -2,8 +2,6 @@
 
 COMMANDS and OPTIONS are the one table of all words: help, hints and the checks of scripts are made from it."""
 
-from __future__ import annotations
-
 import datetime
 import difflib
 import os

@@ -1,7 +1,5 @@
 """Which hint belongs to an answer."""
 
-from __future__ import annotations
-
 import os
 from typing import List, Sequence
 

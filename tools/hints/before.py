@@ -1,7 +1,5 @@
 """What is said before the program runs: the words that a folder's settings add, and what the call leaves aside in it."""
 
-from __future__ import annotations
-
 from typing import List, Sequence
 
 from fleetplan.errors import Unread

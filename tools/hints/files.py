@@ -1,7 +1,5 @@
 """What is said where a file couldn't be read or written (status 7): which one, and what stands in its place."""
 
-from __future__ import annotations
-
 import difflib
 import os
 import select

@@ -1,7 +1,5 @@
 """What is wrong with the first record of a table."""
 
-from __future__ import annotations
-
 import re
 from typing import List, Optional, Sequence
 

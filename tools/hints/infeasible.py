@@ -1,7 +1,5 @@
 """What is said where no plan is legal (status 4): the first causes that simple counts show, and what to try."""
 
-from __future__ import annotations
-
 import itertools
 import os
 from typing import Dict, Iterator, List, Sequence, Tuple

@@ -1,7 +1,5 @@
 """Which smaller least night gives fleets a tour that have none: by the stays that their flights may have, and what `tails` says of some."""
 
-from __future__ import annotations
-
 import datetime
 import time
 from typing import Dict, List, Optional, Sequence

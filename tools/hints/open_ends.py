@@ -1,7 +1,5 @@
 """What is said where subproblems stayed open (status 3 and 5): by which limit, how large the gap is, and what allows more."""
 
-from __future__ import annotations
-
 import os
 from typing import Dict
 

@@ -1,8 +1,6 @@
 """What is said where a proof was asked about another number of aircraft: a fleet that isn't there (status 9 of whatif), and a
 proof that says nothing of that number (status 11)."""
 
-from __future__ import annotations
-
 import difflib
 import os
 import re

@@ -1,7 +1,5 @@
 """Where the lines of a fleet's tour begin, and how soon maintenance comes from there: by what `tails` tells, and by the tables."""
 
-from __future__ import annotations
-
 from typing import List, NamedTuple, Optional, Tuple
 
 from fleetplan.calls import tails

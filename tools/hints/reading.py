@@ -1,7 +1,5 @@
 """The tables that a call reads, and those that stand in its folder and aren't read, since no option of it says so."""
 
-from __future__ import annotations
-
 import os
 from typing import Any, Dict
 

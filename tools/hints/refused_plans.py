@@ -1,7 +1,5 @@
 """What is said of a plan that is refused (status 9): its flights and fleets, with the numbers in words."""
 
-from __future__ import annotations
-
 import os
 import re
 from typing import Callable, Dict, List, Optional, Pattern, Tuple

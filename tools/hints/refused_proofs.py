@@ -1,7 +1,5 @@
 """What is said of a proof that is refused (status 9 of check and whatif)."""
 
-from __future__ import annotations
-
 import os
 import re
 import stat

@@ -1,7 +1,5 @@
 """What is said of a table that doesn't read (status 6): the record as it stands, what is wrong in it, and what would do."""
 
-from __future__ import annotations
-
 import os
 import re
 from typing import Dict, List, Optional, Sequence, Tuple

@@ -1,7 +1,5 @@
 """What is said of the rotations that are refused, one line for each: what helps."""
 
-from __future__ import annotations
-
 import math
 import re
 from typing import Dict, List, Match, NamedTuple, Optional, Sequence, Tuple

@@ -1,7 +1,5 @@
 """How a hint stands on standard error: a first line with the program's name, and further ones below it; in brief, whole, or as JSON."""
 
-from __future__ import annotations
-
 import json
 import os
 import sys

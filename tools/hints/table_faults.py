@@ -1,7 +1,5 @@
 """What is wrong with a record of a table, by the kinds of faults that the program tells."""
 
-from __future__ import annotations
-
 import difflib
 import os
 from collections import Counter

@@ -1,7 +1,5 @@
 """What is said where named aircraft can't all come to maintenance in time (status 10), one line for each fleet: what helps."""
 
-from __future__ import annotations
-
 import os
 import re
 from collections import Counter

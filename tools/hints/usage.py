@@ -1,7 +1,5 @@
 """Pages of help, and what is said of words that are no call: which one is wrong, and the options of the command."""
 
-from __future__ import annotations
-
 from typing import List, Optional, Sequence
 
 from fleetplan.texts import typed

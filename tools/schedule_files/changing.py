@@ -1,7 +1,5 @@
 """Few changes: what a leg costs more with another fleet than as filed, flights that keep theirs, and what a plan changes, as it is told."""
 
-from __future__ import annotations
-
 import os
 import re
 from collections import Counter

@@ -1,7 +1,5 @@
 """Other times of legs, and legs that may be left out, as files of the caller's say."""
 
-from __future__ import annotations
-
 from typing import Dict, List, Sequence, Tuple
 
 from costing import legs

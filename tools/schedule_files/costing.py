@@ -1,7 +1,5 @@
 """Stations, fleets and costs of the tables, as files of the caller's say or as the schedule file has them."""
 
-from __future__ import annotations
-
 from typing import Any, Dict, List, Mapping, Optional, Sequence, Set, Tuple
 
 from fleetplan.errors import Unread

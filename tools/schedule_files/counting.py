@@ -1,7 +1,5 @@
 """How many aircraft the fleets need for weeks that repeat, by the program."""
 
-from __future__ import annotations
-
 from typing import Dict, Iterator, List, Mapping, NamedTuple, Sequence, Set, Tuple
 
 from fleetplan.forms import MOST_AIRCRAFT

@@ -1,7 +1,5 @@
 """Dates, times and variations from UTC, as the lines of a schedule file write them. A day is a number: that of Python's calendar."""
 
-from __future__ import annotations
-
 import datetime
 from typing import Dict, Optional
 

@@ -1,7 +1,5 @@
 """Costs by a planner's own figures, in the place of prices: as tools/costs makes them."""
 
-from __future__ import annotations
-
 from typing import Collection, Dict, Iterator, List, Mapping, NamedTuple, Optional, Sequence, Tuple
 
 from costing import legs, making, telling

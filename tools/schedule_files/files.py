@@ -1,7 +1,5 @@
 """Files of the caller's, read and judged, and files written whole."""
 
-from __future__ import annotations
-
 import os
 from typing import Callable, Mapping, Optional, Sequence
 

@@ -1,7 +1,5 @@
 """What the program says of the plan as filed: it is asked with more aircraft than any fleet has."""
 
-from __future__ import annotations
-
 import os
 import re
 import tempfile

@@ -1,8 +1,6 @@
 """What a caller has typed stays: files of a folder that aren't as `tables` made them, and those that a call reads. The sums of the files as
 they were made stand in the folder's made.csv."""
 
-from __future__ import annotations
-
 import hashlib
 import os
 from typing import Dict, Iterable, Mapping, NamedTuple, Sequence

@@ -1,7 +1,5 @@
 """On which dates a plan is laid."""
 
-from __future__ import annotations
-
 from typing import Dict, Mapping, NamedTuple, Optional, TypeVar
 
 from fleetplan.errors import Unread

@@ -1,7 +1,5 @@
 """The lines of a schedule file: which bytes are what, and which form they have."""
 
-from __future__ import annotations
-
 import re
 from typing import Optional
 

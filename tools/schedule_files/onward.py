@@ -1,7 +1,5 @@
 """Onward flights: which flight the aircraft of a leg flies next, as bytes 138 to 146 of its line say."""
 
-from __future__ import annotations
-
 from typing import Dict, Iterator, List, NamedTuple, Optional, Sequence, Tuple
 
 from schedule_files.days import DATE_VARIATIONS, TIMES, Dates

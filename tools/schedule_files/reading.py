@@ -1,7 +1,5 @@
 """A whole schedule file, each of its lines judged."""
 
-from __future__ import annotations
-
 from sys import intern
 from typing import Dict, Iterator, List, NamedTuple, Sequence, Tuple
 

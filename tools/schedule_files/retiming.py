@@ -1,7 +1,5 @@
 """A leg that departs later or earlier: the bytes of its record that say when it departs and arrives."""
 
-from __future__ import annotations
-
 import itertools
 from typing import Dict, Iterable, Sequence, Tuple
 

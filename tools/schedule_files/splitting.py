@@ -1,7 +1,5 @@
 """An itinerary that a plan changes on some of its dates, in parts: each part is one itinerary again."""
 
-from __future__ import annotations
-
 from typing import Dict, Iterable, Iterator, List, NamedTuple, Optional, Sequence, Tuple
 
 from schedule_files.days import ALL_DAYS, OPEN, WEEK, weekday_of

@@ -1,7 +1,5 @@
 """The tables of a folder, made of the legs of a date or a week, and what is told of them."""
 
-from __future__ import annotations
-
 import os
 from collections import Counter
 from typing import Dict, Iterable, Iterator, List, Mapping, NamedTuple, Optional, Sequence, Set, Tuple

@@ -1,7 +1,5 @@
 """Where an aircraft is missing: the flights of a fleet walked through in their order, with as few aircraft as they need."""
 
-from __future__ import annotations
-
 from typing import Dict, List, NamedTuple, Optional, Sequence, Tuple
 
 from fleetplan.times import DAY, clock

@@ -1,8 +1,6 @@
 """Whether the fleets can fly a schedule file as a plan leaves it: week by week as one that repeats, and through the weeks as they follow each
 other."""
 
-from __future__ import annotations
-
 from typing import Dict, Iterator, List, NamedTuple, Optional, Sequence, Set
 
 from fleetplan.times import DAY

@@ -1,7 +1,5 @@
 """The words of a call of tools/ssim."""
 
-from __future__ import annotations
-
 import datetime
 import re
 from typing import Dict, FrozenSet, List, Mapping, Optional, Sequence, Tuple, Union

@@ -1,8 +1,6 @@
 """What the steps of a scenario noted, as files, each judged as it is read: a full disk, a machine that was switched off, or a hand may have
 torn it."""
 
-from __future__ import annotations
-
 import json
 import math
 import os

@@ -1,7 +1,5 @@
 """The changes of tables that a scenario tells in a few words each."""
 
-from __future__ import annotations
-
 import re
 from fractions import Fraction
 from typing import Callable, Dict, Set, Tuple

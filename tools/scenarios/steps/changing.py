@@ -1,7 +1,5 @@
 """What a change of tables is: a function on them with its words, and the parts that several of them have."""
 
-from __future__ import annotations
-
 from fractions import Fraction
 from typing import Callable, Dict, List, NamedTuple, Optional
 

@@ -1,7 +1,5 @@
 """Two runs side by side: what became of each scenario that both have."""
 
-from __future__ import annotations
-
 import hashlib
 import json
 import os

@@ -1,8 +1,6 @@
 """What is said to the engine where it would do work again that stands there, or where one scenario would end the others. Each step puts its
 output into its place when all is written, so an output is complete or absent, whatever became of its job."""
 
-from __future__ import annotations
-
 import base64
 import contextlib
 import os

@@ -1,7 +1,5 @@
 """Changes of a planner's own figures, by which the costs of all pairs are priced anew: demand and fuel."""
 
-from __future__ import annotations
-
 import hashlib
 from fractions import Fraction
 from statistics import NormalDist

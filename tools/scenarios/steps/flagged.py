@@ -1,7 +1,5 @@
 """The tables that a call reads only where a flag of it says so, and what a plan makes of them."""
 
-from __future__ import annotations
-
 import os
 from typing import Dict, List, Optional, Sequence, Tuple
 

@@ -1,7 +1,5 @@
 """The tables of a scenario: those of the base with the scenario's own laid over them, judged to read, and changed."""
 
-from __future__ import annotations
-
 import os
 import shutil
 from typing import Optional, Sequence

@@ -1,7 +1,5 @@
 """The scenarios of a run, as the records of scenarios.csv tell them."""
 
-from __future__ import annotations
-
 import os
 import re
 import shlex

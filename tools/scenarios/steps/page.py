@@ -1,8 +1,6 @@
 """The page of the summary, by the template beside this folder: what each scenario made of its base, the costs, and what the proofs say of
 other sizes of fleets."""
 
-from __future__ import annotations
-
 import os
 from bisect import bisect
 from functools import partial

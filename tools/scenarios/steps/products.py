@@ -1,7 +1,5 @@
 """Records of several scenarios: lists in braces and ranges of numbers, of which each choice makes one with every other choice."""
 
-from __future__ import annotations
-
 import itertools
 import math
 import re

@@ -1,7 +1,5 @@
 """What a summary.csv says, for what is made of it."""
 
-from __future__ import annotations
-
 import os
 from typing import Dict, List, Optional, Sequence
 

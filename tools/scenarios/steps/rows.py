@@ -1,7 +1,5 @@
 """The rows of the summary, and its columns."""
 
-from __future__ import annotations
-
 from typing import Any, Dict, List, Mapping, Optional, Sequence
 
 from steps.differences import Fleets, Interval, Written, refleeted, without_tour

@@ -1,7 +1,5 @@
 """Runs of the program within the memory and the time that are given to them, with what they took."""
 
-from __future__ import annotations
-
 import shutil
 import subprocess
 from typing import NamedTuple, Sequence

@@ -1,7 +1,5 @@
 """The summary as a table: a record of each scenario, and one of each sum."""
 
-from __future__ import annotations
-
 from typing import List, Optional, Sequence
 
 from fleetplan.records import text_of as table_text

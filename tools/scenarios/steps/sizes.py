@@ -1,7 +1,5 @@
 """What the proof of a scenario says of one aircraft less and of one more, fleet by fleet. Nothing is solved."""
 
-from __future__ import annotations
-
 import os
 import re
 from typing import List, Sequence, Tuple

@@ -1,7 +1,5 @@
 """The solution of a scenario, the check of it in a process of its own, and its picture."""
 
-from __future__ import annotations
-
 import hashlib
 import json
 import os

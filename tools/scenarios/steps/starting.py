@@ -1,8 +1,6 @@
 """What a run tells before it begins: how many scenarios there are and about how long they take, whether they are drawn, and what to do about
 a lock that stands there."""
 
-from __future__ import annotations
-
 import math
 import os
 import re

@@ -1,7 +1,5 @@
 """The summary of all scenarios, of which those that aren't proved come first."""
 
-from __future__ import annotations
-
 import os
 from collections import Counter
 from typing import Any, Dict, List, Mapping, Optional, Sequence

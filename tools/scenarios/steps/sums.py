@@ -1,7 +1,5 @@
 """Days added up: what a year costs with each change, by how often a day of each type is flown."""
 
-from __future__ import annotations
-
 from collections import Counter
 from typing import Dict, List, NamedTuple, Optional, Sequence
 

@@ -1,7 +1,5 @@
 """A table of what changes cost, from a summary: a row is a change, and a column what it is compared with."""
 
-from __future__ import annotations
-
 from typing import Dict, List, Sequence, Tuple
 
 from steps.reading import Line, in_thousands, markdown, thousands

@@ -1,7 +1,5 @@
 """What a scenario changed, in words."""
 
-from __future__ import annotations
-
 from collections import Counter
 from typing import List, Optional, Sequence
 
