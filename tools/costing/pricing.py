@@ -55,18 +55,13 @@ class Demands:
 
 def factor_of(leg: Leg, factors: Mapping[str, Fraction]) -> Fraction:
     """Returns the product of the factors of all names that stand for a leg."""
-    product = Fraction(1)
-    for key in leg.keys:
-        product *= factors.get(key, 1)
-    return product
+    return math.prod((factors.get(key, Fraction(1)) for key in leg.keys), start=Fraction(1))
 
 
 class Pricer:
     """Prices pairs of legs and fleets by figures."""
 
-    def __init__(
-        self, figures: Figures, legs: Sequence[Leg], fleets: Sequence[str], factors: Optional[Mapping[str, Fraction]] = None
-    ) -> None:
+    def __init__(self, figures: Figures, legs: Sequence[Leg], fleets: Sequence[str], factors: Optional[Mapping[str, Fraction]] = None) -> None:
         self.figures = figures
         self.demands = Demands(figures, legs, factors or {})
         self.rates = rates_of(figures, {it.start for it in legs}, fleets)

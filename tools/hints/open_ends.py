@@ -12,23 +12,22 @@ from hints.saying import Hint
 
 SECTION = "what-solve-prints-and-writes"
 SECONDS = 5
+# Why a subproblem stays open, by the limit that it is counted under.
+WHY = {
+    "nodes": "the search might split no more (--nodes)",
+    "pivots": "it might take no more pivots (--pivots, or --all-pivots)",
+    "grew": "an exact number outgrew its limit, and no greater number of splits or pivots helps there",
+}
 
 
 def explain(hint: Hint, command: str, call: Call) -> None:
     """Says how many subproblems stayed open by which limit, and the words of the same call with more and with a free search."""
     counts = counts_of(os.path.join(call.folder, "proof.txt"))
-    if not any(counts[it] for it in ("nodes", "pivots", "grew")):
+    if not any(counts[it] for it in WHY):
         return
-    told = []
-    if counts["nodes"]:
-        told.append(f"{counted(counts['nodes'], 'subproblem')} stayed open since the search might split no more (--nodes)")
-    if counts["pivots"]:
-        told.append(f"{counted(counts['pivots'], 'subproblem')} stayed open since it might take no more pivots (--pivots, or --all-pivots)")
-    if counts["grew"]:
-        why = "an exact number outgrew its limit, and no greater number of splits or pivots helps there"
-        told.append(f"{counted(counts['grew'], 'subproblem')} stayed open since {why}")
-    for text in told:
-        hint.say(text)
+    for name, why in WHY.items():
+        if counts[name]:
+            hint.say(f"{counted(counts[name], 'subproblem')} stayed open since {why}")
     quietly(tell_gap, hint, call)
     tell_more(hint, command, call, counts)
     tell_free(hint, command, call)

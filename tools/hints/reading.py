@@ -20,6 +20,18 @@ def options_of_tails(call: Call) -> Dict[str, Any]:
     return {it.replace("-", "_"): call.given[it][0] or True for it in COMMANDS["tails"].options if it in call.given}
 
 
+def tell_option(hint: Hint, command: str, call: Call, what: str, option: str) -> None:
+    """Says that a plan or a proof is one of a call with an option."""
+    hint.say(f"{what} of a call with --{option}:")
+    hint.mend([command, *call.with_more(f"--{option}")])
+
+
+def tell_no_shifts(hint: Hint, command: str, call: Call, what: str) -> None:
+    """Says that a plan or a proof is one of a call without windows."""
+    hint.say(f"it tells no shifts, as a {what} of a call without --windows. With --windows solve writes another one:")
+    hint.mend([command, "solve", call.folder, *call.reading])
+
+
 def tell_unread(hint: Hint, command: str, call: Call) -> bool:
     """Says which of these there are, with the words that read them, and returns whether there are any."""
     options = [it for it, name in ASKED.items() if not call.has(it) and os.path.isfile(os.path.join(call.folder, name))]

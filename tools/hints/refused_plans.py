@@ -8,7 +8,7 @@ from fleetplan.records import Record, names_in, record_of, rows_of
 from fleetplan.tables import HEADERS, NO_FLEET, SHIFTED, Header
 from fleetplan.texts import counted, listed, quietly
 from fleetplan.words import Call
-from hints.reading import schedule_of
+from hints.reading import schedule_of, tell_no_shifts, tell_option
 from hints.refused_tables import show
 from hints.saying import Hint, Where
 from hints.table_faults import Told, unknown
@@ -45,7 +45,7 @@ def explain(hint: Hint, command: str, call: Call, said: str) -> None:
         kind = int(unread[2])
         record, told = quietly(look, call, int(unread[1]), kind) or (None, Told(MEANS[kind]))
         show(hint, plan, record, [told])
-        quietly(tell_option, hint, command, call, record, kind)
+        quietly(tell_kind, hint, command, call, record, kind)
         hint.see(PLAN)
     for form, tell in TELLERS.items():
         found = form.fullmatch(said)
@@ -69,14 +69,12 @@ def header_of(call: Call) -> Header:
     return SHIFTED if call.has("windows") else HEADERS["plan.csv"]
 
 
-def tell_option(hint: Hint, command: str, call: Call, record: Record, kind: int) -> None:
+def tell_kind(hint: Hint, command: str, call: Call, record: Record, kind: int) -> None:
     """Says which option of the words doesn't go with the plan."""
     if kind == 1 and tuple(record.texts) == SHIFTED:
-        hint.say("it tells a shift of each flight, as a plan of a call with --windows:")
-        hint.mend([command, *call.with_more("--windows")])
+        tell_option(hint, command, call, "it tells a shift of each flight, as a plan", "windows")
     elif kind == 1 and tuple(record.texts) == HEADERS["plan.csv"]:
-        hint.say("it tells no shifts, as a plan of a call without --windows. With --windows solve writes another one:")
-        hint.mend([command, "solve", call.folder, *call.reading])
+        tell_no_shifts(hint, command, call, "plan")
     elif kind == 4 and record.texts[1] == NO_FLEET and not call.has("optional"):
         hint.say("a flight is left out (-) by a plan of a call with --optional alone:")
         hint.mend([command, *call.with_more("--optional")])
@@ -184,9 +182,4 @@ def tell_crowd(call: Call, station: str, when: str, stays: str, room: str) -> Li
 
 
 # What tells more of a line, by its form.
-TELLERS: Dict[Pattern[str], Callable[..., List[str]]] = {
-    NOT_ALLOWED: tell_pair,
-    UNBALANCED: tell_balance,
-    TOO_MANY: tell_use,
-    CROWDED: tell_crowd,
-}
+TELLERS: Dict[Pattern[str], Callable[..., List[str]]] = {NOT_ALLOWED: tell_pair, UNBALANCED: tell_balance, TOO_MANY: tell_use, CROWDED: tell_crowd}

@@ -7,7 +7,7 @@ import stat
 from fleetplan.tables import NO_FLEET
 from fleetplan.texts import plain, quietly
 from fleetplan.words import Call
-from hints.reading import tell_unread
+from hints.reading import tell_no_shifts, tell_option, tell_unread
 from hints.saying import Hint, Where
 
 TEXT = "what-is-wrong-with-the-text-of-a-proof-kinds-1-to-9"
@@ -78,15 +78,8 @@ def look(hint: Hint, command: str, call: Call, number: int, kind: int) -> None:
         if head == FIRST and first == b"charge":
             hint.say("a proof that begins with fleet proof 1 has no charges; one with charges begins with fleet proof 2")
         elif kind == 1 and head == THIRD:
-            tell_option(hint, command, call, "it tells shifts", "windows")
+            tell_option(hint, command, call, "it tells shifts, as a proof", "windows")
         elif kind == 1 and head in (FIRST, SECOND):
-            hint.say("it tells no shifts, as a proof of a call without --windows. With --windows solve writes another one:")
-            hint.mend([command, "solve", call.folder, *call.reading])
+            tell_no_shifts(hint, command, call, "proof")
         elif kind == 7 and first in PAIRS and words[1:2] == [NO_FLEET.encode()] and not call.has("optional"):
-            tell_option(hint, command, call, "it leaves a flight out (-)", "optional")
-
-
-def tell_option(hint: Hint, command: str, call: Call, what: str, option: str) -> None:
-    """Says that a proof is one of a call with an option."""
-    hint.say(f"{what}, as a proof of a call with --{option}:")
-    hint.mend([command, *call.with_more(f"--{option}")])
+            tell_option(hint, command, call, "it leaves a flight out (-), as a proof", "optional")

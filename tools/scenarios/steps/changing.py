@@ -6,6 +6,7 @@ from typing import Callable, Dict, List, NamedTuple, Optional
 from costing.repricing import Scaling
 from fleetplan.errors import Unread
 from fleetplan.records import Rows
+from steps.products import decimal
 
 # The forms of a fleet's or a flight's name, of a station, and of a factor.
 NAME = "([A-Z0-9]{1,8})"
@@ -57,10 +58,7 @@ def times(price: int, factor: Fraction) -> int:
 
 def by_part(factor: Fraction) -> str:
     """Returns a factor, which has an end as a decimal, as percents more or less."""
-    parts = abs(factor - 1) * 100
-    whole, rest = divmod(parts.numerator * 10**6 // parts.denominator, 10**6)
-    digits = f"{whole}.{rest:06}".rstrip("0").rstrip(".")
-    return "as much" if factor == 1 else f"{digits} % {'more' if factor > 1 else 'less'}"
+    return "as much" if factor == 1 else f"{decimal(abs(factor - 1) * 100)} % {'more' if factor > 1 else 'less'}"
 
 
 def record_of(tables: Tables, name: str, key: str) -> List[str]:

@@ -1,6 +1,5 @@
 """Two runs side by side: what became of each scenario that both have."""
 
-import hashlib
 import json
 import os
 from collections import Counter
@@ -12,7 +11,7 @@ from steps.differences import Fleets, refleeted
 from steps.flagged import choice_of, planned
 from steps.reading import Line, thousands
 from steps.rows import INFEASIBLE
-from steps.solving import CHECK
+from steps.solving import CHECK, sum_of
 
 HEAD = ("scenario", "A", "B", "difference", "bound", "used", "refleeted", "no tour")
 FOLDER = "scenarios"
@@ -80,10 +79,7 @@ def plan_in(folder: str) -> Optional[Fleets]:
     try:
         with open(os.path.join(folder, CHECK), encoding="utf-8") as it:
             checked = json.load(it)["sums"]["plan.csv"]
-        with open(path, "rb") as file:
-            if hashlib.sha256(file.read()).hexdigest() != checked:
-                return None
-        return choice_of(planned(os.path.dirname(path)))
+        return choice_of(planned(os.path.dirname(path))) if sum_of(path) == checked else None
     except (OSError, ValueError, KeyError, TypeError, Unread):
         return None
 

@@ -102,10 +102,9 @@ def ranged(text: str, is_signed: bool) -> List[str]:
     return [found["star"] + decimal(first + at * step, sign) for at in range(int(count) + 1)]
 
 
-def decimal(number: Fraction, sign: str) -> str:
-    """Returns a number of at most 6 decimals, with a sign before one of 0 or more."""
-    millionths = abs(number) * 10**6
-    whole, rest = divmod(millionths.numerator, 10**6)
+def decimal(number: Fraction, sign: str = "") -> str:
+    """Returns a number to 6 decimals, with a sign before one of 0 or more."""
+    whole, rest = divmod(int(abs(number) * 10**6), 10**6)
     digits = f"{whole}.{rest:06}".rstrip("0").rstrip(".")
     return f"{'-' if number < 0 else sign}{digits}"
 

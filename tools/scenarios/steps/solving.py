@@ -101,12 +101,8 @@ def answer_or_fault(call: Callable[[], Answer], is_last: bool) -> Answer:
 
 def sums_of(place: str) -> Dict[str, str]:
     """Returns the sums of the files that a check reads, of those that stand there."""
-    found = {}
-    for name in CLAIMED:
-        path = os.path.join(place, name)
-        if os.path.lexists(path):
-            found[name] = sum_of(path)
-    return found
+    paths = {name: os.path.join(place, name) for name in CLAIMED}
+    return {name: sum_of(path) for name, path in paths.items() if os.path.lexists(path)}
 
 
 def sum_of(path: str) -> str:
