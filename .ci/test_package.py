@@ -68,10 +68,7 @@ FAULTS = (
     ("", 139, ("Fault", None, None, None)),
 )
 # A table that doesn't read, and where that is told.
-UNREAD = (
-    ("legs.csv", "flight\n", ("legs.csv", 1, None)),
-    ("fleets.csv", "fleet,aircraft,turn\nF1,x,1\n", ("fleets.csv", 2, "aircraft")),
-)
+UNREAD = (("legs.csv", "flight\n", ("legs.csv", 1, None)), ("fleets.csv", "fleet,aircraft,turn\nF1,x,1\n", ("fleets.csv", 2, "aircraft")))
 # What the example prints that an outside computation tells too: bench/others.py finds both costs.
 KNOWN = ["optimal 305420 {'A320': 5, 'A220': 3, 'E190': 4}", "optimal 306070 650", "True"]
 
@@ -192,8 +189,7 @@ def test_no_program(scratch: Path, monkeypatch: pytest.MonkeyPatch) -> None:
 
 def test_solution(tmp_path: Path, monkeypatch: pytest.MonkeyPatch) -> None:
     """What is read of a solution: the files that stand in the folder."""
-    own = tmp_path / "split"
-    shutil.copytree(TOP / "examples" / "split", own)
+    own: Path = shutil.copytree(TOP / "examples" / "split", tmp_path / "split")
     stand_in(tmp_path, SOLVED, 0, monkeypatch)
     found = fleetplan.solve(str(own), day_start="00:00", nodes=20)
     plan = dict(it.split(",") for it in (own / "plan.csv").read_text(encoding="ascii").splitlines()[1:])

@@ -24,9 +24,7 @@ def read(folder: Place) -> Read:
     """The fleets (aircraft, turn), the legs (from, departure, to, minutes without the turn, costs by fleet), each of which all
     fleets may fly, and the number of stations of a folder's tables. The schedule repeats after `schedules.period_of` days."""
     period = DAY * schedules.period_of(folder)
-    stations, fleets, flights, pairs = (
-        rows(folder, name) for name in ("stations.csv", "fleets.csv", "legs.csv", "costs.csv")
-    )
+    stations, fleets, flights, pairs = (rows(folder, name) for name in ("stations.csv", "fleets.csv", "legs.csv", "costs.csv"))
     place = {row["code"]: at for at, row in enumerate(stations)}
     costs: Dict[str, List[int]] = {row["flight"]: [] for row in flights}
     for pair in pairs:

@@ -4,9 +4,8 @@ import json
 import random
 import shutil
 import sys
-from typing import Dict, Iterator, List, Mapping, Sequence, Tuple, Union
-
 from pathlib import Path
+from typing import Dict, Iterator, List, Mapping, Sequence, Tuple, Union
 from scenario_runs import HUB_DAY, Record, Run, Tries
 from shared import BENCH, EXAMPLES, TABLES, put, rows, run as ran
 

@@ -38,9 +38,7 @@ def fleets_for(tour: Tour, kinds: Sequence[Kind]) -> List[int]:
     return [place for _, place in sorted(sums_of(tour, kinds))]
 
 
-def timetable(
-    draw: random.Random, network: Network, kinds: Sequence[Kind], legs: int, begun: Iterable[Tour] = ()
-) -> List[Tuple[Tour, int]]:
+def timetable(draw: random.Random, network: Network, kinds: Sequence[Kind], legs: int, begun: Iterable[Tour] = ()) -> List[Tuple[Tour, int]]:
     """Tours of just so many legs, each with its kind; some may be given. All departures lie within a day from 03:00 on."""
     given, tours = list(begun), []
     while legs:

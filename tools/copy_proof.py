@@ -110,9 +110,7 @@ def end_with_parent() -> None:
 def run_gate(rt: str, room: Path, progress: Progress, goes_on: Callable[[], bool]) -> Optional[int]:
     """Has `rt ci` prove the copy while goes_on() holds, and returns its status, or None where it was stopped."""
     with open(progress.log.name, "wb") as log:
-        process = subprocess.Popen(
-            [rt, "ci"], cwd=room, stdin=subprocess.DEVNULL, stdout=log, stderr=subprocess.STDOUT, preexec_fn=end_with_parent
-        )
+        process = subprocess.Popen([rt, "ci"], cwd=room, stdin=subprocess.DEVNULL, stdout=log, stderr=subprocess.STDOUT, preexec_fn=end_with_parent)
     try:
         while process.poll() is None:
             if not goes_on():

@@ -24,9 +24,7 @@ def seconds_in(file: Path) -> Dict[str, float]:
 class Forecast:
     """The build as it was planned when it began, and its pace so far. Some crates take longer than the file says, by a factor."""
 
-    def __init__(
-        self, file: Path, below: Dict[str, Set[str]], program: str, processors: int, longer: Optional[Dict[str, float]] = None
-    ) -> None:
+    def __init__(self, file: Path, below: Dict[str, Set[str]], program: str, processors: int, longer: Optional[Dict[str, float]] = None) -> None:
         found = seconds_in(file)
         self.seconds = {it: (longer or {}).get(it, 1) * found.get(it, UNKNOWN) for it in (*below, program)}
         self.program = program

@@ -109,9 +109,7 @@ def test_days(browser: Browser, desk: Desk, name: str) -> None:
     browser.settle()
     assert_apart(browser)
     assert browser.ask("return document.querySelectorAll('.by-aircraft .plot')[0].getBoundingClientRect().width") == 0
-    bars = browser.ask(
-        "return Array.from(document.querySelectorAll('.by-day .leg'), (it) => it.querySelectorAll('.flight, .over').length)"
-    )
+    bars = browser.ask("return Array.from(document.querySelectorAll('.by-day .leg'), (it) => it.querySelectorAll('.flight, .over').length)")
     assert sum(bars) >= 0.9 * len(bars) > 0
 
 

@@ -81,8 +81,7 @@ def test_first_day(desk: Desk, name: str, first: str, tmp_path: Path) -> None:
     """Where settings.csv tells a date of day 1, the rows are those that `tails` tells by it."""
     drawn, dates = desk.drawn(name), ["2026-11-27", "2"]
     words = [*drawn.reading, *(KINDS[name].solving or [])]
-    folder = tmp_path / "day"
-    shutil.copytree(drawn.folder, folder)
+    folder: Path = shutil.copytree(drawn.folder, tmp_path / "day")
     (folder / "settings.csv").write_text(f"word,value\nfirst-day,{first}\n", encoding="ascii")
     draw(folder, "--from", dates[0], "--dates", dates[1], *words)
     said = run([desk.program, "tails", str(folder), *dates, *words, "--first-day", first])
@@ -141,8 +140,7 @@ def test_plan_alone(desk: Desk) -> None:
 
 def test_against(desk: Desk, tmp_path: Path) -> None:
     """The legs with another fleet are marked, counted and listed with the difference of cost."""
-    folder = tmp_path / "planned"
-    shutil.copytree(desk.drawn("hub-day").folder, folder)
+    folder: Path = shutil.copytree(desk.drawn("hub-day").folder, tmp_path / "planned")
     there = desk.drawn("filed").folder
     draw(folder, "--against", str(there))
     page = (folder / "plan.html").read_text(encoding="utf-8")
@@ -191,8 +189,7 @@ def test_parking(desk: Desk) -> None:
 
 def test_picture(desk: Desk, tmp_path: Path) -> None:
     """The picture of the README is what tools/draw draws, and reads as XML."""
-    folder = tmp_path / "hub-day"
-    shutil.copytree(desk.drawn("hub-day").folder, folder)
+    folder: Path = shutil.copytree(desk.drawn("hub-day").folder, tmp_path / "hub-day")
     draw(folder, "--svg", "E190")
     text = (folder / "plan.svg").read_bytes()
     ElementTree.fromstring(text)
@@ -221,8 +218,7 @@ def test_escaped(desk: Desk, tmp_path: Path) -> None:
 
 def test_no_flight(tmp_path: Path) -> None:
     """A schedule without a flight is drawn: there is nothing in its chart."""
-    folder = tmp_path / "none"
-    shutil.copytree(TOP / "examples" / "two-legs", folder)
+    folder: Path = shutil.copytree(TOP / "examples" / "two-legs", tmp_path / "none")
     for name in ("legs.csv", "costs.csv", "throughs.csv", "plan.csv"):
         text = (folder / name).read_text(encoding="ascii")
         (folder / name).write_text(text.splitlines()[0] + "\n" if text else "", encoding="ascii")
@@ -243,16 +239,14 @@ def test_words(tmp_path: Path, words: List[str]) -> None:
 
 def test_no_plan(tmp_path: Path) -> None:
     """A folder without a plan, and one that isn't there, have one line and status 7."""
-    folder = tmp_path / "day"
-    shutil.copytree(TOP / "examples" / "infeasible", folder)
+    folder: Path = shutil.copytree(TOP / "examples" / "infeasible", tmp_path / "day")
     assert re.fullmatch(r"tools/draw: .*plan\.csv is missing: .*\n", draw(folder, "--day-start", "00:00", status=7))
     assert draw(tmp_path / "nowhere", status=7).count("\n") == 1
 
 
 def test_other_plan(desk: Desk, tmp_path: Path) -> None:
     """A rotation of another plan, an illegal pair and another day start are refused with status 9, and nothing is written."""
-    folder = tmp_path / "day"
-    shutil.copytree(desk.drawn("hub-day").folder, folder)
+    folder: Path = shutil.copytree(desk.drawn("hub-day").folder, tmp_path / "day")
     os.remove(folder / "plan.html")
     assert "isn't by this day start" in draw(folder, "--day-start", "12:00", status=9)
     shutil.copy(TOP / "examples" / "hub-day" / "plan.csv", folder / "plan.csv")
@@ -265,8 +259,7 @@ def test_other_plan(desk: Desk, tmp_path: Path) -> None:
 
 def test_illegal(desk: Desk, tmp_path: Path) -> None:
     """A plan by hand that isn't legal is drawn, and what judge says of it stands above all."""
-    folder = tmp_path / "day"
-    shutil.copytree(TOP / "examples" / "hub-day", folder)
+    folder: Path = shutil.copytree(TOP / "examples" / "hub-day", tmp_path / "day")
     text = (folder / "plan.csv").read_text(encoding="ascii")
     (folder / "plan.csv").write_text(text.replace("FP101,A320", "FP101,E190"), encoding="ascii")
     draw(folder)
@@ -275,8 +268,7 @@ def test_illegal(desk: Desk, tmp_path: Path) -> None:
 
 def test_late(desk: Desk, tmp_path: Path) -> None:
     """Where `due` says that aircraft are late, that stands beside the fleet."""
-    folder = tmp_path / "day"
-    shutil.copytree(desk.drawn("due").folder, folder)
+    folder: Path = shutil.copytree(desk.drawn("due").folder, tmp_path / "day")
     tails = (folder / "tails.csv").read_text(encoding="ascii")
     (folder / "tails.csv").write_text(tails.replace("DAFPC,A320,2", "DAFPC,A320,1"), encoding="ascii")
     draw(folder, "--from", "2026-11-30")
@@ -285,8 +277,7 @@ def test_late(desk: Desk, tmp_path: Path) -> None:
 
 def test_other_routing(desk: Desk, tmp_path: Path) -> None:
     """Dates by other options than those of solve are refused where the tours differ."""
-    folder = tmp_path / "week"
-    shutil.copytree(desk.drawn("week").folder, folder)
+    folder: Path = shutil.copytree(desk.drawn("week").folder, tmp_path / "week")
     said = draw(folder, "--period", "7", "--from", "2026-11-30", "--days", "1", status=9)
     assert re.search(r"has another tour of F\d+ than tails: give --days", said)
     draw(folder, "--period", "7", "--from", "2026-11-30", "--dates", "14", "--days", "4")
@@ -309,8 +300,7 @@ def hindered(folder: Path, hindrance: str) -> "subprocess.CompletedProcess[str]"
 
 def test_without_jinja(tmp_path: Path) -> None:
     """Where Jinja2 isn't there, one line says how to install it, and nothing is written."""
-    folder = tmp_path / "day"
-    shutil.copytree(TOP / "examples" / "re-timing", folder)
+    folder: Path = shutil.copytree(TOP / "examples" / "re-timing", tmp_path / "day")
     ran = hindered(folder, "sys.modules['jinja2'] = None")
     wanted = "tools/draw: Jinja2 isn't there, which makes the page: apt-get install python3-jinja2 node-d3\n"
     assert (ran.returncode, ran.stdout) == (7, wanted)
@@ -319,8 +309,7 @@ def test_without_jinja(tmp_path: Path) -> None:
 
 def test_without_d3(tmp_path: Path) -> None:
     """Where D3 isn't there, the page has no script, and one line says how to install it."""
-    folder = tmp_path / "day"
-    shutil.copytree(TOP / "examples" / "re-timing", folder)
+    folder: Path = shutil.copytree(TOP / "examples" / "re-timing", tmp_path / "day")
     ran = hindered(folder, "import drawing.library as it; it.PLACES = ()")
     wanted = "tools/draw: the page has no zoom and no search, since D3 isn't there: apt-get install python3-jinja2 node-d3\n"
     assert (ran.returncode, ran.stdout) == (0, wanted)

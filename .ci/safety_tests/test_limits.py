@@ -32,8 +32,7 @@ CODES = ["".join(it) for it in itertools.islice(itertools.product(string.ascii_u
 
 def lay(scratch: Path) -> Path:
     """Lays a folder with a plan."""
-    folder = scratch / "split"
-    shutil.copytree(TOP / "examples" / "split", folder)
+    folder: Path = shutil.copytree(TOP / "examples" / "split", scratch / "split")
     return folder
 
 

@@ -42,12 +42,7 @@ def test_nothing_solved(scratch: Path) -> None:
 
 
 # An outcome that is an answer, and how many proofs there are with it.
-ANSWERS = {
-    "optimal": optimal(70),
-    "gap": Ended("gap", 70, 60),
-    "infeasible": INFEASIBLE,
-    "unsettled": Ended("unsettled", None, 60),
-}
+ANSWERS = {"optimal": optimal(70), "gap": Ended("gap", 70, 60), "infeasible": INFEASIBLE, "unsettled": Ended("unsettled", None, 60)}
 
 
 @pytest.mark.parametrize("outcome", ANSWERS)

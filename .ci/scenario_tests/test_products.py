@@ -58,11 +58,7 @@ def test_folders(scratch: Path) -> None:
         (scratch / name).mkdir()
         (scratch / name / "legs.csv").write_text("", encoding="utf-8")
     found = listed(scratch, '"a",,"{,sat,sun}",')
-    assert {name: it.folder for name, it in found.items()} == {
-        "a": None,
-        "a_sat": str(scratch / "sat"),
-        "a_sun": str(scratch / "sun"),
-    }
+    assert {name: it.folder for name, it in found.items()} == {"a": None, "a_sat": str(scratch / "sat"), "a_sun": str(scratch / "sun")}
 
 
 def test_stable_names(scratch: Path) -> None:

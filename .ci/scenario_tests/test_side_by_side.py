@@ -131,9 +131,7 @@ def lay_pairs(scratch: Path) -> List[str]:
     """Lays two runs, and returns the lines of compare."""
     for place, side in enumerate("ab"):
         own: Dict[str, Any] = {**{name: it[place] for name, it in PAIRS.items()}, f"only-{side}": optimal(1), "asks": optimal(1)}
-        listed = "scenario,words,folder,changes\n" + "".join(
-            f"{name},,,{f'aircraft F1 {place + 3}' if name == 'asks' else ''}\n" for name in own
-        )
+        listed = "scenario,words,folder,changes\n" + "".join(f"{name},,,{f'aircraft F1 {place + 3}' if name == 'asks' else ''}\n" for name in own)
         lay_run(scratch / side, listed, own)
     status, told, wrong = called("compare", scratch / "a", scratch / "b")
     assert (status, wrong) == (0, "")

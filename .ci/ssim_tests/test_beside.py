@@ -1,9 +1,8 @@
 """Other times and legs that may be left out beside the tables, legs that a planner adds or changes there, and a plan that brings a
 flight to one date twice."""
 
-from typing import Dict, List, Optional, Sequence, Tuple
-
 from pathlib import Path
+from typing import Dict, List, Optional, Sequence, Tuple
 
 import pytest
 from schedule_lines import leg

@@ -1,8 +1,7 @@
 """Each feature of `tables` as a small schedule, with the records that a person would write."""
 
-from typing import Any, Dict, List, Mapping, Optional, Sequence, Tuple
-
 from pathlib import Path
+from typing import Any, Dict, List, Mapping, Optional, Sequence, Tuple
 
 import pytest
 from schedule_lines import carrier, header, leg, numbered, segment, text, trailer, whole

@@ -32,9 +32,7 @@ NOTHING = "nothing is written: --anyway writes it all the same"
 CHANGES_TOLD = "another aircraft type", "legs change: ", "configurations (bytes 173 to 192), classes (76 to 100) and onward flights (138 to 146) stay as filed"
 
 
-def lay(
-    folder: Path, legs: Sequence[str], fleets: str, changes: Mapping[str, str], option: str = "--date", date: str = DATE, *more: object
-) -> None:
+def lay(folder: Path, legs: Sequence[str], fleets: str, changes: Mapping[str, str], option: str = "--date", date: str = DATE, *more: object) -> None:
     """Makes tables of legs with so many aircraft as `320 1, E90 1`, and changes fleets of flights, on each of their days, in the plan."""
     lines = numbered([header(), carrier("ZZ"), *legs, trailer("ZZ")])
     (folder / "season").write_bytes(text(lines).encode("ascii"))

@@ -5,9 +5,8 @@ import os
 import random
 import re
 from collections import Counter
-from typing import List, Sequence, Set, Tuple
-
 from pathlib import Path
+from typing import List, Sequence, Set, Tuple
 
 import pytest
 from fleetplan.program import BESIDE, Runner

@@ -2,9 +2,8 @@
 
 import datetime
 import random
-from typing import Dict, List, Mapping, Optional, Sequence, Tuple, TypeVar, Union
-
 from pathlib import Path
+from typing import Dict, List, Mapping, Optional, Sequence, Tuple, TypeVar, Union
 
 import pytest
 from schedule_lines import ZEROS, carrier, header, leg, numbered, segment, text, trailer
@@ -67,10 +66,7 @@ ONE = leg("ZZ", 1, WAY, "320", "12345")
 TWO = leg("ZZ", 2, "LHR 1100 +0000 ZRH 1250 +0100", "320", "12345", variation=1)
 LATER = leg("ZZ", 1, WAY, "320", "67", variation=2)
 FORTNIGHT = leg("ZZ", 1, WAY, "320", "123", period=("27OCT26", "22MAR27"), b36="2")
-THREE = [
-    leg("ZZ", 7, "ZRH 2230 +0100 GVA 2315 +0100", "320"),
-    leg("ZZ", 7, "GVA 0130 +0100 LIS 0310 +0000", "320", sequence=2, shifts="11"),
-]
+THREE = [leg("ZZ", 7, "ZRH 2230 +0100 GVA 2315 +0100", "320"), leg("ZZ", 7, "GVA 0130 +0100 LIS 0310 +0000", "320", sequence=2, shifts="11")]
 Case = Tuple[List[str], Dict[str, str], Tuple[str, ...], List[str]]
 Planned = TypeVar("Planned")
 # Of each case the legs, the fleets of the plan, the options, and the records of the new file.

@@ -1,8 +1,7 @@
 """Each refusal: one line that says where and what, status 6, 7 or 2, and nothing written."""
 
-from typing import Dict, List, Tuple
-
 from pathlib import Path
+from typing import Dict, List, Tuple
 
 import pytest
 from schedule_lines import ZEROS, carrier, header, leg, numbered, segment, text, trailer

@@ -2,9 +2,8 @@
 
 import datetime
 import random
-from typing import Any, Dict, List, Optional, Sequence, Tuple
-
 from pathlib import Path
+from typing import Any, Dict, List, Optional, Sequence, Tuple
 
 import pytest
 from schedule_lines import carrier, header, leg, numbered, segment, trailer, whole

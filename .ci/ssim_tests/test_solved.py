@@ -2,9 +2,8 @@
 that plan."""
 
 import re
-from typing import List, Optional, Sequence, Tuple
-
 from pathlib import Path
+from typing import List, Optional, Sequence, Tuple
 
 import pytest
 from fleetplan.program import Runner

@@ -80,8 +80,7 @@ def said_by(words: Sequence[str], folder: Path, **names: str) -> str:
 
 def lay(folder: Path, **files: str) -> Path:
     """Lays a copy of an example with an odd name, in which files are others."""
-    place = folder / ODD
-    shutil.copytree(TOP / "examples" / "split", place)
+    place: Path = shutil.copytree(TOP / "examples" / "split", folder / ODD)
     for name, text in files.items():
         (place / f"{name}.csv").write_bytes(os.fsencode(text))
     return place

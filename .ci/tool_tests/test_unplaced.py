@@ -92,8 +92,7 @@ def test_ready(minutes: str, place: str, scratch: Path, monkeypatch: pytest.Monk
 
 def due_of(scratch: Path, tails: List[str], monkeypatch: pytest.MonkeyPatch) -> Call:
     """Returns a call of `due` for other tails of the example."""
-    folder = scratch / "due"
-    shutil.copytree(TOP / "examples" / "due", folder)
+    folder: Path = shutil.copytree(TOP / "examples" / "due", scratch / "due")
     (folder / "tails.csv").write_text("\n".join(["tail,fleet,left,at", *tails, ""]), encoding="ascii")
     answering(DUE, monkeypatch)
     return Call(["due", str(folder), "2026-11-30", "1"])

@@ -96,10 +96,7 @@ class Figures(NamedTuple):
 
 def read_demand(path: str) -> Dict[str, Demand]:
     """Returns the demand of each flight of a demand.csv, or raises Unread."""
-    forms = {
-        WANTED: (flight_or_each, _NUMBER, _NUMBER, _NUMBER, _PARTS),
-        CARRIED: (flight_or_each, _NUMBER, _NUMBER, _NUMBER, _NUMBER, _PARTS),
-    }
+    forms = {WANTED: (flight_or_each, _NUMBER, _NUMBER, _NUMBER, _PARTS), CARRIED: (flight_or_each, _NUMBER, _NUMBER, _NUMBER, _NUMBER, _PARTS)}
     header, rows = judged(path, forms)
     read = wanted if header == WANTED else taken
     return {row[0]: read([Fraction(it) for it in row[1:]], Place(path, number)) for number, row in enumerate(rows, 2)}

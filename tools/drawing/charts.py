@@ -287,10 +287,7 @@ def texts_of(bar: Bar, calendar: Calendar, scale: Scale) -> List[Text]:
     over = " ".join(it for it in ("" if letters else leg.flight, bar.mark) if it)
     if over and bar.departs and width_of(over, SMALL, True) <= room:
         found.append(Text("mark" if bar.mark else "over", at, 0, over))
-    ends = {
-        "from": (leg.start, calendar.clock(bar.flown.departs), bar.departs),
-        "to": (leg.end, calendar.clock(bar.flown.lands), bar.lands),
-    }
+    ends = {"from": (leg.start, calendar.clock(bar.flown.departs), bar.departs), "to": (leg.end, calendar.clock(bar.flown.lands), bar.lands)}
     return found + end_texts(ends, bar, scale, wide, room)
 
 

@@ -64,9 +64,7 @@ def figures_of(plan: Plan) -> List[Figures]:
         stays = it.nights()
         maintained = sum(ground is not None and plan.is_maintained(ground) for ground in stays)
         worth = worth_of(plan, it, plan.asker) if plan.wanted.has_sizes and plan.proof else None
-        found.append(
-            Figures(it, it.used, it.has, len(legs), block, plan.wanted.period, it.waits(), cost, len(stays), maintained, worth)
-        )
+        found.append(Figures(it, it.used, it.has, len(legs), block, plan.wanted.period, it.waits(), cost, len(stays), maintained, worth))
     return found
 
 

@@ -19,9 +19,7 @@ SAYING = Saying(
 )
 
 
-def judged(
-    path: str, headers: Mapping[Header, Sequence[Wrong]], key: Optional[Key] = None, most: Optional[int] = None
-) -> Tuple[Header, Rows]:
+def judged(path: str, headers: Mapping[Header, Sequence[Wrong]], key: Optional[Key] = None, most: Optional[int] = None) -> Tuple[Header, Rows]:
     """Returns which of its headers, each with the forms of its fields, a table has, and its records, at most so many, whose fields all have
     their form: each first field once, or each key; or raises Unread."""
     known: Set[Tuple[object, ...]] = set()

@@ -73,9 +73,7 @@ class Schedule:
                 raise _fault(folder, "legs.csv", f"{leg.flight} isn't a flight between two stations of stations.csv")
 
     @classmethod
-    def read(
-        cls, folder: str, day_start: str = "03:00", period: int = 1, windows: bool = False, optional: bool = False
-    ) -> Schedule:
+    def read(cls, folder: str, day_start: str = "03:00", period: int = 1, windows: bool = False, optional: bool = False) -> Schedule:
         """Returns the schedule of a folder, whose day starts at HH:MM in UTC and which repeats after so many days; with windows.csv and
         optional.csv where they are asked for. It raises Unread where a table doesn't read, and ValueError where a time has no such form."""
         asked = [it for it, is_asked in (("windows", windows), ("optional", optional)) if is_asked]

@@ -76,10 +76,7 @@ READING = ("day-start", "period", "windows", "optional")
 _ROUTING = (*READING, "through-max", "days", "least-night", "visits")
 # The options of calls that tell dates.
 _DATED = (*_ROUTING, "first-day")
-_DATES = {
-    "DATE": Word(Date(), "the first date", "2026-11-27"),
-    "COUNT": Word(Number(1, MOST_DATES), "the number of dates", "7"),
-}
+_DATES = {"DATE": Word(Date(), "the first date", "2026-11-27"), "COUNT": Word(Number(1, MOST_DATES), "the number of dates", "7")}
 COMMANDS = {
     "judge": Command(
         {}, "says of the plan in plan.csv whether it is legal, what it costs, and how many aircraft it uses", READING, ("plan.csv",)

@@ -13,9 +13,7 @@ LAST_DAY = datetime.date(2099, 12, 31).toordinal()
 ALL_DAYS = "1234567"
 WEEK = 7
 TIMES = {f"{it // 60:02}{it % 60:02}": it for it in range(DAY + 1)}
-VARIATIONS = {
-    f"{sign}{it // 60:02}{it % 60:02}": it if sign == "+" else -it for it in range(15 * 60) for sign in "+-"
-}
+VARIATIONS = {f"{sign}{it // 60:02}{it % 60:02}": it if sign == "+" else -it for it in range(15 * 60) for sign in "+-"}
 DATE_VARIATIONS = {" ": 0, "A": -1, **{str(it): it for it in range(8)}}
 
 known_days: Dict[str, Optional[int]] = {OPEN_END: OPEN}

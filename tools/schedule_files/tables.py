@@ -188,9 +188,7 @@ def encoded(name: str, records: Iterable[Iterable[object]]) -> str:
     return text_of(HEADERS[name], records)
 
 
-def make_tables(
-    schedule: Schedule, folder: str, dates: Dates, choice: Choice, sources: Sources, keeping: Keeping = Keeping()
-) -> List[str]:
+def make_tables(schedule: Schedule, folder: str, dates: Dates, choice: Choice, sources: Sources, keeping: Keeping = Keeping()) -> List[str]:
     """Writes the tables of some dates into a folder, and returns what is told of them. What the caller has changed there stays."""
     want_no_source(folder, MADE, keeping.reads)
     tables = Tables(schedule, dates, choice, sources)

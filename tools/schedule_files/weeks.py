@@ -101,9 +101,7 @@ class Season(NamedTuple):
 
 def season_of(schedules: Iterable[Schedule], scope: Scope) -> Optional[Season]:
     """Returns the season of some files, or None where they have no leg that is judged."""
-    spans = [
-        (max(it.start, it.carrier.start), min(it.end, it.carrier.end)) for own in schedules for it in own.legs if scope.fleet_of(it)
-    ]
+    spans = [(max(it.start, it.carrier.start), min(it.end, it.carrier.end)) for own in schedules for it in own.legs if scope.fleet_of(it)]
     spans = [(first, last) for first, last in spans if first <= last]
     if not spans:
         return None

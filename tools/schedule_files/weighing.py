@@ -66,9 +66,7 @@ class Weighing:
 
     def fleets_of(self, numbers: Sequence[int]) -> List[str]:
         """Returns the fleets whose flights differ in some weeks."""
-        return [
-            fleet for fleet in self.scope.fleets if any(self.filed[it].shapes.get(fleet) != self.written[it].shapes.get(fleet) for it in numbers)
-        ]
+        return [fleet for fleet in self.scope.fleets if any(self.filed[it].shapes.get(fleet) != self.written[it].shapes.get(fleet) for it in numbers)]
 
     def weigh_week(self, numbers: Sequence[int]) -> None:
         """Judges a week that stands for those that are equal."""
@@ -117,9 +115,7 @@ class Weighing:
             if number - 1 not in self.written.own or number not in self.written.own:
                 continue
             before, behind = self.written[number - 1], self.written[number]
-            fleets = [
-                it for it in self.fleets_of([number - 1, number]) if before.shapes.get(it) != behind.shapes.get(it)
-            ]
+            fleets = [it for it in self.fleets_of([number - 1, number]) if before.shapes.get(it) != behind.shapes.get(it)]
             key = before.key, behind.key
             if not fleets or key in known or not (before.flights and behind.flights):
                 continue

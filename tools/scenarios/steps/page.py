@@ -98,9 +98,7 @@ def bar_of(first: int, last: int, low: int, scale: float) -> Bar:
     """Returns a bar of a number from `first` to `last`, where so many pixels stand for one, from `low` on."""
     # What is known for certain is the part of the bar that each number there has.
     sure = 0 if first <= 0 <= last else first if first > 0 else last
-    return Bar(
-        (0 - low) * scale, (min(sure, 0) - low) * scale, abs(sure) * scale, (first - low) * scale, (last - first) * scale, first == last
-    )
+    return Bar((0 - low) * scale, (min(sure, 0) - low) * scale, abs(sure) * scale, (first - low) * scale, (last - first) * scale, first == last)
 
 
 def alike(rows: Sequence[Row]) -> List[List[Row]]:
