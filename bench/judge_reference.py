@@ -10,6 +10,8 @@ and stops with an error where flights under way and aircraft on the ground don't
 import csv
 import re
 import sys
+from itertools import accumulate
+from operator import sub
 from pathlib import Path
 from typing import Any, Dict, Iterable, List, Mapping, Optional, Tuple
 
@@ -180,11 +182,7 @@ class Movements:
 
     def least_stock(self, code: str) -> int:
         """Returns how many aircraft have to be at a station at first."""
-        stock = lowest = 0
-        for ready, out in zip(self.ready[code], self.out[code]):
-            stock += ready - out
-            lowest = min(lowest, stock)
-        return -lowest
+        return -min(accumulate(map(sub, self.ready[code], self.out[code]), initial=0))
 
     def stands(self, code: str, end: int) -> int:
         """How many aircraft are on the ground before the minute at which a day ends."""

@@ -6,7 +6,7 @@ it again, and a fleet uses no more aircraft than it has.
 """
 
 import itertools
-from typing import Callable, Dict, Iterable, Iterator, List, NamedTuple, Sequence, Tuple
+from typing import Callable, Dict, Iterable, Iterator, List, NamedTuple, Optional, Sequence, Tuple
 
 import schedules
 from shared import DAY_START, Place, rows
@@ -79,13 +79,8 @@ def pairs_of(fleets: Sequence[Tuple[int, int]], legs: Sequence[Leg], period: int
             yield Pair(leg, fleet, origin, departure, target, ready, laps, costs[fleet])
 
 
-def none_goes(*_: object) -> bool:
-    """No ground arc goes."""
-    return False
-
-
 def lines_of(
-    fleets: Sequence[Tuple[int, int]], legs: Sequence[Leg], stations: int, goes: Goes = none_goes, period: int = DAY
+    fleets: Sequence[Tuple[int, int]], legs: Sequence[Leg], stations: int, goes: Optional[Goes] = None, period: int = DAY
 ) -> Tuple[List[List[int]], List[int]]:
     """The lines, each with its right side last, and the costs; without the ground arcs that go. `period` is in minutes."""
     pairs = list(pairs_of(fleets, legs, period))
@@ -95,7 +90,7 @@ def lines_of(
         departures = [it.departure for it in pairs if (it.fleet, it.origin) == (fleet, station)]
         readies = [it.ready for it in pairs if (it.fleet, it.target) == (fleet, station)]
         nodes = starts[fleet, station] = nodes_of(departures, readies)
-        arcs += [(fleet, station, node) for node in range(len(nodes)) if not goes(nodes, node, departures, readies, station)]
+        arcs += [(fleet, station, node) for node in range(len(nodes)) if not (goes and goes(nodes, node, departures, readies, station))]
     columns = len(pairs) + len(arcs) + len(fleets)
 
     def line(right: int, entries: Iterable[Tuple[int, int]]) -> List[int]:

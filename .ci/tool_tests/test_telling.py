@@ -138,9 +138,8 @@ def test_any_tables(tables: Dict[str, str], number: int) -> None:
             for how in (WHOLE, BRIEF):
                 told = hint_for(str(status), said, "./fleetplan", ["solve", scratch]).told(how)
                 assert all(it.isprintable() for it in told[:-1].split("\n"))
-        heard = io.StringIO()
-        heard_bytes = io.TextIOWrapper(io.BytesIO(), encoding="utf-8")
-        with contextlib.redirect_stderr(heard_bytes), contextlib.suppress(Exception):
+        raw = io.BytesIO()
+        heard = io.TextIOWrapper(raw, encoding="utf-8")
+        with contextlib.redirect_stderr(heard), contextlib.suppress(Exception):
             settled("./fleetplan", ["solve", scratch])
-        heard.write(heard_bytes.buffer.getvalue().decode("utf-8"))  # type: ignore[attr-defined]
-        assert all(it.isprintable() for it in heard.getvalue().split("\n"))
+        assert all(it.isprintable() for it in raw.getvalue().decode("utf-8").split("\n"))

@@ -55,7 +55,10 @@ class Demands:
 
 def factor_of(leg: Leg, factors: Mapping[str, Fraction]) -> Fraction:
     """Returns the product of the factors of all names that stand for a leg."""
-    return math.prod((factors.get(key, Fraction(1)) for key in leg.keys), start=Fraction(1))
+    product = Fraction(1)
+    for key in leg.keys:
+        product *= factors.get(key, 1)
+    return product
 
 
 class Pricer:
