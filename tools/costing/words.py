@@ -1,7 +1,7 @@
 """The words of a call of tools/costs, and the files that it reads and writes."""
 
 import os
-from typing import Iterator, List, Mapping, Optional, Sequence, Set
+from typing import Iterator, Mapping, Optional, Sequence, Set
 
 from costing import telling
 from costing.choosing import Costs
@@ -15,35 +15,20 @@ from fleetplan.judged import judged
 from fleetplan.records import rows_of, table_of
 from fleetplan.tables import HEADERS, SHIFTED, TABLE
 from schedule_files.files import want_no_folder
+from schedule_files.words import Usage, given
 
 USAGE = "usage: tools/costs DIR [--skips FILE]"
 PLAN, WINDOWS = "plan.csv", "windows.csv"
-
-
-class Usage(Exception):
-    """Words that are no call."""
 
 
 class Words:
     """The words of a call: the folder, and the file of the legs that may be left out, or None."""
 
     def __init__(self, words: Sequence[str]) -> None:
-        self.skips: Optional[str] = None
-        rest: List[str] = []
-        left = iter(words)
-        for word in left:
-            name, has_value, value = word.partition("=")
-            if word == "--":
-                rest.extend(left)
-            elif name == "--skips" and self.skips is None:
-                self.skips = value if has_value else next(left, "")
-            elif word.startswith("-") and word != "-":
-                raise Usage
-            else:
-                rest.append(word)
-        if len(rest) != 1 or self.skips == "":
+        rest, found = given(words, {"skips": "FILE"})
+        if len(rest) != 1:
             raise Usage
-        self.folder = rest[0]
+        self.folder, self.skips = rest[0], found.get("skips")
 
 
 class Call:
