@@ -11,7 +11,6 @@ import csv
 import re
 import sys
 from itertools import accumulate
-from operator import sub
 from pathlib import Path
 from typing import Any, Dict, Iterable, List, Mapping, Optional, Tuple
 
@@ -182,7 +181,7 @@ class Movements:
 
     def least_stock(self, code: str) -> int:
         """Returns how many aircraft have to be at a station at first."""
-        return -min(accumulate(map(sub, self.ready[code], self.out[code]), initial=0))
+        return -min(accumulate((ready - out for ready, out in zip(self.ready[code], self.out[code])), initial=0))
 
     def stands(self, code: str, end: int) -> int:
         """How many aircraft are on the ground before the minute at which a day ends."""

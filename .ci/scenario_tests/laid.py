@@ -5,7 +5,7 @@ import csv
 import io
 import os
 from pathlib import Path
-from typing import Any, Dict, List, Mapping, Optional, Sequence, Tuple
+from typing import Any, Dict, List, Mapping, NamedTuple, Optional, Sequence, Tuple
 
 from scenario_tests.rows import CHECKED, SOLVED, TABLES
 from steps.listing import scenarios_of
@@ -18,21 +18,16 @@ PLAN = {"X1": "F1", "X2": "F1"}
 TOURS = ("tour of 2 legs in 1 days", "unused")
 
 
-class Ended:
+class Ended(NamedTuple):
     """How a scenario ended: the outcome, the cost and the bound (None: there is none), aircraft used by fleet, what became of rotations, the
     plan, and what else differs from an answer of `solve` that was checked."""
 
-    def __init__(
-        self,
-        outcome: str,
-        cost: Optional[int],
-        bound: Optional[int],
-        used: Sequence[int] = (1, 0),
-        rotations: Sequence[str] = TOURS,
-        plan: Mapping[str, str] = PLAN,
-    ) -> None:
-        self.outcome, self.cost, self.bound = outcome, cost, bound
-        self.used, self.rotations, self.plan = used, rotations, plan
+    outcome: str
+    cost: Optional[int]
+    bound: Optional[int]
+    used: Sequence[int] = (1, 0)
+    rotations: Sequence[str] = TOURS
+    plan: Mapping[str, str] = PLAN
 
     def solved(self) -> Dict[str, Any]:
         """Returns what `solve` answered."""

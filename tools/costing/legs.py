@@ -1,7 +1,7 @@
 """The legs that are priced, and which names of a file of figures stand for them."""
 
 import os
-from typing import Dict, List, Mapping, NamedTuple, Optional, Sequence, Tuple
+from typing import Container, Dict, List, Mapping, NamedTuple, Optional, Sequence, Tuple
 
 from fleetplan.errors import Unread
 from fleetplan.forms import name
@@ -50,7 +50,7 @@ def keys_of(flight: str, plain: Optional[str]) -> Tuple[str, ...]:
     return (flight, *([plain] if plain and plain != flight else []), EACH)
 
 
-def key_of(leg: Leg, found: Mapping[str, object]) -> Optional[str]:
+def key_of(leg: Leg, found: Container[str]) -> Optional[str]:
     """Returns the name that stands for a leg among those of a file, or None."""
     return next((it for it in leg.keys if it in found), None)
 

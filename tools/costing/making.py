@@ -4,7 +4,7 @@ from typing import Collection, Dict, List, Mapping, Tuple
 
 from costing.amounts import Writer, written
 from costing.choosing import Costs
-from costing.legs import Leg, key_of
+from costing.legs import key_of
 from costing.pricing import PARTS, Priced
 from costing.spilling import THOUSAND
 from fleetplan.records import text_of
@@ -39,13 +39,7 @@ def _record(pair: Priced, demand: Tuple[str, str], seats: str, writer: Writer) -
 
 def skipped(costs: Costs, flights: Collection[str]) -> Dict[str, int]:
     """Returns what it costs to leave each leg out that some names stand for."""
-    names: Mapping[str, str] = {it: it for it in flights}
-    return {it.flight: costs.pricer.skip(it) for it in costs.legs if is_named(it, names)}
-
-
-def is_named(leg: Leg, names: Mapping[str, object]) -> bool:
-    """Returns whether one of some names stands for a leg."""
-    return key_of(leg, names) is not None
+    return {it.flight: costs.pricer.skip(it) for it in costs.legs if key_of(it, flights) is not None}
 
 
 def skips_text(skips: Mapping[str, int]) -> str:
