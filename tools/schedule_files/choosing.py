@@ -1,5 +1,6 @@
 """Other times of legs, and legs that may be left out, as files of the caller's say."""
 
+from collections import Counter
 from typing import Dict, List, Sequence, Tuple
 
 from costing import legs
@@ -38,10 +39,8 @@ class Asked:
 
     def check_times(self, costs: Sequence[Cost]) -> None:
         """Refuses more pairs of a leg and a fleet, each as often as the leg has times, than tables may have."""
-        own: Dict[str, int] = {}
-        for flight, *_ in self.records:
-            own[flight] = own.get(flight, 1) + 1
-        count = sum(own.get(flight, 1) for flight, *_ in costs)
+        own = Counter(flight for flight, *_ in self.records)
+        count = sum(1 + own[flight] for flight, *_ in costs)
         if self.records and count > MOST_TRIPLES:
             ways = "ask for fewer legs, or give fewer times or fleets"
             raise Unread(f"{self.path}: {count:,} pairs of a leg and a fleet at their times, and tables have {MOST_TRIPLES:,} at most: {ways}")

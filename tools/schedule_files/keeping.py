@@ -3,6 +3,7 @@ they were made stand in the folder's made.csv."""
 
 import hashlib
 import os
+from pathlib import Path
 from typing import Dict, Iterable, Mapping, NamedTuple, Sequence
 
 from fleetplan.errors import FAULT, Unread
@@ -48,8 +49,7 @@ def want_as_made(folder: str, texts: Mapping[str, str], made: Mapping[str, str])
     for name, text in texts.items():
         path = os.path.join(folder, name)
         if name not in CHANGING and os.path.isfile(path):
-            with open(path, "rb") as it:
-                found = sum_of(it.read())
+            found = sum_of(Path(path).read_bytes())
             changed += [name] if found not in (made.get(name), sum_of(text.encode("utf-8"))) else []
     if changed:
         told = "isn't as tables made it: it stays" if len(changed) == 1 else "aren't as tables made them: they stay"
@@ -59,7 +59,5 @@ def want_as_made(folder: str, texts: Mapping[str, str], made: Mapping[str, str])
 def want_together(folder: str, name: str, made: Mapping[str, str]) -> None:
     """Raises Unread where a file isn't the one that was made with the others of a folder. A folder that tells no sums may have any."""
     path = os.path.join(folder, name)
-    if name in made and os.path.isfile(path):
-        with open(path, "rb") as it:
-            if sum_of(it.read()) != made[name]:
-                raise Unread.of(path, f"isn't of this {os.path.join(folder, 'legs.csv')}, it should be as tools/ssim tables made both")
+    if name in made and os.path.isfile(path) and sum_of(Path(path).read_bytes()) != made[name]:
+        raise Unread.of(path, f"isn't of this {os.path.join(folder, 'legs.csv')}, it should be as tools/ssim tables made both")

@@ -3,7 +3,7 @@
 from __future__ import annotations
 
 from collections import Counter
-from typing import AbstractSet, Dict, List, Mapping, NamedTuple, Optional, Sequence, Tuple
+from typing import AbstractSet, List, Mapping, NamedTuple, Optional, Sequence, Tuple
 
 from fleetplan.errors import Unread
 from fleetplan.tables import TABLE
@@ -113,12 +113,9 @@ def check_choice(schedule: Schedule, dates: Dates, choice: Choice) -> None:
         raise AN_AIRLINE.fault(schedule.path, other.number, schedule.lines[other.number - 1], should)
     if choice.airline is not None and choice.airline not in airlines:
         raise Unread.of(schedule.path, f"has no airline {choice.airline}: it has {', '.join(airlines)}")
-    counts: Dict[str, int] = {}
-    for leg in schedule.legs:
-        if choice.is_of(leg):
-            counts[leg.type] = counts.get(leg.type, 0) + 1
-    for kind in sorted({*(choice.types or ()), *choice.families} - set(counts)):
-        raise Unread.of(schedule.path, f"has no record of the aircraft type {kind}: it has {', '.join(sorted(counts)) or 'none'}")
+    known = {it.type for it in schedule.legs if choice.is_of(it)}
+    for kind in sorted({*(choice.types or ()), *choice.families} - known):
+        raise Unread.of(schedule.path, f"has no record of the aircraft type {kind}: it has {', '.join(sorted(known)) or 'none'}")
     check_dates(schedule, dates, choice)
 
 

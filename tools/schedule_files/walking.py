@@ -1,5 +1,6 @@
 """Where an aircraft is missing: the flights of a fleet walked through in their order, with as few aircraft as they need."""
 
+from collections import Counter
 from typing import Dict, List, NamedTuple, Optional, Sequence, Tuple
 
 from fleetplan.times import DAY, clock
@@ -42,17 +43,17 @@ def places(flights: Sequence[Flight], start: int, earlier: Sequence[Flight] = ()
     events: List[Tuple[int, int, Flight]] = [(it.ready, 0, it) for it in (*aloft, *flights)]
     events += [(it.departs, 1, it) for it in flights]
     events.sort(key=lambda it: it[:2])
-    stands: Dict[str, int] = {}
+    stands: Dict[str, int] = Counter()
     found: List[Place] = []
     waiting: Dict[str, List[int]] = {}
     for _, departs, it in events:
         if not departs:
             station = it.leg.destination
-            stands[station] = stands.get(station, 0) + 1
+            stands[station] += 1
             last[station] = it
             for at in waiting.pop(station, ()):
                 found[at] = found[at]._replace(behind=it)
-        elif stands.get(it.leg.origin):
+        elif stands[it.leg.origin]:
             stands[it.leg.origin] -= 1
         else:
             waiting.setdefault(it.leg.origin, []).append(len(found))
@@ -83,11 +84,7 @@ class Walk:
 
     def at_stations(self) -> Dict[str, int]:
         """Returns how many aircraft stand at each station at first."""
-        found: Dict[str, int] = {}
-        for it in self.places:
-            station = it.flight.leg.origin
-            found[station] = found.get(station, 0) + 1
-        return found
+        return Counter(it.flight.leg.origin for it in self.places)
 
 
 def repeated(week: Week, fleet: str, code: Optional[str] = None) -> Walk:
