@@ -134,11 +134,8 @@ def told(base_row: Mapping[str, str], run: Run, changed: Mapping[Tuple[str, str]
 
 def wrong_plans(run: Run) -> List[str]:
     """Returns the scenarios whose plan, by the reference, isn't legal at its cost."""
-    wrong = []
-    for row in run.summary():
-        if row["cost"] and not judged(run.place(row["scenario"], "solved")).startswith(f"legal: cost {row['cost']}\n"):
-            wrong.append(row["scenario"])
-    return wrong
+    planned = {it["scenario"]: f"legal: cost {it['cost']}\n" for it in run.summary() if it["cost"]}
+    return [name for name, legal in planned.items() if not judged(run.place(name, "solved")).startswith(legal)]
 
 
 def judged(folder: Path) -> str:

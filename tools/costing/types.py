@@ -53,10 +53,8 @@ class Type(NamedTuple):
     def curfew(self, leg: Leg, shift: int = 0) -> Optional[str]:
         """Returns which station is closed to the fleet when a leg departs or arrives, or None."""
         departure = leg.departure + shift
-        for it in self.closed:
-            if it.covers(leg.start, departure) or it.covers(leg.end, departure + leg.block):
-                return str(it)
-        return None
+        ends = (leg.start, departure), (leg.end, departure + leg.block)
+        return next((str(it) for it in self.closed if any(it.covers(*end) for end in ends)), None)
 
 
 def longest(text: str) -> Optional[str]:

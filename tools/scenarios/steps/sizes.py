@@ -29,10 +29,8 @@ def asked_of(program: str, solved: str, reading: Sequence[str], limits: Limits) 
     """Returns, fleet by fleet in their order, what the program says of each number of aircraft that it may have."""
     asked: List[List[object]] = []
     for fleet, aircraft in fleets_of(solved):
-        told = {}
-        for name, change in CHANGES.items():
-            if 0 <= aircraft + change <= MOST_AIRCRAFT:
-                told[name] = run(program, ["whatif", *reading, solved, fleet, str(aircraft + change)], limits).told
+        counts = {name: aircraft + change for name, change in CHANGES.items() if 0 <= aircraft + change <= MOST_AIRCRAFT}
+        told = {name: run(program, ["whatif", *reading, solved, fleet, str(it)], limits).told for name, it in counts.items()}
         asked.append([fleet, told])
     return asked
 
