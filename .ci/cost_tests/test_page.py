@@ -8,47 +8,15 @@ import resource
 import subprocess
 import sys
 import time
-from html.parser import HTMLParser
 from pathlib import Path
-from typing import Any, Dict, List, Optional, Tuple
+from typing import Any, Dict
 from unittest import mock
 
 import pytest
 
 from cost_tests.calling import TOP, call, costs, parts
 from cost_tests.days import COSTS, DAY, lay
-
-
-class Rows(HTMLParser):
-    """The rows of the table of all legs, each a list of cells, with those that are bold and those that have a title."""
-
-    def __init__(self, text: str) -> None:
-        super().__init__()
-        self.rows: List[List[str]] = []
-        self.bold: List[str] = []
-        self.titles: List[str] = []
-        self.is_in = self.is_bold = False
-        self.feed(text[text.index('<section id="legs">') :])
-
-    def handle_starttag(self, tag: str, attrs: List[Tuple[str, Optional[str]]]) -> None:
-        """Begins a row, a cell or a bold text."""
-        if tag == "tr":
-            self.rows.append([])
-        self.is_in = tag in ("td", "th", "b")
-        self.is_bold = tag == "b"
-        if tag in ("td", "th"):
-            self.rows[-1].append("")
-            self.titles += [value or "" for name, value in attrs if name == "title"]
-
-    def handle_endtag(self, tag: str) -> None:
-        """Ends it."""
-        self.is_in = self.is_bold = False
-
-    def handle_data(self, data: str) -> None:
-        """Adds to a cell."""
-        if self.is_in:
-            self.rows[-1][-1] += data
-            self.bold += [data] if self.is_bold else []
+from page_tables import Tables
 
 
 def page(folder: Path) -> str:
@@ -66,16 +34,16 @@ def data(text: str) -> Dict[str, Any]:
 def test_all_legs_stand_there(scratch: Path) -> None:
     """Each leg has its costs, the least one bold, and a dash with the reason where a fleet may not fly it."""
     call(lay(scratch, types=DAY["types.csv"].replace("1900,,", "1900,100,FRA/0745-0800")))
-    found = Rows(page(scratch))
-    assert found.rows == [
+    found = Tables(page(scratch))
+    assert found.rows["legs"] == [
         ["Flight", "From", "Dep", "To", "Arr", "Block", "Mean", "Spread", "A320", "E190"],
         ["FP1", "ZRH", "06:00", "LHR", "07:50", "110", "125", "37.5", "10,870", "–"],
         ["FP2", "LHR", "08:40", "ZRH", "10:20", "100", "110", "33", "9,554", "8,621"],
         ["FP3", "ZRH", "06:10", "FRA", "07:10", "60", "80", "28", "6,480", "4,915"],
         ["FP4", "FRA", "07:50", "ZRH", "08:50", "60", "85", "29.75", "6,680", "–"],
     ]
-    assert found.bold == ["10,870", "8,621", "4,915", "6,680"]
-    assert found.titles == ["block 110 min, longest 100", "FRA is closed from 07:45 to 08:00"]
+    assert found.bold["legs"] == ["10,870", "8,621", "4,915", "6,680"]
+    assert found.titles["legs"] == ["block 110 min, longest 100", "FRA is closed from 07:45 to 08:00"]
 
 
 def test_what_the_charts_are_drawn_of(scratch: Path) -> None:
@@ -98,7 +66,7 @@ def test_a_page_without_d3(scratch: Path) -> None:
         answer = call(scratch)
     assert (answer.status, answer.told[0]) == (0, "the page has no charts, since D3 isn't there: apt-get install python3-jinja2 node-d3")
     assert "<script" not in page(scratch) and 'id="one"' not in page(scratch)
-    assert len(Rows(page(scratch)).rows) == 5
+    assert len(Tables(page(scratch)).rows["legs"]) == 5
 
 
 def test_the_plan_stands_above(scratch: Path) -> None:

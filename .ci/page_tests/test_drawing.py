@@ -5,49 +5,24 @@ import re
 import shutil
 import subprocess
 import sys
-from html.parser import HTMLParser
 from pathlib import Path
-from typing import Dict, List, Optional, Set, Tuple
+from typing import Dict, List, Set
 from xml.etree import ElementTree
 
 import pytest
+from page_tables import Tables
 from page_tests.counting import rows, wanted_legs
 from page_tests.plans import KINDS, TOP, Desk, Drawn, draw, run
 
 
-class Reader(HTMLParser):
-    """Reads the tables of a page, by the section that they stand in."""
-
-    def __init__(self, page: Path) -> None:
-        super().__init__()
-        self.tables: Dict[str, List[List[str]]] = {}
-        self.section, self.cell = "", False
-        self.feed(page.read_text(encoding="utf-8"))
-
-    def handle_starttag(self, tag: str, attrs: List[Tuple[str, Optional[str]]]) -> None:
-        """Notes where a section, a row or a cell begins."""
-        if tag == "section":
-            self.section = dict(attrs).get("id") or self.section
-        if tag == "tr":
-            self.tables.setdefault(self.section, []).append([])
-        self.cell = tag in ("td", "th") or self.cell
-        if tag in ("td", "th"):
-            self.tables[self.section][-1].append("")
-
-    def handle_endtag(self, tag: str) -> None:
-        """Notes where a cell ends."""
-        if tag in ("td", "th"):
-            self.cell = False
-
-    def handle_data(self, data: str) -> None:
-        """Takes the text of a cell."""
-        if self.cell:
-            self.tables[self.section][-1][-1] += data
+def tables_in(page: Path) -> Dict[str, List[List[str]]]:
+    """Returns the tables of a page, by the section that they stand in."""
+    return Tables(page.read_text(encoding="utf-8")).rows
 
 
 def legs_by_aircraft(page: Path) -> Dict[str, List[str]]:
     """Returns the flights of each aircraft and day, as the table of flights has them."""
-    table = Reader(page).tables["flights"]
+    table = tables_in(page)["flights"]
     found: Dict[str, List[str]] = {}
     for row in table[1:]:
         it = dict(zip(table[0], row))
@@ -97,7 +72,7 @@ def test_figures(desk: Desk, name: str) -> None:
     drawn = desk.drawn(name)
     said = run([desk.program, "judge", str(drawn.folder), *drawn.reading])
     used = dict(re.findall(r"fleet (\w+): used (\d+ of \d+)", said))
-    table = Reader(drawn.page).tables["figures"]
+    table = tables_in(drawn.page)["figures"]
     found = {row[0]: dict(zip(table[0], row)) for row in table[1:]}
     plan = {flight: fleet for flight, fleet, *_ in rows(drawn.folder / "plan.csv")}
     for fleet in set(plan.values()) - {"-"}:
@@ -109,7 +84,7 @@ def test_figures(desk: Desk, name: str) -> None:
 
 def test_block_hours(desk: Desk) -> None:
     """Block hours a day and an aircraft, by hand: 2 x 95 and 2 x 75 minutes."""
-    table = Reader(desk.drawn("night-parking").page).tables["figures"]
+    table = tables_in(desk.drawn("night-parking").page)["figures"]
     legs = rows(desk.drawn("night-parking").folder / "legs.csv")
     minutes = sum((int(arr[:2]) - int(dep[:2])) * 60 + int(arr[3:]) - int(dep[3:]) for _, _, dep, _, arr in legs)
     assert table[-1][3] == f"{minutes / 60:.1f}"
@@ -118,7 +93,7 @@ def test_block_hours(desk: Desk) -> None:
 
 def test_worth(desk: Desk) -> None:
     """What an aircraft more or less is worth is what the README tells."""
-    table = Reader(desk.drawn("hub-day").page).tables["figures"]
+    table = tables_in(desk.drawn("hub-day").page)["figures"]
     assert {row[0]: row[9:11] for row in table[1:4]} == {"A320": ["0", "0"], "A220": ["410", "410"], "E190": ["850", "850"]}
 
 
@@ -132,7 +107,7 @@ def test_plan_alone(desk: Desk) -> None:
         assert section
         assert len(re.findall(r'<g class="row"', section[1])) == 2 * count
         assert "no rotation.csv" in section[1]
-    table = Reader(drawn.page).tables["flights"][1:]
+    table = tables_in(drawn.page)["flights"][1:]
     for one, other in zip(table, table[1:]):
         if one[0] == other[0] and int(legs[one[1]][2][:2]) >= 3 and int(legs[other[1]][2][:2]) >= 3:
             assert legs[one[1]][3] == legs[other[1]][1]
@@ -150,7 +125,7 @@ def test_against(desk: Desk, tmp_path: Path) -> None:
     marked = re.findall(r'<g class="leg [^"]*\bchanged\b[^"]*" data-flight="(\w+)"', page)
     assert sorted(marked) == sorted(changed) != []
     assert f"{len(changed)} of 50 legs differ: {len(changed)} in fleet, 0 in time." in page
-    table = Reader(folder / "plan.html").tables["changes"]
+    table = tables_in(folder / "plan.html")["changes"]
     assert [it[0] for it in table[1:-1]] == changed
     assert table[1:][0][3:5] == [plans[0][changed[0]], plans[1][changed[0]]]
     wanted = sum(costs[it, plans[1][it]] - costs[it, plans[0][it]] for it in changed)
@@ -165,7 +140,7 @@ def test_moved(desk: Desk) -> None:
     assert bars == ["FP2", "FP3"]
     assert re.findall(r'<text class="mark"[^>]*>([^<]*)</text>', page) == ["−5 min", "+5 min"]
     assert re.findall(r"(\w+) at its own time", page) == ["FP2", "FP3"]
-    notes = {row[1]: row[-1] for row in Reader(desk.drawn("re-timing").page).tables["flights"][1:]}
+    notes = {row[1]: row[-1] for row in tables_in(desk.drawn("re-timing").page)["flights"][1:]}
     assert notes["FP2"] == "5 minutes earlier than in legs.csv; through flight with FP3"
 
 
@@ -175,7 +150,7 @@ def test_optional(desk: Desk) -> None:
     assert re.findall(r'<g class="leg [^"]*\boptional\b[^"]*" data-flight="(\w+)"', page) == ["FF2"]
     out = page[page.index('data-fleet="-"') :]
     assert re.findall(r'<g class="leg out[^"]*" data-flight="(\w+)"', out) == ["FF1"]
-    table = Reader(desk.drawn("optional-flight").page).tables["figures"]
+    table = tables_in(desk.drawn("optional-flight").page)["figures"]
     left = next(row for row in table if row[0] == "Left out")
     assert (left[2], left[8]) == ("2", "18,500")
 
@@ -321,6 +296,6 @@ def test_legs_once(desk: Desk) -> None:
     """The table has each flight once on each date that it departs on."""
     for name in ("week", "season", "tails"):
         drawn: Drawn = desk.drawn(name)
-        table = Reader(drawn.page).tables["flights"]
+        table = tables_in(drawn.page)["flights"]
         flights = [row[table[0].index("Flight")] for row in table[1:]]
         assert sorted(flights) == sorted(flight for flight, _ in wanted_legs(drawn).elements())
