@@ -20,7 +20,7 @@ PAGE = TOP / "docs" / "rules.md"
 SOURCE = re.compile(r"(Numbers|Names|Words): .*")
 ROW = re.compile(r"\| `([^`]*)` \| (?:(each|`\w+\.csv`) \| )?([^|]*) \| ([^|]*) \|")
 # The crates that print, and of their definitions the files whose letters are keys and records of files.
-PRINTING = ("fleet_cli", "plan_report", "rotation_report", "due_report")
+PRINTING = ("fleet_cli", "folder_answers", "plan_report", "rotation_report", "due_report")
 OF_FILES = ("Json", "RotationRecords")
 LAW = re.compile(r"(kinds|statuses)_in_numbers")
 

@@ -6,6 +6,7 @@
 use bound_cert::{read_proof, write_proof};
 use cert_check::{Checked, check_with_cost};
 use dual_bound::Solved;
+use entries::Entries;
 use exact_ends::DualSimplex;
 use fleet_model::{Settings, TableOptions, Tables};
 use plan_judge::{Verdict, judge};
@@ -50,16 +51,15 @@ fn read(words: &Words, name: &str) -> Vec<u8> {
 }
 
 fn tables(words: &Words) -> Tables {
-    let names = ["stations", "fleets", "legs", "costs", "throughs", "windows", "optional"];
-    let files: Vec<Vec<u8>> = names.iter().map(|name| read(words, &format!("{name}.csv"))).collect();
-    let texts = sched_read::FileTexts {
-        stations: &files[0],
-        fleets: &files[1],
-        legs: &files[2],
-        costs: &files[3],
-        throughs: &files[4],
-        windows: &files[5],
-        optional: &files[6],
+    let table = |name: &str| Entries::from_vec(stand_in::Vec(read(words, &format!("{name}.csv"))));
+    let texts = sched_read::TableTexts {
+        stations: table("stations"),
+        fleets: table("fleets"),
+        legs: table("legs"),
+        costs: table("costs"),
+        throughs: table("throughs"),
+        windows: table("windows"),
+        optional: table("optional"),
     };
     let settings = Settings { day_start: words.day_start, through_max: 90, period: words.period, least_night: 0 };
     let options = TableOptions { settings, windows: words.windows, optional: words.optional };

@@ -5,16 +5,17 @@ use Rattle.command_words.specs.Words.{Asked}
 use Rattle.plan_desk.specs.Desk.{Files}
 use Rattle.plan_desk.specs.declared.file.DeskFile.{DeskFile}
 use Rattle.plan_desk.specs.declared.file.DeskFile.TheVariants as file
-use Rattle.fleet_cli.proofs.FileNames.{one_file}
-use Rattle.fleet_cli.proofs.FrontFacts.{front_in, held_in, stands_in}
+use Rattle.folder_answers.proofs.FileNames.{one_file}
+use Rattle.folder_answers.proofs.FrontFacts.{front_in, held_in, stands_in}
 use Rattle.fleet_cli.proofs.SameBytes.{follows_plan, same_answer, same_follows}
-use Rattle.fleet_cli.specs.Answer.{Answers, TellsProof}
-use Rattle.fleet_cli.specs.Contents.{FileBytes, bytes_in, same_file, with_plan}
-use Rattle.fleet_cli.specs.Gathered.{AllHeld, IsAmong, IsHeldWithin}
+use Rattle.fleet_cli.specs.Answer.{Answers}
+use Rattle.folder_answers.specs.Commands.{TellsProof}
+use Rattle.folder_answers.specs.Contents.{FileBytes, bytes_in, same_file, with_plan}
+use Rattle.folder_answers.specs.Gathered.{AllHeld, IsAmong, IsHeldWithin}
 use Rattle.fleet_cli.specs.Opened.{Awaits, AnswersAtOnce}
 use Rattle.fleet_cli.specs.Reading.{IsFileReached, first_files, folder_of}
-use Rattle.fleet_cli.specs.declared.answer.Answer.{Answer}
-use Rattle.fleet_cli.specs.declared.opened.Checking.{Checking}
+use Rattle.folder_answers.specs.declared.answer.Answer.{Answer}
+use Rattle.folder_answers.specs.declared.opened.Checking.{Checking}
 
 module _ (held : Files) (asked : Option Asked) (bytes : FileBytes) (first : AllHeld held (folder_of asked) (first_files asked) bytes) where
   abbrev there : FileBytes

@@ -16,18 +16,20 @@ use Rattle.plan_desk.specs.Desk.{Files}
 use Rattle.plan_desk.specs.Sink.{output_with}
 use Rattle.plan_desk.specs.declared.file.DeskFile.TheVariants as file
 use Rattle.sched_read.specs.Files.{FilesRead}
-use Rattle.fleet_cli.proofs.Skeletons.{either_legal, either_plan, either_proof, either_tables}
-use Rattle.fleet_cli.specs.Answer.{Answers, ChecksTree, TellsOn, TellsProof, TellsRead, TellsWith, checked_status}
-use Rattle.fleet_cli.specs.Contents.{bytes_in, table_bytes}
-use Rattle.fleet_cli.specs.Gathered.{AllStand, IsHeldWithin}
+use Rattle.folder_answers.proofs.Skeletons.{either_legal, either_plan, either_proof, either_tables}
+use Rattle.fleet_cli.specs.Answer.{Answers}
+use Rattle.folder_answers.specs.Commands.{ChecksTree, TellsOn, TellsProof, TellsRead, TellsWith, checked_status}
+use Rattle.folder_answers.specs.Contents.{bytes_in, table_bytes}
+use Rattle.folder_answers.specs.Gathered.{AllStand, IsHeldWithin}
 use Rattle.fleet_cli.specs.Headline.{IsUnderCost, TellsBound}
-use Rattle.fleet_cli.specs.Reading.{AllWithin, proof_files}
-use Rattle.fleet_cli.specs.Refusals.{says}
-use Rattle.fleet_cli.specs.Skeletons.{OnLegal, OnPlan, OnProof}
-use Rattle.fleet_cli.specs.Texts.{checked_text}
-use Rattle.fleet_cli.specs.declared.answer.Answer.{Answer}
-use Rattle.fleet_cli.specs.declared.opened.Question.TheVariants as question
-use Rattle.fleet_cli.specs.declared.status.TheConstants.{DONE}
+use Rattle.fleet_cli.specs.Reading.{AllWithin}
+use Rattle.folder_answers.specs.FileLists.{proof_files}
+use Rattle.folder_answers.specs.Refusals.{says}
+use Rattle.folder_answers.specs.Skeletons.{OnLegal, OnPlan, OnProof}
+use Rattle.folder_answers.specs.Texts.{checked_text}
+use Rattle.folder_answers.specs.declared.answer.Answer.{Answer}
+use Rattle.folder_answers.specs.declared.opened.Question.TheVariants as question
+use Rattle.folder_answers.specs.declared.status.TheConstants.{DONE}
 
 -- a bound that is proved is no more than the cost of a legal plan
 under_cost : (t : Tables) (plan : List ℕ) (bound : Option ℤ) → IsLegal t plan → BoundsAll t bound → IsUnderCost bound (total_cost t plan)

@@ -18,13 +18,14 @@ use Rattle.sched_read.proofs.FileReadLaws.{no_fault}
 use Rattle.sched_read.specs.Files.{AllBytes, FilesRead}
 use Rattle.fleet_cli.proofs.OneAnswer.{all_within}
 use Rattle.fleet_cli.proofs.OneReading.{within_or_long}
-use Rattle.fleet_cli.specs.Answer.{Answers, Checks}
-use Rattle.fleet_cli.specs.Contents.{bytes_in, table_bytes}
-use Rattle.fleet_cli.specs.Gathered.{AllStand}
-use Rattle.fleet_cli.specs.Reading.{proof_files}
+use Rattle.fleet_cli.specs.Answer.{Answers}
+use Rattle.folder_answers.specs.Commands.{Checks}
+use Rattle.folder_answers.specs.Contents.{bytes_in, table_bytes}
+use Rattle.folder_answers.specs.Gathered.{AllStand}
+use Rattle.folder_answers.specs.FileLists.{proof_files}
 use Rattle.fleet_cli.specs.Run.{IsCostThere, ProofThere}
 use Rattle.fleet_cli.specs.SolvedChecked.{CountAlike}
-use Rattle.fleet_cli.specs.declared.answer.Answer.{Answer}
+use Rattle.folder_answers.specs.declared.answer.Answer.{Answer}
 
 -- files read by settings that are within their limits
 read_within : (bytes : AllBytes) (options : TableOptions) (t : Tables) → FilesRead bytes options t → AreSettings options.settings

@@ -1,12 +1,12 @@
 -- What holds of the words of a call, where they are given.
 use Rattle.std.proofs.Common.{◌≡◌, ℕ, List, Option, Some, None, IfSome, inl, refl, sym, ◌∙◌, subst}
 use Rattle.command_words.specs.Words.{Asked, asked}
-use Rattle.fleet_cli.proofs.CallFacts.{no_calls}
+use Rattle.folder_answers.proofs.CallCounts.{no_calls}
 use Rattle.fleet_cli.proofs.Others.{nothing_written}
 use Rattle.fleet_cli.proofs.RunFacts.{fault_not_memory, usage_known}
 use Rattle.fleet_cli.specs.Ran.{Ran, Told}
 use Rattle.fleet_cli.specs.Reading.{folder_of, written_files}
-use Rattle.fleet_cli.specs.declared.status.TheConstants.{NO_MEMORY}
+use Rattle.folder_answers.specs.declared.status.TheConstants.{NO_MEMORY}
 
 -- what holds of the words in hand, holds of those that were given
 pub of_given : (P : List (List ℕ) → Type 0) (given : Option (List (List ℕ))) (words : List (List ℕ)) → IfSome given (λ all. words ≡ all) → P words → IfSome given P

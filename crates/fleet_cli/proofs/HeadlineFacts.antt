@@ -20,13 +20,13 @@ use Rattle.plan_text.specs.Text.{plan_text}
 use Rattle.plan_desk.specs.declared.file.DeskFile.TheVariants as desk_file
 use Rattle.fleet_cli.proofs.OneAnswer.{not_refused}
 use Rattle.fleet_cli.specs.Answer.{Answers, Solves}
-use Rattle.fleet_cli.specs.Contents.{bytes_in, table_bytes}
+use Rattle.folder_answers.specs.Contents.{bytes_in, table_bytes}
 use Rattle.fleet_cli.specs.Headline.{TellsSolution, is_planned, plan_there}
 use Rattle.fleet_cli.specs.Run.{IsSolution}
 use Rattle.dual_bound.specs.Solved.{tree_of}
-use Rattle.fleet_cli.specs.Solution.{solved_files}
-use Rattle.fleet_cli.specs.Written.{held_with_texts, with_texts}
-use Rattle.fleet_cli.specs.declared.answer.Answer.{Answer}
+use Rattle.folder_answers.specs.Solution.{solved_files}
+use Rattle.folder_answers.specs.Written.{held_with_texts, with_texts}
+use Rattle.folder_answers.specs.declared.answer.Answer.{Answer}
 use Rattle.dual_bound.specs.declared.solved.Solved.{Solved}
 use Rattle.dual_bound.specs.declared.solved.Solved.TheVariants as solved
 

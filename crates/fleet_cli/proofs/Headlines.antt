@@ -9,16 +9,17 @@ use Rattle.table_maker.proofs.TextLengths.{made_short}
 use Rattle.table_maker.specs.Made.{made_tables}
 use Rattle.fleet_cli.proofs.BoundFacts.{checked_tells}
 use Rattle.fleet_cli.proofs.HeadlineFacts.{solved_leaves}
-use Rattle.fleet_cli.proofs.MadeFolder.{TablesStand, all_stand, flyable, none_reached, solving_answers, still_stand, tables_are, written_over}
+use Rattle.folder_answers.proofs.MadeStand.{TablesStand, all_stand, still_stand, tables_are}
+use Rattle.fleet_cli.proofs.MadeFolder.{flyable, none_reached, solving_answers, written_over}
 use Rattle.fleet_cli.proofs.OtherFacts.{asked_tells}
 use Rattle.fleet_cli.specs.Answer.{Answers, Makes}
 use Rattle.fleet_cli.specs.Headline.{Headline, TellsMade}
-use Rattle.fleet_cli.specs.Making.{made_files}
+use Rattle.folder_answers.specs.Making.{made_files}
 use Rattle.fleet_cli.specs.Reading.{folder_of}
 use Rattle.fleet_cli.specs.Run.{IsFlyable, IsSolution}
-use Rattle.fleet_cli.specs.Solution.{solved_files}
-use Rattle.fleet_cli.specs.Written.{held_with_texts, with_texts}
-use Rattle.fleet_cli.specs.declared.answer.Answer.{Answer}
+use Rattle.folder_answers.specs.Solution.{solved_files}
+use Rattle.folder_answers.specs.Written.{held_with_texts, with_texts}
+use Rattle.folder_answers.specs.declared.answer.Answer.{Answer}
 
 -- a status of tables that have a plan tells of a solution
 is_solution : (code : ℕ) → IsFlyable code → IsSolution code

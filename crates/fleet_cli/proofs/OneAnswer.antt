@@ -27,24 +27,26 @@ use Rattle.due_report.specs.Placings.{are_unplaced}
 use Rattle.tail_dates.specs.declared.placing.Placed.{Placed}
 use Rattle.fleet_cli.proofs.MadeFolder.{flyable, none_reached, none_read}
 use Rattle.fleet_cli.proofs.OneReading.{one_too_long, within_or_long}
-use Rattle.fleet_cli.proofs.AskedTrees.{asked_of, one_told}
+use Rattle.fleet_cli.proofs.AskedTrees.{asked_of}
+use Rattle.folder_answers.proofs.AskedTrees.{one_told}
 use Rattle.fleet_cli.proofs.OpenFacts.{no_plan_alone}
 use Rattle.fleet_cli.proofs.SameBytes.{follows_plan}
-use Rattle.fleet_cli.proofs.Skeletons.{one_fleet, one_legal, one_plan, one_proof, one_tables, one_tails, there_fleet, there_legal, there_plan, there_proof, there_tables, there_tails}
-use Rattle.fleet_cli.specs.Answer.{Answers, AnswersOf, AnswersSome, Asks, AsksOn, Checks, ChecksTree, DueOf, DueOn, DueWith, GivesSolution, Judges, JudgesOn, JudgesPlan, Solves, TailsOf, TailsOn, TellsDue, TellsOn, TellsProof, TellsRead, TellsTails, TellsTree, TellsWith, checked_status, due_status}
-use Rattle.fleet_cli.specs.Contents.{FileBytes, bytes_in, table_bytes}
-use Rattle.fleet_cli.specs.Gathered.{AllStand, IsHeldWithin}
+use Rattle.folder_answers.proofs.Skeletons.{one_fleet, one_legal, one_plan, one_proof, one_tables, one_tails, there_fleet, there_legal, there_plan, there_proof, there_tables, there_tails}
+use Rattle.fleet_cli.specs.Answer.{Answers, AnswersOf, AnswersSome, GivesSolution, Solves}
+use Rattle.folder_answers.specs.Commands.{Asks, AsksOn, Checks, ChecksTree, DueOf, DueOn, DueWith, Judges, JudgesOn, JudgesPlan, TailsOf, TailsOn, TellsDue, TellsOn, TellsProof, TellsRead, TellsTails, TellsTree, TellsWith, checked_status, due_status}
+use Rattle.folder_answers.specs.Contents.{FileBytes, bytes_in, table_bytes}
+use Rattle.folder_answers.specs.Gathered.{AllStand, IsHeldWithin}
 use Rattle.fleet_cli.specs.Laws.{IsFixed}
 use Rattle.fleet_cli.specs.Reading.{AllWithin, IsReadAfter, WantsPlan, first_files, folder_of}
-use Rattle.fleet_cli.specs.Refusals.{says, verdict_status}
+use Rattle.folder_answers.specs.Refusals.{says, verdict_status}
 use Rattle.fleet_cli.specs.Run.{AnswersExactly, DueThere, FleetProofThere, IsAskedOf, IsComplete, IsCostThere, IsSolution, IsTold, LegalThere, ProofThere, TablesThere}
-use Rattle.fleet_cli.specs.Skeletons.{OnLegal}
-use Rattle.fleet_cli.specs.Solution.{solved_status}
-use Rattle.fleet_cli.specs.Texts.{bad_input_text, checked_text, verdict_text}
-use Rattle.fleet_cli.specs.declared.answer.Answer.{Answer}
-use Rattle.fleet_cli.specs.declared.opened.Question.{Question}
-use Rattle.fleet_cli.specs.declared.opened.Question.TheVariants as question
-use Rattle.fleet_cli.specs.declared.status.TheConstants.{BAD_INPUT, DONE, UNPLACED}
+use Rattle.folder_answers.specs.Skeletons.{OnLegal}
+use Rattle.folder_answers.specs.Solution.{solved_status}
+use Rattle.folder_answers.specs.Texts.{bad_input_text, checked_text, verdict_text}
+use Rattle.folder_answers.specs.declared.answer.Answer.{Answer}
+use Rattle.folder_answers.specs.declared.opened.Question.{Question}
+use Rattle.folder_answers.specs.declared.opened.Question.TheVariants as question
+use Rattle.folder_answers.specs.declared.status.TheConstants.{BAD_INPUT, DONE, UNPLACED}
 
 -- a solution has a status that tells of one
 pub solution_status : (s : Solved) → IsSolution (solved_status s)

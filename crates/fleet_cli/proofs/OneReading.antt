@@ -6,8 +6,8 @@ use Rattle.plan_desk.specs.Desk.{Files}
 use Rattle.plan_desk.specs.DeskFile.{path_of}
 use Rattle.plan_desk.specs.declared.file.DeskFile.{DeskFile}
 use Rattle.fleet_cli.proofs.SameBytes.{follows_plan}
-use Rattle.fleet_cli.specs.Contents.{bytes_in}
-use Rattle.fleet_cli.specs.Gathered.{ComesTo, FrontHeld, IsHeldWithin, limit_of}
+use Rattle.folder_answers.specs.Contents.{bytes_in}
+use Rattle.folder_answers.specs.Gathered.{ComesTo, FrontHeld, IsHeldWithin, limit_of}
 use Rattle.fleet_cli.specs.Reading.{AllWithin, IsFileReached, IsTooLong, first_files, folder_of}
 
 -- a file within its limit isn't too long

@@ -22,18 +22,19 @@ use Rattle.plan_desk.specs.Sink.{output_with}
 use Rattle.plan_desk.specs.declared.file.DeskFile.TheVariants as file
 use Rattle.sched_read.specs.Files.{FilesRead}
 use Rattle.fleet_cli.proofs.BoundFacts.{other}
-use Rattle.fleet_cli.proofs.Skeletons.{either_fleet, either_legal, either_plan, either_proof, either_tables}
-use Rattle.fleet_cli.specs.Answer.{Answers, AsksChecked, AsksOn, AsksTree, SaysOfOther, TellsOn, TellsProof, TellsRead, TellsWith, what_if_status}
-use Rattle.fleet_cli.specs.Contents.{bytes_in, table_bytes}
-use Rattle.fleet_cli.specs.Gathered.{AllStand}
+use Rattle.folder_answers.proofs.Skeletons.{either_fleet, either_legal, either_plan, either_proof, either_tables}
+use Rattle.fleet_cli.specs.Answer.{Answers}
+use Rattle.folder_answers.specs.Commands.{AsksChecked, AsksOn, AsksTree, SaysOfOther, TellsOn, TellsProof, TellsRead, TellsWith, what_if_status}
+use Rattle.folder_answers.specs.Contents.{bytes_in, table_bytes}
+use Rattle.folder_answers.specs.Gathered.{AllStand}
 use Rattle.fleet_cli.specs.Headline.{TellsOther}
-use Rattle.fleet_cli.specs.Reading.{proof_files}
-use Rattle.fleet_cli.specs.Refusals.{says}
-use Rattle.fleet_cli.specs.Skeletons.{OnLegal}
-use Rattle.fleet_cli.specs.Texts.{what_if_text}
-use Rattle.fleet_cli.specs.declared.answer.Answer.{Answer}
-use Rattle.fleet_cli.specs.declared.opened.Question.TheVariants as question
-use Rattle.fleet_cli.specs.declared.status.TheConstants.{DONE}
+use Rattle.folder_answers.specs.FileLists.{proof_files}
+use Rattle.folder_answers.specs.Refusals.{says}
+use Rattle.folder_answers.specs.Skeletons.{OnLegal}
+use Rattle.folder_answers.specs.Texts.{what_if_text}
+use Rattle.folder_answers.specs.declared.answer.Answer.{Answer}
+use Rattle.folder_answers.specs.declared.opened.Question.TheVariants as question
+use Rattle.folder_answers.specs.declared.status.TheConstants.{DONE}
 
 -- a bound of the tables in which a fleet has so many aircraft is told
 record IsToldOf (t : Tables) (fleet count : ℕ) (answer : Answer) : Type 0 where

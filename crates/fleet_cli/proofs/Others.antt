@@ -33,21 +33,23 @@ use Rattle.euler_rotation.specs.declared.fleet_rotation.FleetRotation.{FleetRota
 use Rattle.fleet_cli.proofs.OneAnswer.{solution_status}
 use Rattle.due_report.specs.Placings.{are_unplaced}
 use Rattle.tail_dates.specs.declared.tails.TailState.{TailState}
-use Rattle.fleet_cli.proofs.Skeletons.{either_fleet, either_legal, either_plan, either_proof, either_tables, either_tails}
-use Rattle.fleet_cli.specs.Answer.{Answers, AnswersOf, AnswersSome, AsksChecked, AsksOn, DueOn, DueWith, GivesSolution, JudgesOn, JudgesPlan, Makes, TailsOn, TellsDue, TellsOn, TellsProof, TellsRead, TellsTails, TellsTree, TellsWith, checked_status, due_status, what_if_status}
-use Rattle.fleet_cli.specs.Contents.{FileBytes, table_bytes}
-use Rattle.fleet_cli.specs.Making.{after_files, made_files}
-use Rattle.fleet_cli.specs.Reading.{five_tables, folder_of, solution_files, written_files}
-use Rattle.fleet_cli.specs.Refusals.{says, verdict_status}
+use Rattle.folder_answers.proofs.Skeletons.{either_fleet, either_legal, either_plan, either_proof, either_tables, either_tails}
+use Rattle.fleet_cli.specs.Answer.{Answers, AnswersOf, AnswersSome, GivesSolution, Makes}
+use Rattle.folder_answers.specs.Commands.{AsksChecked, AsksOn, DueOn, DueWith, JudgesOn, JudgesPlan, TailsOn, TellsDue, TellsOn, TellsProof, TellsRead, TellsTails, TellsTree, TellsWith, checked_status, due_status, what_if_status}
+use Rattle.folder_answers.specs.Contents.{FileBytes, table_bytes}
+use Rattle.folder_answers.specs.Making.{after_files, made_files}
+use Rattle.folder_answers.specs.FileLists.{five_tables}
+use Rattle.fleet_cli.specs.Reading.{folder_of, solution_files, written_files}
+use Rattle.folder_answers.specs.Refusals.{says, verdict_status}
 use Rattle.fleet_cli.specs.Run.{IsEnd, IsRefusalStatus, IsSolution, KeepsAllBut, KeepsOthers}
-use Rattle.fleet_cli.specs.Skeletons.{OnFleet, OnLegal, OnPlan, OnProof, OnTables, OnTails, TablesRead}
-use Rattle.fleet_cli.specs.Solution.{solved_answer, solved_files, solved_status}
-use Rattle.fleet_cli.specs.Written.{StandsAfter, no_text, text_name, under, with_texts}
-use Rattle.fleet_cli.specs.declared.answer.Answer.{Answer}
-use Rattle.fleet_cli.specs.declared.answer.FileText.{FileText}
-use Rattle.fleet_cli.specs.declared.status.TheConstants.{BAD_INPUT, DONE, FALLEN, FAULT, NO_MEMORY, REFUSED, UNPLACED, USAGE}
-use Rattle.fleet_cli.specs.declared.opened.Question.{Question}
-use Rattle.fleet_cli.specs.declared.opened.Question.TheVariants as question
+use Rattle.folder_answers.specs.Skeletons.{OnFleet, OnLegal, OnPlan, OnProof, OnTables, OnTails, TablesRead}
+use Rattle.folder_answers.specs.Solution.{solved_answer, solved_files, solved_status}
+use Rattle.folder_answers.specs.Written.{StandsAfter, no_text, text_name, under, with_texts}
+use Rattle.folder_answers.specs.declared.answer.Answer.{Answer}
+use Rattle.folder_answers.specs.declared.answer.FileText.{FileText}
+use Rattle.folder_answers.specs.declared.status.TheConstants.{BAD_INPUT, DONE, FALLEN, FAULT, NO_MEMORY, REFUSED, UNPLACED, USAGE}
+use Rattle.folder_answers.specs.declared.opened.Question.{Question}
+use Rattle.folder_answers.specs.declared.opened.Question.TheVariants as question
 
 -- ---- texts under other names
 

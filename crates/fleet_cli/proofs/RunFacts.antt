@@ -8,14 +8,14 @@ use Rattle.plan_desk.specs.declared.file.DeskFile.{DeskFile}
 use Rattle.plan_desk.specs.declared.file.TheConstants.{TABLE_LIMIT}
 use Rattle.fleet_cli.proofs.Others.{only_usage}
 use Rattle.fleet_cli.specs.Answer.{Answers, AnswersSome}
-use Rattle.fleet_cli.specs.Refusals.{says}
-use Rattle.fleet_cli.specs.Gathered.{ReadFails}
+use Rattle.folder_answers.specs.Refusals.{says}
+use Rattle.folder_answers.specs.Gathered.{ReadFails}
 use Rattle.fleet_cli.specs.Reading.{IsMissing, IsRead, folder_of}
 use Rattle.fleet_cli.specs.Run.{AnswersInFull, BlamesMissing, CountsOneFault, SomeInFull}
-use Rattle.fleet_cli.specs.Texts.{usage_text}
-use Rattle.fleet_cli.specs.Written.{HaveLengths, StandsAfter, WriteFails, WritesFirst, held_with_texts}
-use Rattle.fleet_cli.specs.declared.answer.Answer.{Answer}
-use Rattle.fleet_cli.specs.declared.status.TheConstants.{FAULT, NO_MEMORY, USAGE}
+use Rattle.folder_answers.specs.Texts.{usage_text}
+use Rattle.folder_answers.specs.Written.{HaveLengths, StandsAfter, WriteFails, WritesFirst, held_with_texts}
+use Rattle.folder_answers.specs.declared.answer.Answer.{Answer}
+use Rattle.folder_answers.specs.declared.status.TheConstants.{FAULT, NO_MEMORY, USAGE}
 
 -- ---- the statuses differ
 

@@ -11,17 +11,19 @@ use Rattle.plan_desk.specs.declared.file.DeskFile.TheVariants as file
 use Rattle.bound_cert.specs.ReadProof.{ReadsAs}
 use Rattle.sched_read.proofs.Unasked.{AreAlike, bad_alike, read_alike}
 use Rattle.sched_read.specs.Files.{AllBytes, FilesRead}
-use Rattle.fleet_cli.proofs.Members.{among_left, among_right}
-use Rattle.fleet_cli.proofs.Skeletons.{map_fleet, map_proof, map_tables}
-use Rattle.fleet_cli.specs.Answer.{AnswersOf, Asks, AsksOn, Checks, DueOf, DueOn, GivesSolution, Judges, JudgesOn, TailsOf, TailsOn, TellsOn, TellsProof, TellsRead}
-use Rattle.fleet_cli.specs.Contents.{FileBytes, table_bytes}
-use Rattle.fleet_cli.specs.Gathered.{IsAmong}
-use Rattle.fleet_cli.specs.Reading.{IsReadAfter, WantsPlan, WantsPlanOf, first_files, five_tables, tables_and, tables_of, where_asked}
-use Rattle.fleet_cli.specs.Refusals.{fleet_named}
-use Rattle.fleet_cli.specs.Skeletons.{OnTables}
-use Rattle.fleet_cli.specs.declared.answer.Answer.{Answer}
-use Rattle.fleet_cli.specs.declared.opened.Question.{Question}
-use Rattle.fleet_cli.specs.declared.opened.Question.TheVariants as question
+use Rattle.folder_answers.proofs.Members.{among_left, among_right}
+use Rattle.folder_answers.proofs.Skeletons.{map_fleet, map_proof, map_tables}
+use Rattle.fleet_cli.specs.Answer.{AnswersOf, GivesSolution}
+use Rattle.folder_answers.specs.Commands.{Asks, AsksOn, Checks, DueOf, DueOn, Judges, JudgesOn, TailsOf, TailsOn, TellsOn, TellsProof, TellsRead}
+use Rattle.folder_answers.specs.Contents.{FileBytes, table_bytes}
+use Rattle.folder_answers.specs.Gathered.{IsAmong}
+use Rattle.fleet_cli.specs.Reading.{IsReadAfter, WantsPlan, WantsPlanOf, first_files}
+use Rattle.folder_answers.specs.FileLists.{five_tables, tables_and, tables_of, where_asked}
+use Rattle.folder_answers.specs.Refusals.{fleet_named}
+use Rattle.folder_answers.specs.Skeletons.{OnTables}
+use Rattle.folder_answers.specs.declared.answer.Answer.{Answer}
+use Rattle.folder_answers.specs.declared.opened.Question.{Question}
+use Rattle.folder_answers.specs.declared.opened.Question.TheVariants as question
 
 -- a table that is asked for is among the tables
 in_asked : (asked : Bool) (f : DeskFile) → asked ≡ true → IsAmong (where_asked asked f) f

@@ -25,23 +25,23 @@ use Rattle.csv_fields.specs.Record.{records_of}
 use Rattle.sched_read.specs.Files.{FilesRead}
 use Rattle.bound_cert.specs.ReadProof.{ReadsAs}
 use Rattle.fleet_cli.proofs.CheckedByDay.{proof_by_day}
-use Rattle.fleet_cli.proofs.FrontFacts.{held_in, stands_in}
+use Rattle.folder_answers.proofs.FrontFacts.{held_in, stands_in}
 use Rattle.fleet_cli.proofs.HeadlineFacts.{plan_stands, proof_stands}
 use Rattle.fleet_cli.proofs.OneAnswer.{complete_there, not_refused}
 use Rattle.fleet_cli.proofs.Others.{solved_others, texts_keep}
-use Rattle.fleet_cli.proofs.PlanLength.{plan_within}
+use Rattle.folder_answers.proofs.PlanLength.{plan_within}
 use Rattle.plan_search.proofs.Proven.{is_proven}
 use Rattle.fleet_cli.proofs.SolvedHolds.{solved_holds}
 use Rattle.fleet_cli.specs.Answer.{Answers, Solves}
-use Rattle.fleet_cli.specs.Contents.{bytes_in, table_bytes}
-use Rattle.fleet_cli.specs.Gathered.{AllStand, IsHeldWithin, limit_of}
+use Rattle.folder_answers.specs.Contents.{bytes_in, table_bytes}
+use Rattle.folder_answers.specs.Gathered.{AllStand, IsHeldWithin, limit_of}
 use Rattle.fleet_cli.specs.Headline.{is_planned}
-use Rattle.fleet_cli.specs.Reading.{five_tables, proof_files, tables_of, where_asked}
+use Rattle.folder_answers.specs.FileLists.{five_tables, proof_files, tables_of, where_asked}
 use Rattle.fleet_cli.specs.Run.{IsCostThere, IsSolution, ProofThere}
 use Rattle.fleet_cli.specs.SolvedChecked.{CountAlike, ReadsAndHolds, SolvedIsChecked}
-use Rattle.fleet_cli.specs.Solution.{solved_files}
-use Rattle.fleet_cli.specs.Written.{HaveLengths, no_text, with_texts}
-use Rattle.fleet_cli.specs.declared.answer.Answer.{Answer}
+use Rattle.folder_answers.specs.Solution.{solved_files}
+use Rattle.folder_answers.specs.Written.{HaveLengths, no_text, with_texts}
+use Rattle.folder_answers.specs.declared.answer.Answer.{Answer}
 
 -- ---- the tables stand as they did
 

@@ -2,11 +2,11 @@
 use Rattle.std.specs.Prelude.{◌≡◌, ℕ, List, Option, IfSome}
 use Rattle.command_words.specs.Words.{Asked}
 use Rattle.plan_desk.specs.Desk.{Files}
-use Rattle.fleet_cli.specs.Contents.{FileBytes}
-use Rattle.fleet_cli.specs.Gathered.{AllHeld}
+use Rattle.folder_answers.specs.Contents.{FileBytes}
+use Rattle.folder_answers.specs.Gathered.{AllHeld}
 use Rattle.fleet_cli.specs.Opened.{Awaits}
 use Rattle.fleet_cli.specs.Reading.{first_files, folder_of}
-use Rattle.fleet_cli.specs.declared.opened.Checking.{Checking}
+use Rattle.folder_answers.specs.declared.opened.Checking.{Checking}
 
 -- the first files of what is asked hold these bytes in this folder, and ask for the plan
 pub record AwaitsThere (told : Option Files) (dir : List ℕ) (asked : Option Asked) (bytes : FileBytes) (checking : Checking) : Type 0 where

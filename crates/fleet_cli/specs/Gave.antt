@@ -4,10 +4,10 @@ use Rattle.plan_desk.specs.Counts.{CallsAtMost, counted, once_more}
 use Rattle.plan_desk.specs.Sink.{AppendsPrefix, handed_with, output_with}
 use Rattle.fleet_cli.specs.Ran.{Told}
 use Rattle.fleet_cli.specs.Run.{CountsOneFault, IsAnswered, PutsFault}
-use Rattle.fleet_cli.specs.Written.{HaveLengths, StandsAfter, WriteFails, WritesFirst, held_with_texts}
-use Rattle.fleet_cli.specs.declared.answer.Answer.{Answer}
-use Rattle.fleet_cli.specs.declared.status.Status.{Status}
-use Rattle.fleet_cli.specs.declared.status.TheConstants.{FAULT, NO_MEMORY}
+use Rattle.folder_answers.specs.Written.{HaveLengths, StandsAfter, WriteFails, WritesFirst, held_with_texts}
+use Rattle.folder_answers.specs.declared.answer.Answer.{Answer}
+use Rattle.folder_answers.specs.declared.status.Status.{Status}
+use Rattle.folder_answers.specs.declared.status.TheConstants.{FAULT, NO_MEMORY}
 
 -- The clauses of giving an answer in one: of a run that ended with a status, over a desk and a sink that may be steady, its
 -- files go into a folder.

@@ -23,19 +23,19 @@ use Rattle.plan_text.specs.Text.{plan_text}
 use Rattle.sched_read.specs.Files.{FilesRead}
 use Rattle.table_maker.specs.Laws.{made_bytes}
 use Rattle.table_maker.specs.Made.{made_tables}
-use Rattle.fleet_cli.specs.Contents.{bytes_in, five_bytes, table_bytes}
-use Rattle.fleet_cli.specs.Gathered.{AllStand}
-use Rattle.fleet_cli.specs.Making.{made_files}
-use Rattle.fleet_cli.specs.Reading.{five_tables, proof_files, tables_of}
-use Rattle.fleet_cli.specs.Refusals.{fleet_named}
+use Rattle.folder_answers.specs.Contents.{bytes_in, five_bytes, table_bytes}
+use Rattle.folder_answers.specs.Gathered.{AllStand}
+use Rattle.folder_answers.specs.Making.{made_files}
+use Rattle.folder_answers.specs.FileLists.{five_tables, proof_files, tables_of}
+use Rattle.folder_answers.specs.Refusals.{fleet_named}
 use Rattle.fleet_cli.specs.Run.{IsSolution, PlanThere}
 use Rattle.dual_bound.specs.Solved.{tree_of}
-use Rattle.fleet_cli.specs.Solution.{AreRotationsOf, printed_text, solved_status}
-use Rattle.fleet_cli.specs.Texts.{checked_text, what_if_text}
-use Rattle.fleet_cli.specs.Written.{with_texts}
+use Rattle.folder_answers.specs.Solution.{AreRotationsOf, printed_text, solved_status}
+use Rattle.folder_answers.specs.Texts.{checked_text, what_if_text}
+use Rattle.folder_answers.specs.Written.{with_texts}
 use Rattle.dual_bound.specs.declared.solved.Solved.{Solved}
 use Rattle.dual_bound.specs.declared.solved.Solved.TheVariants as solved
-use Rattle.fleet_cli.specs.declared.status.TheConstants.{DONE}
+use Rattle.folder_answers.specs.declared.status.TheConstants.{DONE}
 
 -- there is a plan
 abbrev pub is_planned : Solved → Bool

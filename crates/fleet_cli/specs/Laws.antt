@@ -3,8 +3,8 @@ use Rattle.std.specs.Prelude.{◌≡◌, ◌≢◌, Option, Some, None, ⊤}
 use Rattle.plan_desk.specs.Desk.{Files}
 use Rattle.fleet_cli.specs.Answer.{Answers}
 use Rattle.command_words.specs.Words.{Asked, check, due, judge, make, solve, tails, whatif}
-use Rattle.fleet_cli.specs.declared.answer.Answer.{Answer}
-use Rattle.fleet_cli.specs.declared.status.TheConstants.{BAD_INPUT, DONE, UNPLACED}
+use Rattle.folder_answers.specs.declared.answer.Answer.{Answer}
+use Rattle.folder_answers.specs.declared.status.TheConstants.{BAD_INPUT, DONE, UNPLACED}
 
 -- an answer that what is held and what is asked leave no choice of
 abbrev pub IsFixed : Option Asked → Answer → Type 0

@@ -4,9 +4,9 @@ use Rattle.command_words.specs.Words.{make, solve}
 use Rattle.command_words.specs.declared.command.TheConstants.{DEFAULT_OPTIONS, DEFAULT_READING}
 use Rattle.plan_desk.specs.Desk.{Files}
 use Rattle.table_maker.specs.Made.{made_tables}
-use Rattle.fleet_cli.specs.Making.{made_files}
+use Rattle.folder_answers.specs.Making.{made_files}
 use Rattle.fleet_cli.specs.Run.{AnswersInFull}
-use Rattle.fleet_cli.specs.Written.{with_texts}
+use Rattle.folder_answers.specs.Written.{with_texts}
 
 -- a run that makes tables is a run that solves them by the defaults, where they stand in the folder before
 abbrev pub MadeIsSolved : Type 0

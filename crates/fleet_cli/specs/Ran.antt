@@ -9,8 +9,8 @@ use Rattle.plan_desk.specs.declared.file.TheConstants.{TABLE_LIMIT}
 use Rattle.fleet_cli.specs.Headline.{Headline}
 use Rattle.fleet_cli.specs.Reading.{NamesStand, most_calls}
 use Rattle.fleet_cli.specs.Run.{AnswersExactly, AnswersInFull, BlamesMissing, CountsOneFault, FailsAt, IsAnswered, IsComplete, IsRefusalStatus, KeepsOthers, LeavesFiles, PutsFault, PutsPart, SomeInFull}
-use Rattle.fleet_cli.specs.Texts.{usage_text}
-use Rattle.fleet_cli.specs.declared.status.TheConstants.{FAULT, NO_MEMORY, USAGE}
+use Rattle.folder_answers.specs.Texts.{usage_text}
+use Rattle.folder_answers.specs.declared.status.TheConstants.{FAULT, NO_MEMORY, USAGE}
 
 -- what desk and sink tell at one time
 pub record Told : Type 0 where

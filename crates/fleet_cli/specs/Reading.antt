@@ -10,37 +10,10 @@ use Rattle.plan_desk.specs.DeskFile.{path_of}
 use Rattle.plan_desk.specs.declared.file.DeskFile.{DeskFile}
 use Rattle.plan_desk.specs.declared.file.DeskFile.TheVariants as file
 use Rattle.sched_read.specs.Files.{AllBytes, FilesRead}
-use Rattle.fleet_cli.specs.Contents.{FileBytes, bytes_in, table_bytes}
-use Rattle.fleet_cli.specs.Gathered.{AllStand, ComesTo, IsAmong, IsFirstMissing, IsFirstTooLong, IsHeldWithin}
-use Rattle.fleet_cli.specs.Refusals.{fleet_named}
-
--- the five tables, in the order in which they are read
-abbrev pub five_tables : List DeskFile
-five_tables = file.Stations ∷ file.Fleets ∷ file.Legs ∷ file.Costs ∷ file.Throughs ∷ []
-
--- a table that is read where it is asked for
-abbrev pub where_asked : Bool → DeskFile → List DeskFile
-where_asked true f = f ∷ []
-where_asked false f = []
-
--- the tables that are read by these options, in their order
-abbrev pub tables_of : TableOptions → List DeskFile
-tables_of reading = five_tables ++ where_asked reading.windows file.Windows ++ where_asked reading.optional file.Optional
-
--- and files that are read after them
-abbrev pub tables_and : TableOptions → List DeskFile → List DeskFile
-tables_and reading more = tables_of reading ++ more
-
--- the files that judging (and telling tails), telling named tails, and checking (and asking about another size) read first,
--- in their order
-abbrev pub judge_files : TableOptions → List DeskFile
-judge_files reading = tables_and reading (file.Plan ∷ [])
-
-abbrev pub due_files : TableOptions → List DeskFile
-due_files reading = tables_and reading (file.Tails ∷ file.Plan ∷ [])
-
-abbrev pub proof_files : TableOptions → List DeskFile
-proof_files reading = tables_and reading (file.Proof ∷ [])
+use Rattle.folder_answers.specs.Contents.{FileBytes, bytes_in, table_bytes}
+use Rattle.folder_answers.specs.FileLists.{due_files, five_tables, judge_files, proof_files, tables_of}
+use Rattle.folder_answers.specs.Gathered.{AllStand, ComesTo, IsAmong, IsFirstMissing, IsFirstTooLong, IsHeldWithin}
+use Rattle.folder_answers.specs.Refusals.{fleet_named}
 
 -- the folder that words ask about
 abbrev pub folder_of : Option Asked → List ℕ

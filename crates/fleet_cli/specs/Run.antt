@@ -18,16 +18,17 @@ use Rattle.sched_read.specs.Files.{FilesRead}
 use Rattle.tail_dates.specs.TailTable.{TailsRead}
 use Rattle.tail_dates.specs.declared.tails.TailState.{TailState}
 use Rattle.fleet_cli.specs.Answer.{Answers, AnswersSome}
-use Rattle.fleet_cli.specs.Contents.{bytes_in, table_bytes}
-use Rattle.fleet_cli.specs.Gathered.{AllStand, IsHeldWithin, ReadFails}
+use Rattle.folder_answers.specs.Contents.{bytes_in, table_bytes}
+use Rattle.folder_answers.specs.Gathered.{AllStand, IsHeldWithin, ReadFails}
 use Rattle.fleet_cli.specs.Laws.{IsFixed}
-use Rattle.fleet_cli.specs.Reading.{IsMissing, IsRead, due_files, folder_of, judge_files, proof_files, tables_of, written_files}
-use Rattle.fleet_cli.specs.Refusals.{fleet_named}
-use Rattle.fleet_cli.specs.Texts.{fault_text}
+use Rattle.fleet_cli.specs.Reading.{IsMissing, IsRead, folder_of, written_files}
+use Rattle.folder_answers.specs.FileLists.{due_files, judge_files, proof_files, tables_of}
+use Rattle.folder_answers.specs.Refusals.{fleet_named}
+use Rattle.folder_answers.specs.Texts.{fault_text}
 use Rattle.command_words.specs.Words.{Asked, check, due, judge, make, solve, tails, whatif}
-use Rattle.fleet_cli.specs.Written.{HaveLengths, WriteFails, WritesFirst, held_with_texts, under}
-use Rattle.fleet_cli.specs.declared.answer.Answer.{Answer}
-use Rattle.fleet_cli.specs.declared.status.TheConstants.{BAD_INPUT, DONE, FALLEN, FAULT, GAP, INFEASIBLE, NO_MEMORY, REFUSED, UNPLACED, UNSETTLED, USAGE}
+use Rattle.folder_answers.specs.Written.{HaveLengths, WriteFails, WritesFirst, held_with_texts, under}
+use Rattle.folder_answers.specs.declared.answer.Answer.{Answer}
+use Rattle.folder_answers.specs.declared.status.TheConstants.{BAD_INPUT, DONE, FALLEN, FAULT, GAP, INFEASIBLE, NO_MEMORY, REFUSED, UNPLACED, UNSETTLED, USAGE}
 
 -- a fact of every status but a fault and want of memory
 abbrev pub IsAnswered : ℕ → Type 0 → Type 0

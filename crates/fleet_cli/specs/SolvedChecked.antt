@@ -14,9 +14,9 @@ use Rattle.fleet_cli.specs.Headline.{is_planned}
 use Rattle.fleet_cli.specs.Run.{AnswersInFull, IsSolution}
 use Rattle.dual_bound.specs.Solved.{plan_cost, tree_of}
 use Rattle.plan_report.specs.Summary.{printed_bound}
-use Rattle.fleet_cli.specs.declared.answer.Answer.{Answer}
+use Rattle.folder_answers.specs.declared.answer.Answer.{Answer}
 use Rattle.dual_bound.specs.declared.solved.Solved.{Solved}
-use Rattle.fleet_cli.specs.declared.status.TheConstants.{DONE}
+use Rattle.folder_answers.specs.declared.status.TheConstants.{DONE}
 
 -- The text of a solution's proof reads; it says whether a plan comes with it as the solution has one, and its tree holds
 -- by that plan's cost and with the solution's bound.

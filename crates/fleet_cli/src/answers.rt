@@ -2,28 +2,26 @@
 ghost use Rattle.std.specs.Prelude.{◌≡◌, ◌+◌, Option, Some, IfOk, IfSome, map, string_bytes, ⊤};
 ghost use Rattle.command_words.specs.Words.{Asked, HasDates, HasLimits, HasSettings, asked, asked_by};
 ghost use Rattle.fleet_cli.specs.Answer.{Answers, AnswersSome};
-ghost use Rattle.fleet_cli.specs.Refusals.{says};
+ghost use Rattle.folder_answers.specs.Refusals.{says};
 ghost use Rattle.fleet_cli.specs.Awaited.{AwaitsThere};
-ghost use Rattle.fleet_cli.specs.Contents.{FileBytes};
-ghost use Rattle.fleet_cli.specs.Failed.{MatchFailure, StopsAs};
-ghost use Rattle.fleet_cli.specs.Gathered.{ReadFails};
-ghost use Rattle.fleet_cli.specs.Opened.{Awaits, IsReady};
+ghost use Rattle.folder_answers.specs.Contents.{FileBytes};
+ghost use Rattle.folder_answers.specs.Failed.{MatchFailure, StopsAs};
+ghost use Rattle.folder_answers.specs.Gathered.{ReadFails};
+ghost use Rattle.fleet_cli.specs.Opened.{Awaits};
+ghost use Rattle.folder_answers.specs.Opened.{IsReady};
 ghost use Rattle.fleet_cli.specs.Reading.{IsMissing, IsRead, folder_of, most_reads};
-ghost use Rattle.fleet_cli.specs.Texts.{usage_text};
-ghost use Rattle.fleet_cli.specs.declared.status.TheConstants.{USAGE};
+ghost use Rattle.folder_answers.specs.Texts.{usage_text};
+ghost use Rattle.folder_answers.specs.declared.status.TheConstants.{USAGE};
 ghost use Rattle.plan_desk.specs.Counts.{CallsAtMost, RoseBy, counted, once_more};
 ghost use Rattle.plan_desk.specs.declared.file.TheConstants.{TABLE_LIMIT};
 
-use crate::answer::{Answer, Failure};
-use crate::checking::tell_with_plan;
-use crate::commands::{first_files, folder, open};
-use crate::gathering::{Stop, read_file, read_files};
-use crate::opened::{Checking, Opened};
-use crate::refusing::too_long;
-use crate::status::USAGE;
-use crate::texts::USAGE_LINE;
+use crate::commands::{answer_on, first_files, folder};
 use command_words::{Command, command_of};
 use entries::NoMemory;
+use folder_answers::{
+    Answer, Checking, Failure, Opened, Stop, USAGE, USAGE_LINE, or_refused, read_file, read_files,
+    tell_with_plan, too_long,
+};
 use plan_desk::{Desk, DeskFile};
 use std::alloc::Global;
 
@@ -35,7 +33,7 @@ pub struct Reply<'a> {
 }
 
 /// The answer to words, the first of them the program's name. It writes nothing yet.
-#[tactic(auto, using(crate::proofs::CallFacts::no_calls))]
+#[tactic(auto, using(folder_answers::proofs::CallCounts::no_calls))]
 pub fn reply_to<'a, D: Desk>(
     alloc: Global,
     words: &'a [String],
@@ -81,12 +79,13 @@ fn answer_to<D: Desk>(alloc: Global, command: &Command<'_>, desk: &mut D) -> Res
 {
     let dir = folder(command);
     let files = first_files(command);
-    match read_files(alloc, desk, dir, files.as_slice()) {
-        Ok(contents) => match open(alloc, command, contents)? {
-            Opened::Answered(answer) => Ok(answer),
-            Opened::WantsPlan(checking) => answer_with_plan(alloc, &checking, desk, dir),
-        },
-        Err(stop) => stopped(alloc, stop),
+    let opened = match read_files(alloc, desk, dir, files.as_slice()) {
+        Ok(contents) => answer_on(alloc, command, &contents),
+        Err(stop) => return stopped(alloc, stop),
+    };
+    match or_refused(opened)? {
+        Opened::Answered(answer) => Ok(answer),
+        Opened::WantsPlan(checking) => answer_with_plan(alloc, &checking, desk, dir),
     }
 }
 

@@ -6,11 +6,11 @@ ghost use Rattle.command_words.specs.Words.{asked};
 ghost use Rattle.fleet_cli.specs.Program.{given_words, is_no_text, words_in};
 ghost use Rattle.fleet_cli.specs.Ran.{Ran, telling};
 ghost use Rattle.fleet_cli.specs.Run.{CountsOneFault};
-ghost use Rattle.fleet_cli.specs.declared.status.TheConstants.{FAULT, NO_MEMORY};
+ghost use Rattle.folder_answers.specs.declared.status.TheConstants.{FAULT, NO_MEMORY};
 
 use crate::running::run;
-use crate::status::NO_MEMORY;
 use entries::NoMemory;
+use folder_answers::NO_MEMORY;
 use plan_desk::{Desk, Sink};
 use std::alloc::Global;
 use std::env::Args;

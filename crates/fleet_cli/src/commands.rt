@@ -1,22 +1,17 @@
 //! What each command reads first, and what that comes to. One case for each command.
-ghost use Rattle.std.specs.Prelude.{◌≡◌, Some, IfOk};
+ghost use Rattle.std.specs.Prelude.{◌≡◌, Some};
 ghost use Rattle.command_words.specs.Words.{HasDates, HasLimits, HasSettings, asked_by};
-ghost use Rattle.fleet_cli.specs.Contents.{file_content};
-ghost use Rattle.fleet_cli.specs.Opened.{IsOpened};
+ghost use Rattle.fleet_cli.specs.Opened.{AnswersAtOnce, IsOpened};
 ghost use Rattle.fleet_cli.specs.Reading.{first_files, folder_of};
+ghost use Rattle.folder_answers.specs.Contents.{file_content};
+ghost use Rattle.folder_answers.specs.Halted.{MatchHalt};
 
-use crate::checking::open_check;
-use crate::contents::Contents;
-use crate::files::FileList;
-use crate::judging::judge_contents;
-use crate::making::make_and_solve;
-use crate::opened::Opened;
-use crate::placing::due_of_contents;
-use crate::solving::solve_contents;
-use crate::telling::tails_of_contents;
-use crate::what_if::open_whatif;
+use crate::solving::{make_and_solve, solve_on};
 use command_words::Command;
-use entries::NoMemory;
+use folder_answers::{
+    Contents, FileList, Halt, Opened, Question, answered, due_on, judge_on, open_of_fleet,
+    open_proof, tables_of, tails_on,
+};
 use plan_desk::DeskFile;
 use std::alloc::Global;
 
@@ -52,40 +47,39 @@ pub fn first_files(command: &Command<'_>) -> FileList
     }
 }
 
-/// What the first files of a command come to, by what was read of them, which is let go.
-pub fn open(alloc: Global, command: &Command<'_>, contents: Contents) -> Result<Opened, NoMemory>
+/// What the first files of a command come to, by what was read of them. Its tables are read here, and each command is a
+/// function of them.
+pub fn answer_on(alloc: Global, command: &Command<'_>, contents: &Contents) -> Result<Opened, Halt>
     requires settings { HasSettings command.now }
     requires limits { HasLimits command.now }
     requires dates { HasDates command.now }
-    ensures { IfOk result (IsOpened (Some (asked_by command.now)) (file_content contents)) }
-{
-    outcome_of(alloc, command, &contents)
-}
-
-/// What the first files of a command come to.
-fn outcome_of(alloc: Global, command: &Command<'_>, contents: &Contents) -> Result<Opened, NoMemory>
-    requires settings { HasSettings command.now }
-    requires limits { HasLimits command.now }
-    requires dates { HasDates command.now }
-    ensures { IfOk result (IsOpened (Some (asked_by command.now)) (file_content contents.now)) }
+    ensures { MatchHalt result (IsOpened (Some (asked_by command.now)) (file_content contents.now)) (AnswersAtOnce (Some (asked_by command.now)) (file_content contents.now)) }
 {
     match command {
         Command::Judge { reading, .. } => {
-            Ok(Opened::Answered(judge_contents(alloc, *reading, contents)?))
+            let tables = tables_of(alloc, *reading, &contents.tables)?;
+            answered(judge_on(alloc, &tables, contents.plan.as_slice()))
         }
         Command::Solve {
             reading,
             options,
             ..
-        } => { Ok(Opened::Answered(solve_contents(alloc, *reading, *options, contents)?)) }
-        Command::Check { reading, .. } => open_check(alloc, *reading, contents),
+        } => {
+            let tables = tables_of(alloc, *reading, &contents.tables)?;
+            Ok(Opened::Answered(solve_on(alloc, &tables, *options)?))
+        }
+        Command::Check { reading, .. } => {
+            let tables = tables_of(alloc, *reading, &contents.tables)?;
+            open_proof(alloc, tables, Question::Holds, contents.proof.as_slice())
+        }
         Command::Tails {
             reading,
             rotations,
             dates,
             ..
         } => {
-            Ok(Opened::Answered(tails_of_contents(alloc, *reading, *rotations, dates, contents)?))
+            let tables = tables_of(alloc, *reading, &contents.tables)?;
+            answered(tails_on(alloc, &tables, *rotations, dates, contents.plan.as_slice()))
         }
         Command::Due {
             reading,
@@ -93,7 +87,16 @@ fn outcome_of(alloc: Global, command: &Command<'_>, contents: &Contents) -> Resu
             dates,
             ..
         } => {
-            Ok(Opened::Answered(due_of_contents(alloc, *reading, *rotations, dates, contents)?))
+            let tables = tables_of(alloc, *reading, &contents.tables)?;
+            let tails = contents.tails.as_slice();
+            answered(due_on(
+                alloc,
+                &tables,
+                *rotations,
+                dates,
+                tails,
+                contents.plan.as_slice(),
+            ))
         }
         Command::Make { number, legs, .. } => {
             Ok(Opened::Answered(make_and_solve(alloc, *number, *legs)?))
@@ -103,6 +106,9 @@ fn outcome_of(alloc: Global, command: &Command<'_>, contents: &Contents) -> Resu
             fleet,
             count,
             ..
-        } => open_whatif(alloc, *reading, *fleet, *count, contents),
+        } => {
+            let tables = tables_of(alloc, *reading, &contents.tables)?;
+            open_of_fleet(alloc, tables, fleet, *count, contents.proof.as_slice())
+        }
     }
 }

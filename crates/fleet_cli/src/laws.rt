@@ -1,9 +1,9 @@
 //! The laws of answers: each contract is the statement, and the functions do nothing.
-ghost use Rattle.std.specs.Prelude.{◌≡◌};
 ghost use Rattle.fleet_cli.specs.Laws.{OneAnswer};
 ghost use Rattle.fleet_cli.specs.MadeSolved.{MadeIsSolved};
 ghost use Rattle.fleet_cli.specs.SolvedChecked.{SolvedIsChecked};
-ghost use Rattle.fleet_cli.specs.declared.status.TheConstants.{BAD_INPUT, DONE, FALLEN, FAULT, GAP, INFEASIBLE, NO_MEMORY, REFUSED, UNPLACED, UNSETTLED, USAGE};
+
+pub use folder_answers::laws::statuses_in_numbers;
 
 /// What is held and what is asked fix the status and the text, so that each status comes exactly by its cause.
 pub fn one_answer()
@@ -21,19 +21,4 @@ pub fn made_is_solved()
 /// (`answer`); nothing is asked of the lengths of the files.
 pub fn solved_is_checked()
     ensures { SolvedIsChecked }
-{}
-
-/// The statuses in numbers.
-pub fn statuses_in_numbers()
-    ensures done { DONE ≡ 0 }
-    ensures usage { USAGE ≡ 2 }
-    ensures gap { GAP ≡ 3 }
-    ensures infeasible { INFEASIBLE ≡ 4 }
-    ensures unsettled { UNSETTLED ≡ 5 }
-    ensures bad_input { BAD_INPUT ≡ 6 }
-    ensures fault { FAULT ≡ 7 }
-    ensures no_memory { NO_MEMORY ≡ 8 }
-    ensures refused { REFUSED ≡ 9 }
-    ensures unplaced { UNPLACED ≡ 10 }
-    ensures fallen { FALLEN ≡ 11 }
 {}

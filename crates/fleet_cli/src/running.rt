@@ -4,19 +4,16 @@ ghost use Rattle.fleet_cli.specs.Gave.{Gave};
 ghost use Rattle.fleet_cli.specs.Headline.{Headline};
 ghost use Rattle.fleet_cli.specs.Ran.{telling};
 ghost use Rattle.fleet_cli.specs.Run.{AnswersExactly, AnswersInFull, BlamesMissing, CountsOneFault, FailsAt, IsAnswered, IsComplete, IsEnd, IsRefusalStatus, KeepsOthers, LeavesFiles, PutsFault, PutsPart, SomeInFull};
-ghost use Rattle.fleet_cli.specs.Texts.{usage_text};
+ghost use Rattle.folder_answers.specs.Texts.{usage_text};
 ghost use Rattle.command_words.specs.Words.{asked};
-ghost use Rattle.fleet_cli.specs.Written.{HaveLengths, StandsAfter, WriteFails, WritesFirst, held_with_texts};
-ghost use Rattle.fleet_cli.specs.declared.status.TheConstants.{FAULT, NO_MEMORY, USAGE};
+ghost use Rattle.folder_answers.specs.Written.{HaveLengths, StandsAfter, WriteFails, WritesFirst, held_with_texts};
+ghost use Rattle.folder_answers.specs.declared.status.TheConstants.{FAULT, NO_MEMORY, USAGE};
 ghost use Rattle.plan_desk.specs.Counts.{CallsAtMost, IsOneMoreAtMost, RoseBy, counted, once_more};
 ghost use Rattle.plan_desk.specs.Sink.{AppendsPrefix, handed_with, output_with};
 ghost use Rattle.plan_desk.specs.declared.file.TheConstants.{TABLE_LIMIT};
 
-use crate::answer::{Answer, Failure};
 use crate::answers::reply_to;
-use crate::status::{FAULT, NO_MEMORY, Status};
-use crate::texts::fault_line;
-use crate::writing::write_all;
+use folder_answers::{Answer, FAULT, Failure, NO_MEMORY, Status, fault_line, write_all};
 use plan_desk::{Desk, Sink, SinkError};
 use std::alloc::Global;
 

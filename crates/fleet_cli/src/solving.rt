@@ -1,159 +1,55 @@
-//! The command `solve`: a plan for the tables of a folder, with a bound and its proof, and the rotations of the plan.
+//! The commands `solve` and `make`: a plan for tables, with a bound and its proof, and the rotations of the plan.
 ghost use Rattle.std.specs.Prelude.{◌≡◌, IfOk};
-ghost use Rattle.dual_bound.specs.OfTables.{IsOfTables};
-ghost use Rattle.branch_bound.specs.Solved.{IsRight};
-ghost use Rattle.dual_bound.specs.Solved.{PlanFits, tree_of};
-ghost use Rattle.command_words.specs.Arguments.{AreOptions, AreRotationLimits};
-ghost use Rattle.fleet_cli.specs.Answer.{GivesSolution, ShowsRotations, ShowsSolution, Solves};
-ghost use Rattle.fleet_cli.specs.Contents.{file_content, table_bytes};
-ghost use Rattle.fleet_cli.specs.Skeletons.{OnShown};
-ghost use Rattle.fleet_cli.specs.Solution.{solved_answer};
-ghost use Rattle.fleet_model.specs.Legal.{IsLegal};
-ghost use Rattle.fleet_model.specs.Limits.{AreSettings};
-ghost use Rattle.fleet_model.specs.Plain.{IsPlain};
-ghost use Rattle.fleet_model.specs.Schedule.{fleets_in, legs_in};
-ghost use Rattle.euler_rotation.specs.FleetRotations.{AreRotations};
+ghost use Rattle.command_words.specs.Arguments.{AreOptions};
+ghost use Rattle.command_words.specs.declared.command.TheConstants.{DEFAULT_OPTIONS, DEFAULT_READING};
+ghost use Rattle.fleet_cli.specs.Answer.{GivesSolution, Makes};
+ghost use Rattle.folder_answers.specs.Contents.{five_alone};
+ghost use Rattle.folder_answers.specs.Skeletons.{TablesRead};
 ghost use Rattle.retime_windows.specs.Settled.{CanSettle};
+ghost use Rattle.table_maker.specs.Laws.{made_bytes};
+ghost use Rattle.table_maker.specs.Made.{CanBeMade, made_tables};
 
-use crate::answer::Answer;
-use crate::contents::Contents;
-use crate::loading::{Loaded, load_tables};
-use crate::showing::shown_by;
-use crate::solution::{printed_text, solved_files, status_of};
-use crate::status::Status;
-use command_words::SolveOptions;
+use command_words::{DEFAULT_OPTIONS, SolveOptions};
 use dual_bound::Solved;
-use entries::{Entries, NoMemory};
-use euler_rotation::FleetRotation;
-use fleet_model::{Assignment, TableOptions, Tables};
-use plan_rotations::rotations;
+use entries::NoMemory;
+use fleet_model::Tables;
+use folder_answers::{Answer, after_tables, answer_of, load_made, planned_on};
 use plan_search::solved_by;
 use std::alloc::Global;
-
-/// Solves by what the tables hold.
-pub fn solve_contents(
-    alloc: Global,
-    reading: TableOptions,
-    options: SolveOptions,
-    contents: &Contents,
-) -> Result<Answer, NoMemory>
-    requires settings { AreSettings reading.settings }
-    requires options { AreOptions options }
-    ensures { IfOk result (Solves reading options (table_bytes (file_content contents.now))) }
-{
-    match load_tables(alloc, reading, contents)? {
-        Loaded::Refused(answer) => Ok(answer),
-        Loaded::Read(tables) => solve_tables(alloc, &tables, options),
-    }
-}
+use table_maker::{MadeTables, make_tables};
 
 /// Solves tables.
-pub fn solve_tables(
-    alloc: Global,
-    tables: &Tables,
-    options: SolveOptions,
-) -> Result<Answer, NoMemory>
+pub fn solve_on(alloc: Global, tables: &Tables, options: SolveOptions) -> Result<Answer, NoMemory>
     requires settles { CanSettle tables.now }
     requires options { AreOptions options }
     ensures { IfOk result (GivesSolution options tables.now) }
 {
     let solved = solved_by(alloc, tables, options.way, options.search)?;
-    show_solved(alloc, tables, options, &solved)
-}
-
-/// The answer of a solution, with the rotations of its plan, and none where it has none.
-fn show_solved(
-    alloc: Global,
-    tables: &Tables,
-    options: SolveOptions,
-    solved: &Solved,
-) -> Result<Answer, NoMemory>
-    requires settles { CanSettle tables.now }
-    requires options { AreOptions options }
-    requires right { IsRight tables.now solved.now }
-    requires tree { IsOfTables tables.now (tree_of solved.now) }
-    ensures { IfOk result (ShowsSolution options tables.now solved.now) }
-{
-    match solved {
+    match &solved {
         Solved::Planned { assignment, .. } => {
-            show_planned(alloc, tables, options, solved, assignment)
+            planned_on(alloc, tables, options, &solved, assignment)
         }
-        Solved::Infeasible { .. } => answer_of(alloc, tables, tables, options, solved, &[]),
-        Solved::Unsettled { .. } => answer_of(alloc, tables, tables, options, solved, &[]),
+        Solved::Infeasible { .. } => answer_of(alloc, tables, tables, options, &solved, &[]),
+        Solved::Unsettled { .. } => answer_of(alloc, tables, tables, options, &solved, &[]),
     }
 }
 
-/// The answer of a solution with this plan, and the plan's rotations.
-fn show_planned(
-    alloc: Global,
-    tables: &Tables,
-    options: SolveOptions,
-    solved: &Solved,
-    plan: &Assignment,
-) -> Result<Answer, NoMemory>
-    requires settles { CanSettle tables.now }
-    requires options { AreOptions options }
-    requires legal { IsLegal tables.now plan.now }
-    requires plan { PlanFits tables.now solved.now }
-    requires tree { IsOfTables tables.now (tree_of solved.now) }
-    ensures { IfOk result (OnShown tables.now (ShowsRotations options tables.now solved.now) plan.now) }
+/// Makes the tables of a number and of so many legs, and solves them by the defaults.
+pub fn make_and_solve(alloc: Global, number: u32, legs: u32) -> Result<Answer, NoMemory>
+    requires { CanBeMade number legs }
+    ensures { IfOk result (Makes number legs) }
 {
-    let shown = shown_by(alloc, tables, plan)?;
-    show_rotated(alloc, tables, options, solved, &shown.tables, &shown.plan)
+    let made = make_tables(alloc, number, legs)?;
+    let solving = solve_made(alloc, number, legs, &made)?;
+    after_tables(alloc, made, solving)
 }
 
-/// The answer of a solution, and the rotations of its plan on tables in which each leg departs when the plan says.
-fn show_rotated(
-    alloc: Global,
-    tables: &Tables,
-    options: SolveOptions,
-    solved: &Solved,
-    shown: &Tables,
-    flown: &Assignment,
-) -> Result<Answer, NoMemory>
-    requires options { AreOptions options }
-    requires plan { PlanFits tables.now solved.now }
-    requires tree { IsOfTables tables.now (tree_of solved.now) }
-    requires legs { legs_in shown.now ≡ legs_in tables.now }
-    requires fleets { fleets_in shown.now ≡ fleets_in tables.now }
-    requires plain { IsPlain shown.now }
-    requires legal { IsLegal shown.now flown.now }
-    ensures { IfOk result (ShowsRotations options tables.now solved.now shown.now flown.now) }
+/// Solves the tables that made texts read as, by the defaults.
+fn solve_made(alloc: Global, number: u32, legs: u32, made: &MadeTables) -> Result<Answer, NoMemory>
+    requires can { CanBeMade number legs }
+    requires made { made.now ≡ made_tables number legs }
+    ensures { IfOk result (TablesRead DEFAULT_READING (five_alone (made_bytes made.now)) (GivesSolution DEFAULT_OPTIONS)) }
 {
-    let limits = options.rotations;
-    let made = rotations(alloc, shown, flown, limits.days, limits.visits)?;
-    answer_of(alloc, tables, shown, options, solved, made.as_slice())
-}
-
-/// The answer of a solution and its rotations, which are of the tables that are shown.
-fn answer_of(
-    alloc: Global,
-    tables: &Tables,
-    shown: &Tables,
-    options: SolveOptions,
-    solved: &Solved,
-    rotations: &[FleetRotation],
-) -> Result<Answer, NoMemory>
-    requires plan { PlanFits tables.now solved.now }
-    requires tree { IsOfTables tables.now (tree_of solved.now) }
-    requires rotations { AreRotations tables.now rotations.now }
-    requires shown { AreRotations shown.now rotations.now }
-    ensures { IfOk result (λ answer. answer ≡ solved_answer tables.now shown.now options solved.now rotations.now) }
-{
-    let text = printed_text(alloc, tables, options.json, solved, rotations)?;
-    let files = solved_files(
-        alloc,
-        tables,
-        shown,
-        solved,
-        rotations,
-        options.rotations.visits,
-    )?;
-    Ok(Answer {
-        status: Status {
-            code: status_of(solved),
-        },
-        text: Entries::from_vec(text),
-        files: Entries::from_vec(files),
-    })
+    let tables = load_made(alloc, number, legs, made)?;
+    solve_on(alloc, &tables, DEFAULT_OPTIONS)
 }

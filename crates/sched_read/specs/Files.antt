@@ -12,7 +12,7 @@ use Rattle.optional_legs.specs.Optional.{OptionalBad}
 use Rattle.retime_windows.specs.Times.{ReadsWindows}
 use Rattle.retime_windows.specs.Windows.{WindowsBad}
 use Rattle.sched_read.specs.Reading.{BadAt, Reads, TableBytes}
-use Rattle.sched_read.specs.declared.files.FileTexts.{FileTexts}
+use Rattle.sched_read.specs.declared.files.TableTexts.{TableTexts}
 
 -- the bytes of all tables: the five, and those that are read where they are asked for
 pub record AllBytes : Type 0 where
@@ -55,9 +55,9 @@ IsFirstBad bytes options (load.Bad bad) = FilesBad bytes options bad.file bad.ro
 IsFirstBad bytes options load.NoMemory = ⊤
 
 -- ---- as the code has them
-abbrev pub all_bytes : FileTexts → AllBytes
+abbrev pub all_bytes : TableTexts → AllBytes
 all_bytes texts = record {
-  five = record { stations = texts.stations.now; fleets = texts.fleets.now; legs = texts.legs.now; costs = texts.costs.now; throughs = texts.throughs.now };
-  windows = texts.windows.now;
-  optional = texts.optional.now;
+  five = record { stations = texts.stations; fleets = texts.fleets; legs = texts.legs; costs = texts.costs; throughs = texts.throughs };
+  windows = texts.windows;
+  optional = texts.optional;
 }

@@ -8,7 +8,7 @@ pub mod legs;
 pub mod loading;
 pub mod throughs;
 
-pub use files::{FileTexts, load_files};
+pub use files::{TableTexts, load_files};
 pub use legs::read_legs;
 pub use loading::load;
 pub use throughs::read_throughs;

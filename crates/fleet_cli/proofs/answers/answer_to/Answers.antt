@@ -2,23 +2,26 @@ use Rattle.std.proofs.Common.{◌∙◌, Some, inl, inr}
 use Rattle.std.specs.Prelude.{⊤}
 use Rattle.std.proofs.lemmas.Result.{err_from_is_err_and}
 use Rattle.command_words.specs.Words.{asked_by}
-use Rattle.fleet_cli.specs.Contents.{file_content}
-use Rattle.fleet_cli.specs.Gathered.{ComesTo, IsAmong}
+use Rattle.folder_answers.specs.Contents.{file_content}
+use Rattle.folder_answers.specs.Gathered.{ComesTo, IsAmong}
 use Rattle.fleet_cli.specs.Reading.{IsFileReached, IsRead, first_files, folder_of}
-use Rattle.fleet_cli.specs.declared.contents.Contents.{Contents}
+use Rattle.folder_answers.specs.declared.contents.Contents.{Contents}
 use Rattle.fleet_cli.proofs.AnswerFacts.{told_settled}
 use Rattle.fleet_cli.proofs.CallFacts.{reads_first, reads_plan}
-use Rattle.fleet_cli.proofs.StopFacts.{fails_sooner, lacking, lacking_some, lacking_told, rose_before, some_sooner, some_stopped, stopped_as, told_stopped, weaker_called, weaker_fails, weaker_long}
+use Rattle.fleet_cli.proofs.OpenFacts.{opened_is}
+use Rattle.fleet_cli.proofs.StopFacts.{fails_sooner, lacking, lacking_some, lacking_told, some_sooner, some_stopped, stopped_as, told_stopped}
+use Rattle.folder_answers.proofs.ReadStops.{weaker_called, weaker_fails, weaker_long}
+use Rattle.folder_answers.proofs.ReadStops.{rose_before}
 use Rattle.fleet_cli.proofs.answers.answer_to.Goals as goal
 
 -- ---- the first files are enough
 
 pub returns-in-Answered-clause-told : goal.returns-in-Answered-clause-told
 returns-in-Answered-clause-told g c =
-    told_settled _ (Some (asked_by c.args.command.now)) (file_content c.in-Ok.contents) (rw (c.folder-dir.ensures, c.as_slice.ensures, c.first_files-files.ensures) at c.in-Ok.ensures.told) _ (rw c.in-Answered.is at c.in_ok-answer-in-Ok.ensures)
+    told_settled _ (Some (asked_by c.args.command.now)) (file_content c.in-Ok.contents) (rw (c.folder-dir.ensures, c.as_slice.ensures, c.first_files-files.ensures) at c.in-Ok.ensures.told) _ (rw c.in-Answered.is at (opened_is (Some (asked_by c.args.command.now)) (file_content c.in-Ok.contents) c.answer_on-opened.result c.answer_on-opened.ensures _ c.in_ok-answer.ensures))
 
 pub returns-in-Answered-clause-some : goal.returns-in-Answered-clause-some
-returns-in-Answered-clause-some g c = let settles = rw c.in-Answered.is at c.in_ok-answer-in-Ok.ensures in inr (file_content c.in-Ok.contents, settles.answers)
+returns-in-Answered-clause-some g c = let settles = rw c.in-Answered.is at (opened_is (Some (asked_by c.args.command.now)) (file_content c.in-Ok.contents) c.answer_on-opened.result c.answer_on-opened.ensures _ c.in_ok-answer.ensures) in inr (file_content c.in-Ok.contents, settles.answers)
 
 pub returns-in-Answered-clause-holds : goal.returns-in-Answered-clause-holds
 returns-in-Answered-clause-holds g c = c.in-Ok.ensures.holds
@@ -38,25 +41,25 @@ returns-in-Answered-clause-stays_steady g c = c.in-Ok.ensures.stays_steady
 -- ---- they ask for the plan
 
 pub answer_with_plan-requires : goal.answer_with_plan-requires
-answer_with_plan-requires g c = let awaits = rw c.in-WantsPlan.is at c.in_ok-answer-in-Ok.ensures in awaits.ready
+answer_with_plan-requires g c = let awaits = rw c.in-WantsPlan.is at (opened_is (Some (asked_by c.args.command.now)) (file_content c.in-Ok.contents) c.answer_on-opened.result c.answer_on-opened.ensures _ c.in_ok-answer.ensures) in awaits.ready
 
 pub returns-in-WantsPlan-clause-told : goal.returns-in-WantsPlan-clause-told
 returns-in-WantsPlan-clause-told g c =
     let told = rw c.in-Ok.ensures.holds at c.answer_with_plan.ensures.told in
     told (Some (asked_by c.args.command.now)) (file_content c.in-Ok.contents)
-    (record { awaits = rw c.in-WantsPlan.is at c.in_ok-answer-in-Ok.ensures; folder = c.folder-dir.ensures; first = rw (c.folder-dir.ensures, c.as_slice.ensures, c.first_files-files.ensures) at c.in-Ok.ensures.told })
+    (record { awaits = rw c.in-WantsPlan.is at (opened_is (Some (asked_by c.args.command.now)) (file_content c.in-Ok.contents) c.answer_on-opened.result c.answer_on-opened.ensures _ c.in_ok-answer.ensures); folder = c.folder-dir.ensures; first = rw (c.folder-dir.ensures, c.as_slice.ensures, c.first_files-files.ensures) at c.in-Ok.ensures.told })
 
 pub returns-in-WantsPlan-clause-some : goal.returns-in-WantsPlan-clause-some
 returns-in-WantsPlan-clause-some g c =
     some_sooner _ _ (Some (asked_by c.args.command.now)) c.answer_with_plan.result (rose_before _ _ _ _ c.in-Ok.ensures.taken)
-    (c.answer_with_plan.ensures.some (Some (asked_by c.args.command.now)) (file_content c.in-Ok.contents) (rw c.in-WantsPlan.is at c.in_ok-answer-in-Ok.ensures))
+    (c.answer_with_plan.ensures.some (Some (asked_by c.args.command.now)) (file_content c.in-Ok.contents) (rw c.in-WantsPlan.is at (opened_is (Some (asked_by c.args.command.now)) (file_content c.in-Ok.contents) c.answer_on-opened.result c.answer_on-opened.ensures _ c.in_ok-answer.ensures)))
 
 pub returns-in-WantsPlan-clause-holds : goal.returns-in-WantsPlan-clause-holds
 returns-in-WantsPlan-clause-holds g c = c.answer_with_plan.ensures.holds ∙ c.in-Ok.ensures.holds
 
 pub returns-in-WantsPlan-clause-calls : goal.returns-in-WantsPlan-clause-calls
 returns-in-WantsPlan-clause-calls g c =
-    let awaits = rw c.in-WantsPlan.is at c.in_ok-answer-in-Ok.ensures in
+    let awaits = rw c.in-WantsPlan.is at (opened_is (Some (asked_by c.args.command.now)) (file_content c.in-Ok.contents) c.answer_on-opened.result c.answer_on-opened.ensures _ c.in_ok-answer.ensures) in
     reads_plan (Some (asked_by c.args.command.now)) (file_content c.in-Ok.contents) _ _ _ awaits.wanted (rw (c.as_slice.ensures, c.first_files-files.ensures) at c.in-Ok.ensures.calls) c.answer_with_plan.ensures.calls
 
 pub returns-in-WantsPlan-clause-faults : goal.returns-in-WantsPlan-clause-faults
@@ -66,7 +69,7 @@ pub returns-in-WantsPlan-clause-blamed : goal.returns-in-WantsPlan-clause-blamed
 returns-in-WantsPlan-clause-blamed g c =
     let blamed = rw c.in-Ok.ensures.holds at c.answer_with_plan.ensures.blamed in
     fails_sooner _ _ _ _ _ _ c.answer_with_plan.result c.in-Ok.ensures.stays_steady (blamed (Some (asked_by c.args.command.now)) (file_content c.in-Ok.contents)
-    (record { awaits = rw c.in-WantsPlan.is at c.in_ok-answer-in-Ok.ensures; folder = c.folder-dir.ensures; first = rw (c.folder-dir.ensures, c.as_slice.ensures, c.first_files-files.ensures) at c.in-Ok.ensures.told }))
+    (record { awaits = rw c.in-WantsPlan.is at (opened_is (Some (asked_by c.args.command.now)) (file_content c.in-Ok.contents) c.answer_on-opened.result c.answer_on-opened.ensures _ c.in_ok-answer.ensures); folder = c.folder-dir.ensures; first = rw (c.folder-dir.ensures, c.as_slice.ensures, c.first_files-files.ensures) at c.in-Ok.ensures.told }))
 
 pub returns-in-WantsPlan-clause-stays_steady : goal.returns-in-WantsPlan-clause-stays_steady
 returns-in-WantsPlan-clause-stays_steady g c = λ steady. c.answer_with_plan.ensures.stays_steady (c.in-Ok.ensures.stays_steady steady)
@@ -106,23 +109,23 @@ returns-in-Err-clause-stays_steady g c = c.in-Err.ensures.stays_steady
 
 -- ---- want of memory
 
-pub returns-in_err-answer-in-Ok-clause-calls : goal.returns-in_err-answer-in-Ok-clause-calls
-returns-in_err-answer-in-Ok-clause-calls g c = reads_first (Some (asked_by c.args.command.now)) _ _ (rw (c.as_slice.ensures, c.first_files-files.ensures) at c.in-Ok.ensures.calls)
+pub returns-in_err-answer-clause-calls : goal.returns-in_err-answer-clause-calls
+returns-in_err-answer-clause-calls g c = reads_first (Some (asked_by c.args.command.now)) _ _ (rw (c.as_slice.ensures, c.first_files-files.ensures) at c.in-Ok.ensures.calls)
 
-pub returns-in_err-answer-in-Ok-clause-told : goal.returns-in_err-answer-in-Ok-clause-told
-returns-in_err-answer-in-Ok-clause-told g c = let p = err_from_is_err_and c.from_residual.result c.from_residual.ensures.1 in lacking_told c.from_residual.result p.0 p.1 p.2 _ (Some (asked_by c.args.command.now))
+pub returns-in_err-answer-clause-told : goal.returns-in_err-answer-clause-told
+returns-in_err-answer-clause-told g c = let p = err_from_is_err_and c.from_residual.result c.from_residual.ensures.1 in lacking_told c.from_residual.result p.0 p.1 p.2 _ (Some (asked_by c.args.command.now))
 
-pub returns-in_err-answer-in-Ok-clause-some : goal.returns-in_err-answer-in-Ok-clause-some
-returns-in_err-answer-in-Ok-clause-some g c = let p = err_from_is_err_and c.from_residual.result c.from_residual.ensures.1 in lacking_some c.from_residual.result p.0 p.1 p.2 _ (Some (asked_by c.args.command.now))
+pub returns-in_err-answer-clause-some : goal.returns-in_err-answer-clause-some
+returns-in_err-answer-clause-some g c = let p = err_from_is_err_and c.from_residual.result c.from_residual.ensures.1 in lacking_some c.from_residual.result p.0 p.1 p.2 _ (Some (asked_by c.args.command.now))
 
-pub returns-in_err-answer-in-Ok-clause-holds : goal.returns-in_err-answer-in-Ok-clause-holds
-returns-in_err-answer-in-Ok-clause-holds g c = c.in-Ok.ensures.holds
+pub returns-in_err-answer-clause-holds : goal.returns-in_err-answer-clause-holds
+returns-in_err-answer-clause-holds g c = c.in-Ok.ensures.holds
 
-pub returns-in_err-answer-in-Ok-clause-faults : goal.returns-in_err-answer-in-Ok-clause-faults
-returns-in_err-answer-in-Ok-clause-faults g c = let p = err_from_is_err_and c.from_residual.result c.from_residual.ensures.1 in lacking c.from_residual.result p.0 p.1 p.2 _ _ _ c.in-Ok.ensures.faults
+pub returns-in_err-answer-clause-faults : goal.returns-in_err-answer-clause-faults
+returns-in_err-answer-clause-faults g c = let p = err_from_is_err_and c.from_residual.result c.from_residual.ensures.1 in lacking c.from_residual.result p.0 p.1 p.2 _ _ _ c.in-Ok.ensures.faults
 
-pub returns-in_err-answer-in-Ok-clause-blamed : goal.returns-in_err-answer-in-Ok-clause-blamed
-returns-in_err-answer-in-Ok-clause-blamed g c = let p = err_from_is_err_and c.from_residual.result c.from_residual.ensures.1 in lacking c.from_residual.result p.0 p.1 p.2 ⊤ _ ⊤ tt
+pub returns-in_err-answer-clause-blamed : goal.returns-in_err-answer-clause-blamed
+returns-in_err-answer-clause-blamed g c = let p = err_from_is_err_and c.from_residual.result c.from_residual.ensures.1 in lacking c.from_residual.result p.0 p.1 p.2 ⊤ _ ⊤ tt
 
-pub returns-in_err-answer-in-Ok-clause-stays_steady : goal.returns-in_err-answer-in-Ok-clause-stays_steady
-returns-in_err-answer-in-Ok-clause-stays_steady g c = c.in-Ok.ensures.stays_steady
+pub returns-in_err-answer-clause-stays_steady : goal.returns-in_err-answer-clause-stays_steady
+returns-in_err-answer-clause-stays_steady g c = c.in-Ok.ensures.stays_steady

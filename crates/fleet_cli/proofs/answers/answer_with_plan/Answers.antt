@@ -2,12 +2,13 @@ use Rattle.std.proofs.Common.{inr}
 use Rattle.std.specs.Prelude.{⊤}
 use Rattle.std.proofs.lemmas.Result.{err_from_is_err_and}
 use Rattle.plan_desk.specs.declared.file.DeskFile.TheVariants as file
-use Rattle.fleet_cli.specs.Contents.{with_plan}
+use Rattle.folder_answers.specs.Contents.{with_plan}
 use Rattle.fleet_cli.specs.Reading.{IsFileReached, IsRead, folder_of}
-use Rattle.fleet_cli.specs.declared.contents.Contents.{Contents}
+use Rattle.folder_answers.specs.declared.contents.Contents.{Contents}
 use Rattle.fleet_cli.proofs.AnswerFacts.{told_awaited, told_reached}
-use Rattle.fleet_cli.proofs.FrontFacts.{held_if}
-use Rattle.fleet_cli.proofs.StopFacts.{called, fails, lacking, lacking_some, lacking_told, some_stopped, stopped_as, told_stopped, too_long}
+use Rattle.folder_answers.proofs.FrontFacts.{held_if}
+use Rattle.folder_answers.proofs.ReadStops.{called, fails, too_long}
+use Rattle.fleet_cli.proofs.StopFacts.{lacking, lacking_some, lacking_told, some_stopped, stopped_as, told_stopped}
 use Rattle.fleet_cli.proofs.answers.answer_with_plan.Goals as goal
 
 -- ---- the plan was read

@@ -1,6 +1,6 @@
 use Rattle.std.proofs.Common.{inl, inr, refl, sym, ◌∙◌}
 use Rattle.fleet_cli.proofs.RunFacts.{fault_not_memory}
-use Rattle.fleet_cli.proofs.WrittenFacts.{all_first}
+use Rattle.folder_answers.proofs.WrittenFacts.{all_first}
 use Rattle.fleet_cli.proofs.running.give.Goals as goal
 
 -- ---- all files were written

@@ -1,6 +1,7 @@
 use Rattle.std.proofs.Common.{ap, arith, map, string_bytes, inl, inr, refl, sym, ◌∙◌}
 use Rattle.command_words.specs.Words.{asked}
-use Rattle.fleet_cli.proofs.CallFacts.{calls_then, reads_alone}
+use Rattle.folder_answers.proofs.CallCounts.{calls_then}
+use Rattle.fleet_cli.proofs.CallFacts.{reads_alone}
 use Rattle.fleet_cli.proofs.Headlines.{headline}
 use Rattle.fleet_cli.proofs.OneAnswer.{complete, exactly}
 use Rattle.fleet_cli.proofs.Others.{answer_ends, keeps_others, nothing_written, only_usage, refusal_ends, refusal_leaves, writes_few}

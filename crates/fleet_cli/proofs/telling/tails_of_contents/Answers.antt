@@ -1,6 +1,0 @@
-use Rattle.std.proofs.Common.{inr}
-use Rattle.std.proofs.lemmas.Result.{IfOk-weaker}
-use Rattle.fleet_cli.proofs.telling.tails_of_contents.Goals as goal
-
-pub returns-in-Read : goal.returns-in-Read
-returns-in-Read c = IfOk-weaker c.tails_of_plan.result _ _ (λ answer answers. inr (record { tables = c.in-Read.tables; reads = rw c.in-Read.is at c.in_ok-answer.ensures.read; finishes = answers })) (rw c.as_slice.ensures at c.tails_of_plan.ensures)

@@ -1,0 +1,12 @@
+pub mod AskedTrees
+pub mod CallCounts
+pub mod FileNames
+pub mod FrontFacts
+pub mod HaltFacts
+pub mod MadeStand
+pub mod Members
+pub mod PlanLength
+pub mod ReadStops
+pub mod Skeletons
+pub mod TextsStand
+pub mod WrittenFacts

@@ -1,0 +1,13 @@
+pub mod Commands
+pub mod Contents
+pub mod Failed
+pub mod FileLists
+pub mod Gathered
+pub mod Halted
+pub mod Making
+pub mod Opened
+pub mod Refusals
+pub mod Skeletons
+pub mod Solution
+pub mod Texts
+pub mod Written
