@@ -7,6 +7,8 @@ import os
 from pathlib import Path
 from typing import Any, Dict, List, Mapping, NamedTuple, Optional, Sequence, Tuple
 
+import pytest
+from fleetplan.errors import Unread
 from scenario_tests.rows import CHECKED, SOLVED, TABLES
 from steps.listing import scenarios_of
 from steps.solving import sums_of, write_json
@@ -60,11 +62,24 @@ REFUSED = {"told": "bad input: costs.csv record 4 kind 7", "seconds": 0, "memory
 FAULT = {"fault": "solve ended with 8: memory ran out"}
 
 
+def lay(folder: Path, tables: Mapping[str, str]) -> None:
+    """Writes tables into a folder."""
+    folder.mkdir(parents=True, exist_ok=True)
+    for name, text in tables.items():
+        (folder / name).write_text(text, encoding="utf-8")
+
+
+def unread(folder: Path, *listed: str) -> str:
+    """Returns what is told of the lines of a scenarios.csv that doesn't read."""
+    lay(folder, {"scenarios.csv": "".join(f"{it}\n" for it in listed)})
+    with pytest.raises(Unread) as error:
+        scenarios_of(str(folder / "scenarios.csv"))
+    return str(error.value).replace(f"{folder}/", "")
+
+
 def lay_ended(own: Path, ended: Any) -> None:
     """Lays a scenario's folder by how it ended, or by its answer alone."""
-    (own / "solved").mkdir(parents=True)
-    for name, text in TABLES.items():
-        (own / "solved" / name).write_text(text, encoding="utf-8")
+    lay(own / "solved", TABLES)
     if not isinstance(ended, Ended):
         write_json(str(own / "solved" / "answer.json"), ended)
         write_json(str(own / "check.json"), {})
@@ -78,8 +93,7 @@ def lay_ended(own: Path, ended: Any) -> None:
 
 def lay_run(folder: Path, listed: str, ended: Mapping[str, Any]) -> Tuple[bool, str]:
     """Lays a run with this scenarios.csv, sums it up, and returns whether all is well and what is told."""
-    folder.mkdir(parents=True, exist_ok=True)
-    (folder / "scenarios.csv").write_text(listed, encoding="utf-8")
+    lay(folder, {"scenarios.csv": listed})
     for name, it in ended.items():
         lay_ended(folder / "scenarios" / name, it)
     return summed(folder)

@@ -90,60 +90,29 @@ def ended(**other: Any) -> Dict[str, Any]:
 
 # Of each scenario what differs from that in the answer and in the check (None: there is none), and its record in the summary, whose
 # header is HEADER. A scenario without `solved` wasn't solved. Each is compared with the first.
+UNPROVED = "NOT PROVED,,,,,,optimal,as it is,,,,,,,"
 HEADER = (
     "scenario,outcome,cost,bound,gap,splits,used F1,base,changes,cost difference,bound difference,used difference F1,refleeted,no tour,"
     "rotations,check,told,seconds,memory MB"
 )
 OUTCOMES: Dict[str, Tuple[Dict[str, Any], Optional[Dict[str, Any]], str]] = {
     "optimal": (ended(), {}, "optimal,70,70,0,0,1,optimal,as it is,,,,,,F1 unused,holds: cost 70 bound 70,,1.75,2.0"),
-    "gap": (
-        ended(outcome="gap", bound="60"),
-        {"told": "holds: cost 70 bound 60"},
-        "gap,70,60,10,0,1,optimal,as it is,-10 to 0,-10,0,0,,F1 unused,holds: cost 70 bound 60,,1.75,2.0",
-    ),
-    "infeasible": (
-        ended(outcome="infeasible", bound=None, **NO_PLAN),
-        {"told": "holds: infeasible"},
-        "infeasible,,,,0,,optimal,as it is,infeasible,,,,,,holds: infeasible,,1.75,2.0",
-    ),
-    "unsettled": (
-        ended(outcome="unsettled", **NO_PLAN),
-        {"told": "holds: bound 70"},
-        "unsettled,,70,,0,,optimal,as it is,at least 0,0,,,,,holds: bound 70,,1.75,2.0",
-    ),
-    "refused": (
-        {"status": 6, "told": "bad input: costs.csv record 4 kind 7", "seconds": 0, "memory": 0},
-        {},
-        "refused,,,,,,optimal,as it is,,,,,,,,bad input: costs.csv record 4 kind 7,0.00,0.0",
-    ),
-    "fault": (
-        {"fault": "solve ended with 8: memory ran out"},
-        {},
-        "NOT SOLVED,,,,,,optimal,as it is,,,,,,,,solve ended with 8: memory ran out,,",
-    ),
-    "other-cost": (
-        ended(),
-        {"told": "holds: cost 71 bound 70"},
-        "NOT PROVED,,,,,,optimal,as it is,,,,,,,holds: cost 71 bound 70,"
-        "its proof holds for something else than was answered (holds: cost 70 bound 70),1.75,2.0",
-    ),
-    "broken": (
-        ended(),
-        {"told": "does not hold: node 1 kind 3"},
-        "NOT PROVED,,,,,,optimal,as it is,,,,,,,does not hold: node 1 kind 3,its proof does not hold,1.75,2.0",
-    ),
-    "unchecked": (
-        ended(),
-        None,
-        "NOT PROVED,,,,,,optimal,as it is,,,,,,,,it wasn't checked: a step failed: the log says which and why,1.50,2.0",
-    ),
-    "changed": (
-        ended(),
-        {"sums": {}},
-        "NOT PROVED,,,,,,optimal,as it is,,,,,,,holds: cost 70 bound 70,"
-        '"changed after the check: costs.csv, fleets.csv, legs.csv, plan.csv, stations.csv, throughs.csv of scenarios/changed/solved",1.75,2.0',
-    ),
-}
+    "gap": (ended(outcome="gap", bound="60"), {"told": "holds: cost 70 bound 60"},
+            "gap,70,60,10,0,1,optimal,as it is,-10 to 0,-10,0,0,,F1 unused,holds: cost 70 bound 60,,1.75,2.0"),
+    "infeasible": (ended(outcome="infeasible", bound=None, **NO_PLAN), {"told": "holds: infeasible"},
+                   "infeasible,,,,0,,optimal,as it is,infeasible,,,,,,holds: infeasible,,1.75,2.0"),
+    "unsettled": (ended(outcome="unsettled", **NO_PLAN), {"told": "holds: bound 70"},
+                  "unsettled,,70,,0,,optimal,as it is,at least 0,0,,,,,holds: bound 70,,1.75,2.0"),
+    "refused": ({"status": 6, "told": "bad input: costs.csv record 4 kind 7", "seconds": 0, "memory": 0}, {},
+                "refused,,,,,,optimal,as it is,,,,,,,,bad input: costs.csv record 4 kind 7,0.00,0.0"),
+    "fault": ({"fault": "solve ended with 8: memory ran out"}, {}, "NOT SOLVED,,,,,,optimal,as it is,,,,,,,,solve ended with 8: memory ran out,,"),
+    "other-cost": (ended(), {"told": "holds: cost 71 bound 70"}, f"{UNPROVED}holds: cost 71 bound 70,"
+                   "its proof holds for something else than was answered (holds: cost 70 bound 70),1.75,2.0"),
+    "broken": (ended(), {"told": "does not hold: node 1 kind 3"}, f"{UNPROVED}does not hold: node 1 kind 3,its proof does not hold,1.75,2.0"),
+    "unchecked": (ended(), None, f"{UNPROVED},it wasn't checked: a step failed: the log says which and why,1.50,2.0"),
+    "changed": (ended(), {"sums": {}}, f'{UNPROVED}holds: cost 70 bound 70,"changed after the check: '
+                'costs.csv, fleets.csv, legs.csv, plan.csv, stations.csv, throughs.csv of scenarios/changed/solved",1.75,2.0'),
+}  # fmt: skip
 
 # Scenarios that are solved and checked: the words by which their tables are read, their plan, and what was asked of their proof.
 PLAIN, TIMED, LEFT = "flight,fleet\nX1,F1\nX2,F1\n", "flight,fleet,shift\nX1,F1,0\nX2,F1,-5\n", "flight,fleet\nX1,F1\nX2,-\n"

@@ -9,33 +9,15 @@ from pathlib import Path
 from typing import Dict, List, Tuple
 
 import pytest
-from fleetplan.errors import Unread
+from cost_tests.days import COSTS, DAY
+from scenario_tests.laid import lay, unread
 from steps.figures import level
 from steps.laying import changed
 from steps.listing import scenarios_of
 
-FIGURES = {
-    "stations.csv": "code,extra,maintenance\nZRH,0,yes\nLHR,0,no\nFRA,0,no\n",
-    "fleets.csv": "fleet,aircraft,turn\nA320,1,40\nE190,1,30\n",
-    "legs.csv": "flight,from,dep,to,arr\nFP1,ZRH,06:00,LHR,07:50\nFP2,LHR,08:40,ZRH,10:20\nFP3,ZRH,06:10,FRA,07:10\nFP4,FRA,07:50,ZRH,08:50\n",
-    "costs.csv": "flight,fleet,cost\nFP1,A320,1\nFP1,E190,1\nFP2,A320,1\nFP2,E190,1\nFP3,A320,1\nFP3,E190,1\nFP4,A320,1\nFP4,E190,1\n",
-    "throughs.csv": "in,out,value\n",
-    "demand.csv": "flight,mean,sd,fare,recapture\nFP1,125,37.5,130,20\nFP2,110,33,130,20\nFP3,80,28,110,30\nFP4,85,29.75,110,30\n",
-    "types.csv": "fleet,seats,departure,minute,fuel,longest,closed\nA320,180,1500,38,2500,,\nE190,106,1000,29,1900,,\n",
-    "fuel.csv": "station,price\n*,800\n",
-    "fees.csv": "station,fleet,fee\nLHR,A320,1400\nLHR,E190,1100\nFRA,A320,700\nFRA,E190,450\nZRH,A320,900\nZRH,E190,600\n",
-}
-WEEK = "flight,day,from,dep,to,arr\n" + "".join(
-    f"{flight},{day},{way}\n"
-    for day in (1, 2)
-    for flight, way in ((f"FP1D{day}", "ZRH,06:00,LHR,07:50"), (f"FP2D{day}", "LHR,08:40,ZRH,10:20"))
-)
-
-
-def lay(folder: Path, tables: Dict[str, str]) -> None:
-    """Writes tables into a folder."""
-    for name, text in tables.items():
-        (folder / name).write_text(text, encoding="utf-8")
+# The day of the cases of tools/costs, with costs that are priced anew.
+FIGURES = {**DAY, "costs.csv": "flight,fleet,cost\n" + "".join(f"{it},1\n" for it in COSTS)}
+WEEK = "flight,day,from,dep,to,arr\n" + "".join(f"FP1D{it},{it},ZRH,06:00,LHR,07:50\nFP2D{it},{it},LHR,08:40,ZRH,10:20\n" for it in (1, 2))
 
 
 def costs(folder: Path) -> List[int]:
@@ -112,14 +94,9 @@ def test_second_day_alone(scratch: Path) -> None:
 
 # A seed, a market or a day, and its level with a spread of 0.15.
 LEVELS: List[Tuple[int, str, str, str]] = [
-    (1, "market", "LHR ZRH", "1.021"),
-    (2, "market", "LHR ZRH", "1.017"),
-    (7, "market", "LHR ZRH", "0.911"),
-    (2, "market", "FRA ZRH", "0.725"),
-    (7, "market", "FRA ZRH", "1.088"),
-    (1, "day", "1", "0.987"),
-    (7, "day", "2", "1.248"),
-]
+    (1, "market", "LHR ZRH", "1.021"), (2, "market", "LHR ZRH", "1.017"), (7, "market", "LHR ZRH", "0.911"), (2, "market", "FRA ZRH", "0.725"),
+    (7, "market", "FRA ZRH", "1.088"), (1, "day", "1", "0.987"), (7, "day", "2", "1.248"),
+]  # fmt: skip
 
 
 @pytest.mark.parametrize("seed, kind, name, wanted", LEVELS, ids=[" ".join(map(str, it[:3])) for it in LEVELS])
@@ -153,15 +130,12 @@ def test_refused(changes: str, scratch: Path) -> None:
     assert {it.name: it.read_text(encoding="utf-8") for it in scratch.iterdir()} == FIGURES
 
 
-@pytest.mark.parametrize(
-    "name, text, wanted",
-    [
-        ("demand.csv", "flight,mean,sd,fare,recapture\nFP1,125,37.5,130,20\n", "legs.csv record 3: FP2 has no demand by demand.csv"),
-        ("demand.csv", "flight,mean,sd,fare,recapture\n*,10,11,130,20\n", "demand.csv record 2: sd is above mean, and"),
-        ("types.csv", FIGURES["types.csv"].replace("E190", "E290"), "costs.csv record 3: E190 has no type by types.csv"),
-        ("fuel.csv", "station,price\nZRH,800\n", "legs.csv record 3: fuel.csv has no price of fuel at LHR"),
-    ],
-)
+@pytest.mark.parametrize("name, text, wanted", [
+    ("demand.csv", "flight,mean,sd,fare,recapture\nFP1,125,37.5,130,20\n", "legs.csv record 3: FP2 has no demand by demand.csv"),
+    ("demand.csv", "flight,mean,sd,fare,recapture\n*,10,11,130,20\n", "demand.csv record 2: sd is above mean, and"),
+    ("types.csv", FIGURES["types.csv"].replace("E190", "E290"), "costs.csv record 3: E190 has no type by types.csv"),
+    ("fuel.csv", "station,price\nZRH,800\n", "legs.csv record 3: fuel.csv has no price of fuel at LHR"),
+])  # fmt: skip
 def test_figures_that_lack(name: str, text: str, wanted: str, scratch: Path) -> None:
     """Figures that lack a record, or don't read, refuse the scenario with file and record."""
     lay(scratch, {**FIGURES, name: text})
@@ -186,16 +160,11 @@ UNREAD = {
 @pytest.mark.parametrize("changes", UNREAD)
 def test_refused_record(changes: str, scratch: Path) -> None:
     """A change that would undo another one, and one without its form, end the run before it begins."""
-    lay(scratch, {"scenarios.csv": f"scenario,words,folder,changes\na,,,{changes}\n"})
-    with pytest.raises(Unread) as error:
-        scenarios_of(str(scratch / "scenarios.csv"))
-    assert str(error.value) == f"{scratch / 'scenarios.csv'} record 2: {UNREAD[changes]}"
+    assert unread(scratch, "scenario,words,folder,changes", f"a,,,{changes}") == f"scenarios.csv record 2: {UNREAD[changes]}"
 
 
 def test_files(scratch: Path) -> None:
     """The figures are among the files that a scenario comes from where it prices pairs, and only there; its own stand before the base's."""
-    for name in ("base", "own"):
-        (scratch / name).mkdir()
     lay(scratch / "base", {it: text for it, text in FIGURES.items() if it != "fees.csv"})
     lay(scratch / "own", {"demand.csv": FIGURES["demand.csv"]})
     lay(scratch, {"scenarios.csv": "scenario,words,folder,changes\na,,own,demand *1\nb,,,fuel *2\nc,,,cost A320 *2\n"})

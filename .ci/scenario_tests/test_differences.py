@@ -5,9 +5,7 @@ from pathlib import Path
 from typing import Any, Dict, Tuple
 
 import pytest
-from fleetplan.errors import Unread
-from scenario_tests.laid import FAULT, INFEASIBLE, REFUSED, Ended, column, lay_run, optimal, records
-from steps.listing import scenarios_of
+from scenario_tests.laid import FAULT, INFEASIBLE, REFUSED, Ended, column, lay, lay_run, optimal, records, unread
 from steps.page import bars_of
 from steps.differences import Interval
 
@@ -87,15 +85,10 @@ def test_aircraft_and_legs(scratch: Path) -> None:
     assert (found["used difference F1"], found["used difference F2"], found["refleeted"]) == ("-1", "2", "2")
 
 
-@pytest.mark.parametrize(
-    "rotations, wanted",
-    [
-        (("tour of 2 legs in 1 days", "unused"), ""),
-        (("tour of 2 legs in 1 days without throughs", "too few nights 1 of 3"), "F2"),
-        (("apart 2 legs", "visits spent"), "F1 F2"),
-        (("none", "tour of 4 legs in 2 days"), "F1"),
-    ],
-)
+@pytest.mark.parametrize("rotations, wanted", [
+    (("tour of 2 legs in 1 days", "unused"), ""), (("tour of 2 legs in 1 days without throughs", "too few nights 1 of 3"), "F2"),
+    (("apart 2 legs", "visits spent"), "F1 F2"), (("none", "tour of 4 legs in 2 days"), "F1"),
+])  # fmt: skip
 def test_no_tour(rotations: Tuple[str, str], wanted: str, scratch: Path) -> None:
     """A fleet without a tour is marked, in the table and on the page."""
     lay_run(scratch, f"{HEADER}\nbase,,,\none,,,aircraft F1 -1\n", {"base": optimal(1), "one": optimal(1, rotations=rotations)})
@@ -137,8 +130,7 @@ def test_words(changes: str, scratch: Path) -> None:
 def test_words_against_a_base(scratch: Path) -> None:
     """What a scenario changed is told against its base: what both have isn't, and what the base alone has is."""
     for name in ("own", "ours"):
-        (scratch / name).mkdir()
-        (scratch / name / "legs.csv").write_text("", encoding="utf-8")
+        lay(scratch / name, {"legs.csv": ""})
     listed = [
         "base,--days 4,own,cost F1 *1.1; aircraft F2 -1,",
         "more,--days 4,own,cost  F1 *1.1; aircraft F2 -1; aircraft F2 -1,base",
@@ -181,10 +173,7 @@ UNREAD = {
 @pytest.mark.parametrize("listed", UNREAD)
 def test_refused(listed: str, scratch: Path) -> None:
     """A base that isn't there, and times that are none, are told with their record."""
-    (scratch / "scenarios.csv").write_text(listed, encoding="utf-8")
-    with pytest.raises(Unread) as error:
-        scenarios_of(str(scratch / "scenarios.csv"))
-    assert str(error.value) == f"{scratch / 'scenarios.csv'} {UNREAD[listed]}"
+    assert unread(scratch, *listed.splitlines()) == f"scenarios.csv {UNREAD[listed]}"
 
 
 DAYS = f"""{HEADER},base,times
@@ -240,11 +229,8 @@ def test_bars() -> None:
     """Bars begin at 0, whatever the numbers are, and what isn't known is told apart from what is."""
     found = bars_of({"up": Interval(30, 30), "down": Interval(-20, -10), "both": Interval(-10, 20), "none": Interval(0, 0)}, 100)
     assert [(it.zero, it.left, it.width, it.more_left, it.more_width, it.is_exact) for it in found.values()] == [
-        (40, 40, 60, 100, 0, True),
-        (40, 20, 20, 0, 20, False),
-        (40, 40, 0, 20, 60, False),
-        (40, 40, 0, 40, 0, True),
-    ]
+        (40, 40, 60, 100, 0, True), (40, 20, 20, 0, 20, False), (40, 40, 0, 20, 60, False), (40, 40, 0, 40, 0, True),
+    ]  # fmt: skip
     assert bars_of({"one": Interval(300, 305)}, 610)["one"][:5] == (0, 0, 600, 600, 10)
 
 

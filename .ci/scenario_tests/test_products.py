@@ -4,7 +4,7 @@ from pathlib import Path
 from typing import Dict, List, Tuple
 
 import pytest
-from fleetplan.errors import Unread
+from scenario_tests.laid import lay, unread
 from scenario_tests.rows import TABLES
 from steps.laying import changed
 from steps.listing import Scenario, scenarios_of
@@ -14,7 +14,7 @@ HEADER = "scenario,words,folder,changes"
 
 def listed(folder: Path, *records: str, header: str = HEADER) -> Dict[str, Scenario]:
     """Returns the scenarios of records."""
-    (folder / "scenarios.csv").write_text("\n".join([header, *records, ""]), encoding="utf-8")
+    lay(folder, {"scenarios.csv": "\n".join([header, *records, ""])})
     return scenarios_of(str(folder / "scenarios.csv"))
 
 
@@ -27,10 +27,7 @@ PRODUCTS: Dict[str, Dict[str, Tuple[str, str]]] = {
     "a,,,cost F100 *1.01..1.05/0.01": {f"a_{it}": ("", f"cost F100 *{it}") for it in ("1.01", "1.02", "1.03", "1.04", "1.05")},
     "a,,,cost F100 *0.9..1.1/0.1": {f"a_{it}": ("", f"cost F100 *{it}") for it in ("0.9", "1", "1.1")},
     '"a","--days {3,4}",,"aircraft {F70,F100} -1"': {
-        "a_3_F70": ("--days 3", "aircraft F70 -1"),
-        "a_3_F100": ("--days 3", "aircraft F100 -1"),
-        "a_4_F70": ("--days 4", "aircraft F70 -1"),
-        "a_4_F100": ("--days 4", "aircraft F100 -1"),
+        f"a_{days}_{fleet}": (f"--days {days}", f"aircraft {fleet} -1") for days in ("3", "4") for fleet in ("F70", "F100")
     },
     "a,--days {3..5},,": {f"a_{it}": (f"--days {it}", "") for it in ("3", "4", "5")},
     '"a",,,"only-day {1..2,7}; {,aircraft F70 -1..+0}"': {
@@ -55,8 +52,7 @@ def test_product(record: str, scratch: Path) -> None:
 def test_folders(scratch: Path) -> None:
     """A list of folders has a scenario for each."""
     for name in ("sat", "sun"):
-        (scratch / name).mkdir()
-        (scratch / name / "legs.csv").write_text("", encoding="utf-8")
+        lay(scratch / name, {"legs.csv": ""})
     found = listed(scratch, '"a",,"{,sat,sun}",')
     assert {name: it.folder for name, it in found.items()} == {"a": None, "a_sat": str(scratch / "sat"), "a_sun": str(scratch / "sun")}
 
@@ -72,14 +68,8 @@ def test_stable_names(scratch: Path) -> None:
 def test_bases_of_choices(scratch: Path) -> None:
     """A base may be named by what is chosen in its record."""
     found = listed(scratch, "day,,,only-day 1..2,day_{1}", '"less",,,"only-day 1..2; aircraft {F70,F100} -1",day_{1}', header=f"{HEADER},base")
-    assert {name: it.base for name, it in found.items()} == {
-        "day_1": "day_1",
-        "day_2": "day_2",
-        "less_1_F70": "day_1",
-        "less_1_F100": "day_1",
-        "less_2_F70": "day_2",
-        "less_2_F100": "day_2",
-    }
+    bases = {"day_1": "day_1", "day_2": "day_2", **{f"less_{day}_{fleet}": f"day_{day}" for day in (1, 2) for fleet in ("F70", "F100")}}
+    assert {name: it.base for name, it in found.items()} == bases
 
 
 def test_a_thousand(scratch: Path) -> None:
@@ -120,23 +110,19 @@ UNREAD = {
 @pytest.mark.parametrize("record", UNREAD)
 def test_refused(record: str, scratch: Path) -> None:
     """A list or a range that doesn't read, and more scenarios than a run may have, are told before anything is made of them."""
-    with pytest.raises(Unread) as error:
-        listed(scratch, record)
-    assert str(error.value) == f"{scratch / 'scenarios.csv'} record 2: {UNREAD[record]}"
+    assert unread(scratch, HEADER, record) == f"scenarios.csv record 2: {UNREAD[record]}"
 
 
 def test_too_many_records(scratch: Path) -> None:
     """The records together may have no more than a run may."""
-    with pytest.raises(Unread) as error:
-        listed(scratch, "a,,,parking ZRH 1..9999", "b,,,", "c,,,")
-    assert str(error.value) == f"{scratch / 'scenarios.csv'} record 4: there would be 10,001 scenarios, and a run may have 10,000"
+    told = unread(scratch, HEADER, "a,,,parking ZRH 1..9999", "b,,,", "c,,,")
+    assert told == "scenarios.csv record 4: there would be 10,001 scenarios, and a run may have 10,000"
 
 
 def test_a_choice_that_is_none(scratch: Path) -> None:
     """A base that speaks of a choice that its record hasn't is told."""
-    with pytest.raises(Unread) as error:
-        listed(scratch, "day,,,only-day 1..2,day_{2}", header=f"{HEADER},base")
-    assert str(error.value) == f"{scratch / 'scenarios.csv'} record 2: day_{{2}} speaks of choice 2, and its record has 1"
+    told = unread(scratch, f"{HEADER},base", "day,,,only-day 1..2,day_{2}")
+    assert told == "scenarios.csv record 2: day_{2} speaks of choice 2, and its record has 1"
 
 
 NIGHT = TABLES["legs.csv"] + "X3,AAA,23:30,BBB,00:30\n"
@@ -157,8 +143,7 @@ CHANGES: List[Tuple[str, str, str, str]] = [
 @pytest.mark.parametrize("legs, changes, table, wanted", CHANGES, ids=[f"{it[1]} {it[2]}" for it in CHANGES])
 def test_change(legs: str, changes: str, table: str, wanted: str, scratch: Path) -> None:
     """A fleet turns slower or faster, and a leg of a pair of stations arrives later or earlier; it departs when it did, and costs the same."""
-    for name, text in {**TABLES, **({"legs.csv": legs} if legs else {})}.items():
-        (scratch / name).write_text(text, encoding="utf-8")
+    lay(scratch, {**TABLES, **({"legs.csv": legs} if legs else {})})
     assert changed(str(scratch), changes.split("; ")) is None
     assert (scratch / table).read_text(encoding="utf-8") == wanted
 
@@ -177,7 +162,6 @@ REFUSED = {
 @pytest.mark.parametrize("changes", REFUSED)
 def test_refused_change(changes: str, scratch: Path) -> None:
     """A turn or a block that may not be is told, and no table is changed."""
-    for name, text in TABLES.items():
-        (scratch / name).write_text(text, encoding="utf-8")
+    lay(scratch, TABLES)
     assert changed(str(scratch), changes.split("; ")) == f"{changes.split('; ')[-1]}: {REFUSED[changes]}"
     assert {it.name: it.read_text(encoding="utf-8") for it in scratch.glob("*.csv")} == TABLES

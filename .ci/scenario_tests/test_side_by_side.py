@@ -8,7 +8,7 @@ from pathlib import Path
 from typing import Any, Dict, Iterator, List, Sequence, Tuple
 
 import pytest
-from scenario_tests.laid import FAULT, INFEASIBLE, REFUSED, Ended, lay_run, optimal
+from scenario_tests.laid import FAULT, INFEASIBLE, REFUSED, Ended, lay, lay_run, optimal
 
 TOP = Path(__file__).resolve().parent.parent.parent
 NIGHTS = ("tour of 2 legs in 1 days", "too few nights 1 of 3")
@@ -31,17 +31,9 @@ def test_table(scratch: Path) -> None:
     """Rows are changes, and columns what they are compared with. What can't be flown as asked is marked."""
     ended = {"week": optimal(1986460), "week-F1": optimal(1986460 + 16760), "mon": optimal(303480), "mon-F1": optimal(303480, rotations=NIGHTS)}
     lay_run(scratch, LISTED, {**ended, "mon-F2": Ended("gap", 304480, 301480)})
-    assert called("table", scratch) == (
-        0,
-        "|  | week | mon |\n"
-        "|---|---|---|\n"
-        "| as it is | 1,986,460 | 303,480 |\n"
-        "| one F1 less | 16,760 | 0 \\* |\n"
-        "| one F2 less |  | -2,000 to 1,000 |\n"
-        "\n"
-        "\\* A fleet has no tour, or none was found, so this plan can't be flown as asked.\n",
-        "",
-    )
+    rows = "| as it is | 1,986,460 | 303,480 |\n| one F1 less | 16,760 | 0 \\* |\n| one F2 less |  | -2,000 to 1,000 |\n"
+    note = "\\* A fleet has no tour, or none was found, so this plan can't be flown as asked.\n"
+    assert called("table", scratch) == (0, f"|  | week | mon |\n|---|---|---|\n{rows}\n{note}", "")
 
 
 def test_table_of_days(scratch: Path) -> None:
@@ -71,14 +63,9 @@ REFUSALS: List[Tuple[str, Sequence[str], int, str]] = [
     ("table", ["empty"], 6, "tools/scenarios/table: empty/summary.csv is empty\n"),
     ("table", ["short"], 6, "tools/scenarios/table: short/summary.csv record 2: it has 1 fields, it should have 8\n"),
     ("table", ["words"], 6, "tools/scenarios/table: words/summary.csv record 2: a cost, a bound or a number of aircraft is none\n"),
-    (
-        "table",
-        ["old"],
-        6,
-        "tools/scenarios/table: old/summary.csv record 1: there is no column base, changes, cost difference, no tour: call the run once more, "
-        "which writes the summary anew\n",
-    ),
-]
+    ("table", ["old"], 6, "tools/scenarios/table: old/summary.csv record 1: there is no column base, changes, cost difference, no tour: "
+     "call the run once more, which writes the summary anew\n"),
+]  # fmt: skip
 HEADER = "scenario,outcome,cost,bound,base,changes,cost difference,no tour"
 SUMMARIES = {
     "empty": "",
@@ -94,8 +81,7 @@ def test_refused(tool: str, words: Sequence[str], status: int, wanted: str, scra
     """Words that are no call, and summaries that don't read, are told in one line."""
     monkeypatch.chdir(scratch)
     for name, text in SUMMARIES.items():
-        Path(name).mkdir()
-        Path(name, "summary.csv").write_text(text, encoding="utf-8")
+        lay(Path(name), {"summary.csv": text})
     assert called(tool, *words) == (status, "", wanted)
 
 

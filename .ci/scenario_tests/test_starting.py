@@ -10,15 +10,9 @@ from steps.starting import Wanted, forecast, is_dry, is_done, locked, own_second
 
 # What config.yaml says of pictures, how many scenarios there are, whether they are drawn, and whether it is told that they aren't.
 PICTURES: List[Tuple[object, int, bool, bool]] = [
-    ("", 200, True, False),
-    ("", 201, False, True),
-    (None, 201, False, True),
-    (True, 201, True, False),
-    (False, 5, False, False),
-    (False, 201, False, False),
-    ("True", 201, True, False),
-    ("false", 5, False, False),
-]
+    ("", 200, True, False), ("", 201, False, True), (None, 201, False, True), (True, 201, True, False), (False, 5, False, False),
+    (False, 201, False, False), ("True", 201, True, False), ("false", 5, False, False),
+]  # fmt: skip
 
 
 @pytest.mark.parametrize("asked, number, is_drawn, is_told", PICTURES)
@@ -34,19 +28,12 @@ def test_pictures_that_are_neither() -> None:
     assert str(error.value) == "pictures: maybe in config.yaml is none of true, false and nothing"
 
 
-@pytest.mark.parametrize(
-    "words, wanted",
-    [
-        (["snakemake", "-n"], True),
-        (["snakemake", "--dry-run", "--cores", "4"], True),
-        (["snakemake", "-np"], True),
-        (["snakemake", "--directory", "run", "-s", "Snakefile", "--cores", "4"], False),
-        (["snakemake", "--nolock"], False),
-    ],
-)
-def test_dry_run(words: List[str], wanted: bool) -> None:
+@pytest.mark.parametrize("words, wanted", [
+    ("-n", True), ("--dry-run --cores 4", True), ("-np", True), ("--directory run -s Snakefile --cores 4", False), ("--nolock", False),
+])  # fmt: skip
+def test_dry_run(words: str, wanted: bool) -> None:
     """A call asks what would be done by --dry-run, or -n."""
-    assert is_dry(words) == wanted
+    assert is_dry(["snakemake", *words.split()]) == wanted
 
 
 PLAIN, WHOLE = Wanted(2000, 3, False, False), Wanted(2000, 3, True, True)

@@ -7,9 +7,8 @@ from pathlib import Path
 from typing import Dict, Iterable, List, Mapping, Tuple
 
 import pytest
-from fleetplan.errors import Unread
 from fleetplan.words import Call
-from scenario_tests.laid import summed as sum_up
+from scenario_tests.laid import lay, summed as sum_up, unread
 from scenario_tests.rows import ASKED, ASKED_TEXT, CHANGES, CHECKED, FLAGS, HEADER, OUTCOMES, PERIODS, PLAIN, REFUSED, SOLVED, TABLES
 from scenario_tests.rows import UNREAD, ended
 from steps.laying import changed
@@ -22,13 +21,6 @@ from steps.running import Limits
 TOP = Path(__file__).resolve().parent.parent.parent
 LIMITS = Limits(100, 1)
 SOLD = scenarios_of(str(TOP / "examples" / "which-to-sell" / "scenarios.csv"))
-
-
-def lay(folder: Path, tables: Mapping[str, str]) -> None:
-    """Writes tables into a folder."""
-    folder.mkdir(parents=True, exist_ok=True)
-    for name, text in tables.items():
-        (folder / name).write_text(text, encoding="utf-8")
 
 
 def listed(folder: Path, record: str) -> Scenario:
@@ -66,9 +58,7 @@ def test_record(record: str, tables: Mapping[str, str], words: List[str], files:
 @pytest.mark.parametrize("record", UNREAD)
 def test_refused_record(record: str, scratch: Path) -> None:
     """A record that doesn't read is told."""
-    with pytest.raises(Unread) as error:
-        listed(scratch, record)
-    assert str(error.value) == f"{scratch}/scenarios.csv record 2: {UNREAD[record]}"
+    assert unread(scratch, "scenario,words,folder,changes", record) == f"scenarios.csv record 2: {UNREAD[record]}"
 
 
 @pytest.mark.parametrize("name", SOLD)
