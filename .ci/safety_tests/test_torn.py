@@ -4,8 +4,9 @@ their rows, and the next call makes them anew."""
 import json
 import os
 import tempfile
+from functools import partial
 from pathlib import Path
-from typing import Any, Callable, Dict, List, Tuple
+from typing import Callable, Dict, List
 
 import pytest
 from breaking import MEMORY
@@ -39,63 +40,34 @@ def as_loop(path: Path) -> None:
     path.symlink_to(path.name)
 
 
-def of(data: bytes) -> Callable[[Path], None]:
-    """Returns what puts other bytes into a file."""
-
-    def put(path: Path) -> None:
-        path.write_bytes(data)
-
-    return put
-
-
+# What else a file may have in it.
+DATA = {
+    "empty": b"", "zeros": b"\0" * 512, "a letter of no text": b'{"told": "\xff\xfe"}', "a list": b"[1]", "a number": b"70", "nothing": b"null",
+    "no number": b'{"told": "", "seconds": NaN, "memory": 1, "sums": {}, "asked": NaN}', "deep": b"[" * 100_000,
+    "long": b'{"fault": "' + b"x" * (1 << 24) + b'"}', "two": b'{"fault": "x"}{"fault": "x"}', "a fault that is no text": b'{"fault": 7}',
+    "another": b'{"other": 1}',
+}  # fmt: skip
 # Ways in which any of the files may be torn.
-WAYS: Dict[str, Callable[[Path], None]] = {
-    "half": half,
-    "empty": of(b""),
-    "zeros": of(b"\0" * 512),
-    "a letter of no text": of(b'{"told": "\xff\xfe"}'),
-    "a list": of(b"[1]"),
-    "a number": of(b"70"),
-    "nothing": of(b"null"),
-    "no number": of(b'{"told": "", "seconds": NaN, "memory": 1, "sums": {}, "asked": NaN}'),
-    "deep": of(b"[" * 100_000),
-    "long": of(b'{"fault": "' + b"x" * (1 << 24) + b'"}'),
-    "two": of(b'{"fault": "x"}{"fault": "x"}'),
-    "a fault that is no text": of(b'{"fault": 7}'),
-    "another": of(b'{"other": 1}'),
-    "a folder": as_folder,
-    "a loop": as_loop,
-}
-# Of each file answers that lack something, or have it in another form.
-OTHERS: List[Tuple[str, Callable[[Dict[str, Any]], object]]] = [
-    ("answer", lambda it: it.pop("told")),
-    ("answer", lambda it: it.pop("seconds")),
-    ("answer", lambda it: it.update(seconds=True)),
-    ("answer", lambda it: it.update(memory=1.5)),
-    ("answer", lambda it: it.update(memory=-1)),
-    ("answer", lambda it: it.pop("reading")),
-    ("answer", lambda it: it.update(reading="--windows")),
-    ("answer", lambda it: it.update(solved=None)),
-    ("answer", lambda it: it["solved"].update(cost="7x")),
-    ("answer", lambda it: it["solved"].update(cost=70)),
-    ("answer", lambda it: it["solved"].pop("bound")),
-    ("answer", lambda it: it["solved"].update(outcome=["optimal"])),
-    ("answer", lambda it: it["solved"].update(outcome="best")),
-    ("answer", lambda it: it["solved"].update(splits=None)),
-    ("answer", lambda it: it["solved"].update(fleets=[{"name": "F1"}])),
-    ("answer", lambda it: it["solved"].update(fleets=[[]])),
-    ("answer", lambda it: it["solved"].update(rotations=[None])),
-    ("check", lambda it: it.clear()),
-    ("check", lambda it: it.pop("told")),
-    ("check", lambda it: it.update(told=["holds: "])),
-    ("check", lambda it: it.pop("sums")),
-    ("check", lambda it: it.update(sums=[])),
-    ("check", lambda it: it.update(sums={"plan.csv": 1})),
-    ("sizes", lambda it: it.update(asked={"F1": {}})),
-    ("sizes", lambda it: it.update(asked=[["F1"]])),
-    ("sizes", lambda it: it.update(asked=[[1, {}]])),
-    ("sizes", lambda it: it.update(asked=[["F1", {"less": None}]])),
-]
+WAYS: Dict[str, Callable[[Path], object]] = {
+    "half": half, "a folder": as_folder, "a loop": as_loop, **{name: partial(Path.write_bytes, data=it) for name, it in DATA.items()},
+}  # fmt: skip
+# What stands in another form in each file, and in what `solve` answered; `...` is left out.
+OTHERS: Dict[str, List[Dict[str, object]]] = {
+    "answer": [
+        {"told": ...}, {"seconds": ...}, {"seconds": True}, {"memory": 1.5}, {"memory": -1}, {"reading": ...}, {"reading": "--windows"},
+        {"solved": None},
+    ],
+    "solved": [
+        {"cost": "7x"}, {"cost": 70}, {"bound": ...}, {"outcome": ["optimal"]}, {"outcome": "best"}, {"splits": None}, {"fleets": [{"name": "F1"}]},
+        {"fleets": [[]]}, {"rotations": [None]},
+    ],
+    "check": [
+        dict.fromkeys(("told", "seconds", "memory", "sums"), ...), {"told": ...}, {"told": ["holds: "]}, {"sums": ...}, {"sums": []},
+        {"sums": {"plan.csv": 1}},
+    ],
+    "sizes": [{"asked": it} for it in ({"F1": {}}, [["F1"]], [[1, {}]], [["F1", {"less": None}]])],
+}  # fmt: skip
+CHANGES = [(part, change) for part, changes in OTHERS.items() for change in changes]
 
 
 def lay(folder: Path) -> Path:
@@ -129,13 +101,17 @@ def test_torn(name: str, way: str, scratch: Path) -> None:
     hurt(scratch, name)
 
 
-@pytest.mark.parametrize("at", range(len(OTHERS)))
+@pytest.mark.parametrize("at", range(len(CHANGES)))
 def test_lacking(at: int, scratch: Path) -> None:
     """So does an answer that lacks something, or has it in another form."""
-    name, change = OTHERS[at]
+    part, change = CHANGES[at]
+    name = "answer" if part == "solved" else part
     place = lay(scratch) / PLACES[name]
     answer = json.loads(place.read_text(encoding="ascii"))
-    change(answer)
+    own = answer["solved"] if part == "solved" else answer
+    own.update(change)
+    for it in (it for it, value in change.items() if value is ...):
+        del own[it]
     place.write_text(json.dumps(answer), encoding="ascii")
     hurt(scratch, name)
 
