@@ -1,27 +1,14 @@
 """Calls of tools/costs within this process, and what stands in folders."""
 
-import contextlib
 import csv
-import importlib.machinery
-import io
 from pathlib import Path
-from types import ModuleType
 from typing import Dict, List, NamedTuple, Tuple
 
-TOP = Path(__file__).resolve().parent.parent.parent
+from ssim_tests.trying import TOP, heard, load_tool
+
 EXAMPLE = TOP / "examples" / "demand"
 WRITTEN = ("costs-parts.csv", "costs.html", "costs.csv")
-
-
-def load_tool() -> ModuleType:
-    """Returns tools/costs as a module."""
-    loader = importlib.machinery.SourceFileLoader("costs", str(TOP / "tools" / "costs"))
-    module = ModuleType("costs")
-    loader.exec_module(module)
-    return module
-
-
-tool = load_tool()
+tool = load_tool("costs")
 
 
 class Answer(NamedTuple):
@@ -33,10 +20,8 @@ class Answer(NamedTuple):
 
 def call(*words: object) -> Answer:
     """Calls the tool."""
-    told = io.StringIO()
-    with contextlib.redirect_stderr(told):
-        status = tool.main([str(it) for it in words])
-    return Answer(status, [it[len("costs: ") :] if it.startswith("costs: ") else it for it in told.getvalue().splitlines()])
+    status, told = heard(tool, words)
+    return Answer(status, [it[len("costs: ") :] if it.startswith("costs: ") else it for it in told.splitlines()])
 
 
 def standing(folder: Path) -> Dict[str, bytes]:

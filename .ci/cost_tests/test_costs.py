@@ -15,13 +15,10 @@ HEADER = "flight,mean,sd,fare,recapture\n"
 TYPES = "fleet,seats,departure,minute,fuel,longest,closed\n"
 # By numeric integration: mean, sd, seats, fare and recapture, the operating cost; the spill and the cost.
 INTEGRATED = [
-    ("120,36", "180", "120,0", "6000", "0.714", 6086),
-    ("150,45", "150", "100,0", "6000", "17.952", 7795),
-    ("165,49.5", "180", "130,20", "7350", "13.147", 8717),
-    ("165,49.5", "106", "130,20", "5410", "61.823", 11840),
-    ("300,90", "106", "130,20", "5410", "194.499", 25638),
-    ("181,0", "180", "1001,50", "5000", "1.000", 5501),
-]
+    ("120,36", "180", "120,0", "6000", "0.714", 6086), ("150,45", "150", "100,0", "6000", "17.952", 7795),
+    ("165,49.5", "180", "130,20", "7350", "13.147", 8717), ("165,49.5", "106", "130,20", "5410", "61.823", 11840),
+    ("300,90", "106", "130,20", "5410", "194.499", 25638), ("181,0", "180", "1001,50", "5000", "1.000", 5501),
+]  # fmt: skip
 
 
 @pytest.mark.parametrize("demand, seats, fare, operating, spill, cost", INTEGRATED)
@@ -56,15 +53,9 @@ def test_parts_give_each_cost_by_hand(scratch: Path) -> None:
 
 # Of each cost that is close to a half its departure, minute, fuel and fee, of a leg of 110 minutes with fuel at 800.
 HALVES = [
-    ("0.5", "0", "0", "0", 1),
-    ("0.499999", "0", "0", "0", 0),
-    ("1.25", "0", "0", "0.25", 2),
-    ("0", "0.95", "0", "0", 105),
-    ("0", "0.004545", "0", "0", 0),
-    ("0", "0", "1", "0", 1),
-    ("0.033333", "0", "1", "0", 1),
-    ("0.033334", "0", "1", "0", 2),
-]
+    ("0.5", "0", "0", "0", 1), ("0.499999", "0", "0", "0", 0), ("1.25", "0", "0", "0.25", 2), ("0", "0.95", "0", "0", 105),
+    ("0", "0.004545", "0", "0", 0), ("0", "0", "1", "0", 1), ("0.033333", "0", "1", "0", 1), ("0.033334", "0", "1", "0", 2),
+]  # fmt: skip
 
 
 @pytest.mark.parametrize("departure, minute, fuel, fee, cost", HALVES)
@@ -104,27 +95,13 @@ def test_prices_and_fees_by_station(scratch: Path) -> None:
 
 # Of each closing of the A320 the legs that it may not fly.
 CLOSED: Dict[str, List[str]] = {
-    ",": [],
-    "109,": ["FP1"],
-    "110,": [],
-    "99,": ["FP1", "FP2"],
-    "0,": ["FP1", "FP2", "FP3", "FP4"],
-    ",LHR": ["FP1", "FP2"],
-    ",LHR FRA": ["FP1", "FP2", "FP3", "FP4"],
+    ",": [], "109,": ["FP1"], "110,": [], "99,": ["FP1", "FP2"], "0,": ["FP1", "FP2", "FP3", "FP4"],
+    ",LHR": ["FP1", "FP2"], ",LHR FRA": ["FP1", "FP2", "FP3", "FP4"], ",SIN": [],
     # FP1 lands at 07:50 and FP2 departs at 08:40: closed from the first minute on, by the last.
-    ",LHR/0750-0751": ["FP1"],
-    ",LHR/0751-0840": [],
-    ",LHR/0700-0750": [],
-    ",LHR/0751-0841": ["FP2"],
-    ",LHR/2230-0500": [],
-    ",LHR/0841-0751": ["FP1"],
-    ",LHR/0840-0750": ["FP2"],
-    ",ZRH/2300-0600": [],
-    ",ZRH/2300-0601": ["FP1"],
-    ",ZRH/0600-0601 FRA/0750-0800": ["FP1", "FP4"],
-    ",LHR/0100-0200 LHR/0800-0900": ["FP2"],
-    ",SIN": [],
-}
+    ",LHR/0750-0751": ["FP1"], ",LHR/0751-0840": [], ",LHR/0700-0750": [], ",LHR/0751-0841": ["FP2"], ",LHR/2230-0500": [],
+    ",LHR/0841-0751": ["FP1"], ",LHR/0840-0750": ["FP2"], ",LHR/0100-0200 LHR/0800-0900": ["FP2"],
+    ",ZRH/2300-0600": [], ",ZRH/2300-0601": ["FP1"], ",ZRH/0600-0601 FRA/0750-0800": ["FP1", "FP4"],
+}  # fmt: skip
 
 
 @pytest.mark.parametrize("closed", CLOSED)

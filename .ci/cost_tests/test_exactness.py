@@ -6,7 +6,6 @@ import math
 from fractions import Fraction
 from pathlib import Path
 from random import Random
-from typing import Dict, List
 
 import pytest
 from hypothesis import given
@@ -71,7 +70,10 @@ def test_each_cost_is_what_its_figures_say(seed: int, scratch: Path) -> None:
     for it in drawn:
         it["block"] = Fraction(int(it["block"]) + 1)
     stations = [f"{a}{b}{c}" for a in "AB" for b in "ABCD" for c in "ABCDE"]
-    tables: Dict[str, List[str]] = {it: [] for it in ("legs", "demand", "types", "fuel", "fees", "fleets")}
+    tables = {
+        "legs": ["flight,from,dep,to,arr"], "demand": ["flight,mean,sd,fare,recapture"], "types": ["fleet,seats,departure,minute,fuel,longest,closed"],
+        "fuel": ["station,price"], "fees": ["station,fleet,fee"], "fleets": ["fleet,aircraft,turn"],
+    }  # fmt: skip
     for at, it in enumerate(drawn):
         start, end = stations[2 * at], stations[2 * at + 1]
         tables["legs"].append(f"FP{at},{start},00:00,{end},{int(it['block']) // 60:02}:{int(it['block']) % 60:02}")
@@ -80,11 +82,7 @@ def test_each_cost_is_what_its_figures_say(seed: int, scratch: Path) -> None:
         tables["fuel"].append(f"{start},{text(it['price'])}")
         tables["fees"].append(f"{end},T{at},{text(it['fee'])}")
         tables["fleets"].append(f"T{at},1,30")
-    headers = {
-        "legs": "flight,from,dep,to,arr", "demand": "flight,mean,sd,fare,recapture", "types": "fleet,seats,departure,minute,fuel,longest,closed",
-        "fuel": "station,price", "fees": "station,fleet,fee", "fleets": "fleet,aircraft,turn",
-    }  # fmt: skip
-    lay(scratch, **{name: "\n".join([headers[name], *rows, ""]) for name, rows in tables.items()})
+    lay(scratch, **{name: "\n".join([*rows, ""]) for name, rows in tables.items()})
     made = Call(Words([str(scratch)])).costs
     (scratch / "costs-parts.csv").write_text(parted_text(made), encoding="ascii")
     told = parts(scratch)

@@ -16,7 +16,7 @@ CARRIED = "flight,carried,seats,k,fare,recapture\n"
 
 
 class Case(NamedTuple):
-    """The files that are otherwise than on the day, and what is refused: its file, record and column, and its line behind the folder."""
+    """The files that are otherwise than on the day, and what is refused: its file, record and column, and why."""
 
     files: Dict[str, str]
     file: str
@@ -31,67 +31,48 @@ def changed(file: str, old: str, new: str) -> Dict[str, str]:
     return {file: DAY[f"{file}.csv"].replace(old, new, 1)}
 
 
+def carried(rows: str, record: int, column: str, why: str) -> Case:
+    """Returns the case of demand by what was carried."""
+    return Case({"demand": f"{CARRIED}{rows}\n"}, "demand.csv", record, column, why)
+
+
 def field(file: str, record: int, column: str, text: str, why: str) -> Case:
     """Returns the case of a field of the day that hasn't its form."""
     lines = [it.split(",") for it in DAY[f"{file}.csv"].splitlines()]
     lines[record - 1][lines[0].index(column)] = text
     bare = text.strip('"')
     whole = "".join(",".join(it) + "\n" for it in lines)
-    return Case({file: whole}, f"{file}.csv", record, column, f'record {record}: {column} is "{bare}": {why}')
+    return Case({file: whole}, f"{file}.csv", record, column, f'{column} is "{bare}": {why}')
 
 
 AMOUNT = "a number from 0 to 1000000000000 is wanted, with at most 6 decimals"
 PARTS = "a number from 0 to 100 is wanted, with at most 6 decimals"
 CASES = {
     # A leg, a fleet or a station without figures.
-    "a leg without demand": Case(changed("demand", "FP2,", "FP8,"), "legs.csv", 3, "flight", "record 3: FP2 has no demand by {folder}/demand.csv"),
-    "a fleet without a type": Case(changed("types", "E190", "E195"), "fleets.csv", 3, "fleet", "record 3: E190 has no type by {folder}/types.csv"),
-    "fuel without a price": Case(
-        changed("fuel", "*", "ZRH"), "legs.csv", 3, "from", "record 3: {folder}/fuel.csv has no price of fuel at LHR, and A320 burns it",
-    ),
-    "a leg that is too long for each fleet": Case(
-        {"types": TYPES.replace(",,\n", ",109,\n")}, "legs.csv", 2, "flight",
-        "record 2: FP1 may be flown by no fleet (A320: block 110 min, longest 109, E190: block 110 min, longest 109), and isn't optional",
-    ),
-    "a leg to a station that is closed to each fleet": Case(
-        {"types": TYPES.replace(",,\n", ",,FRA/0700-0800\n")}, "legs.csv", 4, "flight",
-        "record 4: FP3 may be flown by no fleet (A320: FRA is closed from 07:00 to 08:00, E190: FRA is closed from 07:00 to 08:00), and isn't optional",
-    ),
-    "no fleet": Case({"fleets": "fleet,aircraft,turn\n"}, "legs.csv", 2, "flight", "record 2: FP1 may be flown by no fleet (there is no fleet), and isn't optional"),
+    "a leg without demand": Case(changed("demand", "FP2,", "FP8,"), "legs.csv", 3, "flight", "FP2 has no demand by {folder}/demand.csv"),
+    "a fleet without a type": Case(changed("types", "E190", "E195"), "fleets.csv", 3, "fleet", "E190 has no type by {folder}/types.csv"),
+    "fuel without a price": Case(changed("fuel", "*", "ZRH"), "legs.csv", 3, "from", "{folder}/fuel.csv has no price of fuel at LHR, and A320 burns it"),
+    "a leg that is too long for each fleet": Case({"types": TYPES.replace(",,\n", ",109,\n")}, "legs.csv", 2, "flight",
+        "FP1 may be flown by no fleet (A320: block 110 min, longest 109, E190: block 110 min, longest 109), and isn't optional"),
+    "a leg to a station that is closed to each fleet": Case({"types": TYPES.replace(",,\n", ",,FRA/0700-0800\n")}, "legs.csv", 4, "flight",
+        "FP3 may be flown by no fleet (A320: FRA is closed from 07:00 to 08:00, E190: FRA is closed from 07:00 to 08:00), and isn't optional"),
+    "no fleet": Case({"fleets": "fleet,aircraft,turn\n"}, "legs.csv", 2, "flight", "FP1 may be flown by no fleet (there is no fleet), and isn't optional"),
     # Demand that no normal law tells.
-    "sd above mean": Case(
-        changed("demand", "125,37.5", "125,125.000001"), "demand.csv", 2, "sd", "record 2: sd is above mean, and no normal law with such a spread tells passengers",
-    ),
-    "k above 0.5": Case(
-        {"demand": f"{CARRIED}*,1,2,0,0,0\nFP1,100,180,0.500001,1,1\n"}, "demand.csv", 3, "k",
-        "record 3: k is above 0.5, where what is carried doesn't tell what is wanted",
-    ),
-    "carried as many as seats": Case(
-        {"demand": f"{CARRIED}*,180,180,0.3,1,1\n"}, "demand.csv", 2, "carried",
-        "record 2: carried isn't below seats, so nothing tells how many more wanted one",
-    ),
-    "carried more than seats": Case(
-        {"demand": f"{CARRIED}*,180.5,180,0.3,1,1\n"}, "demand.csv", 2, "carried",
-        "record 2: carried isn't below seats, so nothing tells how many more wanted one",
-    ),
-    "no mean up to twice the seats": Case(
-        {"demand": f"{CARRIED}*,178,180,0.3,1,1\n"}, "demand.csv", 2, "carried",
-        "record 2: carried is told by no mean up to twice the seats, with which 177.859 are carried by this k",
-    ),
+    "sd above mean": Case(changed("demand", "125,37.5", "125,125.000001"), "demand.csv", 2, "sd",
+        "sd is above mean, and no normal law with such a spread tells passengers"),
+    "k above 0.5": carried("*,1,2,0,0,0\nFP1,100,180,0.500001,1,1", 3, "k", "k is above 0.5, where what is carried doesn't tell what is wanted"),
+    "carried as many as seats": carried("*,180,180,0.3,1,1", 2, "carried", "carried isn't below seats, so nothing tells how many more wanted one"),
+    "carried more than seats": carried("*,180.5,180,0.3,1,1", 2, "carried", "carried isn't below seats, so nothing tells how many more wanted one"),
+    "no mean up to twice the seats": carried("*,178,180,0.3,1,1", 2, "carried",
+        "carried is told by no mean up to twice the seats, with which 177.859 are carried by this k"),
     "recapture above 100": field("demand", 2, "recapture", "100.000001", "it may be 0 to 100"),
     # Limits.
-    "a cost above the limit": Case(
-        changed("types", "A320,180,1500", "A320,180,1000000000000"), "legs.csv", 2, None,
-        "record 2: FP1 costs 1000000009370 with A320, and a cost is 1000000000000 at most",
-    ),
-    "too many legs": Case(
-        {"legs": DAY["legs.csv"].splitlines()[0] + "\n" + "".join(f"L{it},ZRH,06:00,LHR,07:00\n" for it in range(1001))},
-        "legs.csv", 1002, None, "record 1002: it has more than 1,000 records below its header",
-    ),
-    "too many fleets": Case(
-        {"fleets": "fleet,aircraft,turn\n" + "".join(f"F{it},1,1\n" for it in range(21))}, "fleets.csv", 22, None,
-        "record 22: it has more than 20 records below its header",
-    ),
+    "a cost above the limit": Case(changed("types", "A320,180,1500", "A320,180,1000000000000"), "legs.csv", 2, None,
+        "FP1 costs 1000000009370 with A320, and a cost is 1000000000000 at most"),
+    "too many legs": Case({"legs": DAY["legs.csv"].splitlines()[0] + "\n" + "".join(f"L{it},ZRH,06:00,LHR,07:00\n" for it in range(1001))},
+        "legs.csv", 1002, None, "it has more than 1,000 records below its header"),
+    "too many fleets": Case({"fleets": "fleet,aircraft,turn\n" + "".join(f"F{it},1,1\n" for it in range(21))}, "fleets.csv", 22, None,
+        "it has more than 20 records below its header"),
     # Numbers.
     "less than nothing": field("demand", 3, "mean", "-1", AMOUNT),
     "nothing with a minus": field("demand", 3, "fare", "-0", AMOUNT),
@@ -119,18 +100,16 @@ CASES = {
     "hours to the end of a day": field("types", 3, "closed", "LCY/2230-2400", "hours that are closed are HHMM-HHMM in UTC, 0000 to 2359, as LCY/2230-0500"),
     "hours that end when they begin": field("types", 3, "closed", "LCY/2230-2230", "hours end when they begin: for all day write the station alone"),
     # Records.
-    "a flight twice": Case({"demand": f"{DEMAND}FP1,1,1,1,1\n"}, "demand.csv", 6, "flight", "record 6: FP1 stands twice, it should stand once"),
-    "a fee twice": Case({"fees": f"{FEES}LHR,A320,1\n"}, "fees.csv", 8, "station", "record 8: LHR A320 stands twice, it should stand once"),
-    "a field too few": Case({"fuel": f"{FUEL}LHR\n"}, "fuel.csv", 3, None, "record 3: LHR, it should be 2 fields"),
-    "another header": Case(
-        changed("demand", "flight,mean,sd", "flight,sd,mean"), "demand.csv", 1, None,
-        "record 1: flight,sd,mean,fare,recapture, it should be flight,mean,sd,fare,recapture or flight,carried,seats,k,fare,recapture",
-    ),
+    "a flight twice": Case({"demand": f"{DEMAND}FP1,1,1,1,1\n"}, "demand.csv", 6, "flight", "FP1 stands twice, it should stand once"),
+    "a fee twice": Case({"fees": f"{FEES}LHR,A320,1\n"}, "fees.csv", 8, "station", "LHR A320 stands twice, it should stand once"),
+    "a field too few": Case({"fuel": f"{FUEL}LHR\n"}, "fuel.csv", 3, None, "LHR, it should be 2 fields"),
+    "another header": Case(changed("demand", "flight,mean,sd", "flight,sd,mean"), "demand.csv", 1, None,
+        "flight,sd,mean,fare,recapture, it should be flight,mean,sd,fare,recapture or flight,carried,seats,k,fare,recapture"),
     "semicolons": Case({"types": TYPES.replace(",", ";")}, "types.csv", 1, None,
-        "record 1: fleet;seats;departure;minute;fuel;longest;closed, it should be fleet,seats,departure,minute,fuel,longest,closed"),
+        "fleet;seats;departure;minute;fuel;longest;closed, it should be fleet,seats,departure,minute,fuel,longest,closed"),
     "an empty file": Case({"fees": ""}, "fees.csv", None, None, "is empty, it should begin with station,fleet,fee"),
-    "a leg that goes nowhere": Case(changed("legs", "LHR,07:50", "ZRH,07:50"), "legs.csv", 2, "to", "record 2: FP1 arrives at the station that it departs from"),
-    "a leg that takes no time": Case(changed("legs", "LHR,07:50", "LHR,06:00"), "legs.csv", 2, "arr", "record 2: FP1 arrives in the minute of its departure"),
+    "a leg that goes nowhere": Case(changed("legs", "LHR,07:50", "ZRH,07:50"), "legs.csv", 2, "to", "FP1 arrives at the station that it departs from"),
+    "a leg that takes no time": Case(changed("legs", "LHR,07:50", "LHR,06:00"), "legs.csv", 2, "arr", "FP1 arrives in the minute of its departure"),
 }  # fmt: skip
 
 
@@ -141,7 +120,8 @@ def test_refused(name: str, scratch: Path) -> None:
     lay(scratch, **case.files)
     before = standing(scratch)
     answer = call(scratch)
-    assert (answer.status, answer.told) == (6, [f"{scratch}/{case.file} {case.text.replace('{folder}', str(scratch))}"])
+    place = f"{scratch}/{case.file}" + (f" record {case.record}:" if case.record else "")
+    assert (answer.status, answer.told) == (6, [f"{place} {case.text.replace('{folder}', str(scratch))}"])
     with pytest.raises(Unread) as raised:
         Call(Words([str(scratch)]))
     assert (raised.value.file, raised.value.record, raised.value.column) == (f"{scratch}/{case.file}", case.record, case.column)

@@ -174,9 +174,7 @@ ONWARD = {
         # It arrives on Monday at 01:30 in UTC, and on Sunday in local time, on which the other one departs at 04:00 in UTC.
         [out(1, "ZRH 1800 +0100 YYT 2200 -0330", days="7", b138=ON), back(3, "YYT 2300 -0330 ZRH 0900 +0100", days="7", shifts="01")], ["ZZ1D7,ZZ3D1,40"],
     ),
-    "over midnight": (
-        [out(1, "ZRH 2000 +0100 LHR 2250 +0000", days="1", b138=ON), back(3, "LHR 0100 +0000 ZRH 0350 +0100", days="2")], [],
-    ),
+    "over midnight": ([out(1, "ZRH 2000 +0100 LHR 2250 +0000", days="1", b138=ON), back(3, "LHR 0100 +0000 ZRH 0350 +0100", days="2")], []),
 }  # fmt: skip
 
 

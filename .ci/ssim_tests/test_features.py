@@ -42,25 +42,18 @@ TABLES: Dict[str, Tuple[List[str], str, str, Dict[str, List[str]]]] = {
         "names.csv": [f"ZZ1,ZZ,1,,01,1,3,{DATE}", f"ZZ2,ZZ,2,,01,1,4,{DATE}"],
     }),
     "UTC": (LOCAL, "U", "", {"legs.csv": ["ZZ1,ZRH,08:00,LHR,09:50", "ZZ2,LHR,11:00,ZRH,12:50"]}),
-    "a Tuesday's leg that departs on the Monday in UTC": (
-        [out(1, "ZRH 0030 +0100 LHR 0220 +0000", period=TUESDAY)], "L", "",
-        {"legs.csv": ["ZZ1,ZRH,23:30,LHR,02:20"], "names.csv": ["ZZ1,ZZ,1,,01,1,3,2026-12-01"]},
-    ),
+    "a Tuesday's leg that departs on the Monday in UTC": ([out(1, "ZRH 0030 +0100 LHR 0220 +0000", period=TUESDAY)], "L", "", {
+        "legs.csv": ["ZZ1,ZRH,23:30,LHR,02:20"], "names.csv": ["ZZ1,ZZ,1,,01,1,3,2026-12-01"],
+    }),
     "a Monday's leg that departs on the Sunday in UTC": ([out(1, "ZRH 0030 +0100 LHR 0220 +0000", period=MONDAY)], "L", "", {"legs.csv": []}),
-    "a Sunday's leg that departs on the Monday in UTC": (
-        [out(1, "YYT 2330 -0330 ZRH 1030 +0100", period=SUNDAY, shifts="01")], "L", "",
-        {"legs.csv": ["ZZ1,YYT,03:00,ZRH,09:30"], "names.csv": ["ZZ1,ZZ,1,,01,1,3,2026-11-29"]},
-    ),
-    "variations of hours and minutes": (
-        [out(1, "ZRH 1300 +0100 YYT 1530 -0330"), out(2, "KTM 1310 +0545 ZRH 1740 +0100")], "L", "",
-        {"legs.csv": ["ZZ2,KTM,07:25,ZRH,16:40", "ZZ1,ZRH,12:00,YYT,19:00"]},
-    ),
-    "over midnight in local time and in UTC": (
-        [out(1, "ZRH 2155 +0100 KTM 1110 +0545", shifts="01")], "L", "", {"legs.csv": ["ZZ1,ZRH,20:55,KTM,05:25"]},
-    ),
-    "over midnight in local time alone": (
-        [out(1, "IST 2330 +0300 ADD 0330 +0300", shifts="01")], "L", "", {"legs.csv": ["ZZ1,IST,20:30,ADD,00:30"]},
-    ),
+    "a Sunday's leg that departs on the Monday in UTC": ([out(1, "YYT 2330 -0330 ZRH 1030 +0100", period=SUNDAY, shifts="01")], "L", "", {
+        "legs.csv": ["ZZ1,YYT,03:00,ZRH,09:30"], "names.csv": ["ZZ1,ZZ,1,,01,1,3,2026-11-29"],
+    }),
+    "variations of hours and minutes": ([out(1, "ZRH 1300 +0100 YYT 1530 -0330"), out(2, "KTM 1310 +0545 ZRH 1740 +0100")], "L", "", {
+        "legs.csv": ["ZZ2,KTM,07:25,ZRH,16:40", "ZZ1,ZRH,12:00,YYT,19:00"],
+    }),
+    "over midnight in local time and in UTC": ([out(1, "ZRH 2155 +0100 KTM 1110 +0545", shifts="01")], "L", "", {"legs.csv": ["ZZ1,ZRH,20:55,KTM,05:25"]}),
+    "over midnight in local time alone": ([out(1, "IST 2330 +0300 ADD 0330 +0300", shifts="01")], "L", "", {"legs.csv": ["ZZ1,IST,20:30,ADD,00:30"]}),
     "a leg that departs on the day after its date": (
         [out(1, "LIS 0010 +0000 FNC 0150 +0000", period=SUNDAY, shifts="11")], "L", "", {"legs.csv": ["ZZ1,LIS,00:10,FNC,01:50"]},
     ),
@@ -69,10 +62,9 @@ TABLES: Dict[str, Tuple[List[str], str, str, Dict[str, List[str]]]] = {
     ),
     "2400 and blanks for no shift": ([out(1, "ZRH 2245 +0000 LHR 2400 +0000", shifts="  ")], "L", "", {"legs.csv": ["ZZ1,ZRH,22:45,LHR,00:00"]}),
     "days of operation": ([out(days="234567"), back(days="1")], "L", "", {"legs.csv": ["ZZ2,LHR,11:00,ZRH,11:50"]}),
-    "periods": (
-        [out(period=("25OCT26", "29NOV26")), back(period=("30NOV26", "00XXX00")), out(3, period=("01DEC26", "00XXX00"))], "L", "",
-        {"legs.csv": ["ZZ2,LHR,11:00,ZRH,11:50"]},
-    ),
+    "periods": ([out(period=("25OCT26", "29NOV26")), back(period=("30NOV26", "00XXX00")), out(3, period=("01DEC26", "00XXX00"))], "L", "", {
+        "legs.csv": ["ZZ2,LHR,11:00,ZRH,11:50"],
+    }),
     "every second week, of weeks that begin as the period does": (
         [out(b36="2", period=("26OCT26", "22MAR27")), back(b36="2", period=("02NOV26", "22MAR27")), out(3, b36="2", period=("27OCT26", "22MAR27"))],
         "L", "", {"legs.csv": ["ZZ3,ZRH,07:00,LHR,09:50", "ZZ2,LHR,11:00,ZRH,11:50"]},
@@ -104,10 +96,9 @@ TABLES: Dict[str, Tuple[List[str], str, str, Dict[str, List[str]]]] = {
         ], "L", "",
         {"plan.csv": ["XYZ1234,320", "XYZ1235A,320", "XYZ1236D,320", "N1,320", "XYZ1235B,320", "N2,320"]},
     ),
-    "one flight number twice in a day": (
-        [out(), out(variation=2, way="ZRH 1800 +0100 LHR 1950 +0000")], "L", "",
-        {"legs.csv": ["ZZ1,ZRH,07:00,LHR,09:50", "N1,ZRH,17:00,LHR,19:50"], "names.csv": [f"ZZ1,ZZ,1,,01,1,3,{DATE}", f"N1,ZZ,1,,02,1,4,{DATE}"]},
-    ),
+    "one flight number twice in a day": ([out(), out(variation=2, way="ZRH 1800 +0100 LHR 1950 +0000")], "L", "", {
+        "legs.csv": ["ZZ1,ZRH,07:00,LHR,09:50", "N1,ZRH,17:00,LHR,19:50"], "names.csv": [f"ZZ1,ZZ,1,,01,1,3,{DATE}", f"N1,ZZ,1,,02,1,4,{DATE}"],
+    }),
     "numbers that are names already": (
         [out(1, airline="N1"), *(out(5, f"ZRH {it:02}30 +0100 LHR {it:02}50 +0000", airline="N1", variation=it) for it in range(8, 20))], "L", "",
         {"plan.csv": [f"{it},320" for it in ("N11", "N15", *(f"N{number}" for number in range(1, 11)), "N12")]},
@@ -125,9 +116,7 @@ TABLES: Dict[str, Tuple[List[str], str, str, Dict[str, List[str]]]] = {
             "throughs.csv": ["ZZ7A,ZZ7B,0", "N1,ZZ7B,0", "N2,N3,0"],
         },
     ),
-    "shared flights": (
-        [*with_segment(out(5), "050"), *with_segment(out(6), "010"), out(7, b149="Z")], "L", "", {"plan.csv": ["ZZ6,320"]},
-    ),
+    "shared flights": ([*with_segment(out(5), "050"), *with_segment(out(6), "010"), out(7, b149="Z")], "L", "", {"plan.csv": ["ZZ6,320"]}),
     "surface transport": ([out(kind="BUS"), back(service="U"), out(3)], "L", "", {"plan.csv": ["ZZ3,320"]}),
     "surface transport that is asked for": ([out(kind="BUS"), back(service="U")], "L", "--surface", {"plan.csv": ["ZZ1,BUS", "ZZ2,320"]}),
     "service types": ([*LOCAL, out(3, service="F"), out(4, service="C")], "L", "--service FC", {"plan.csv": ["ZZ3,320", "ZZ4,320"]}),
@@ -137,17 +126,15 @@ TABLES: Dict[str, Tuple[List[str], str, str, Dict[str, List[str]]]] = {
     ),
     "aircraft as the plan as filed uses": ([*LOCAL, out(3, kind="E90"), back(4, kind="E90"), out(5), back(6)], "L", "", {"fleets.csv": ["320,2,30", "E90,1,30"]}),
     "a plan as filed that isn't balanced": ([out()], "L", "", {"fleets.csv": ["320,500,30"]}),
-    "the caller's stations and fleets": (
-        LOCAL, "L", "--stations stations --fleets fleets",
-        {"stations.csv": ["ZRH,5,yes", "LHR,0,no"], "fleets.csv": ["E90,3,25", "320,2,35"], "costs.csv": ["ZZ1,320,0", "ZZ2,320,0"]},
-    ),
+    "the caller's stations and fleets": (LOCAL, "L", "--stations stations --fleets fleets", {
+        "stations.csv": ["ZRH,5,yes", "LHR,0,no"], "fleets.csv": ["E90,3,25", "320,2,35"], "costs.csv": ["ZZ1,320,0", "ZZ2,320,0"],
+    }),
     "the caller's stations with room for some aircraft at night": (
         LOCAL, "L", "--stations limited", {"stations.csv": ["ZRH,5,yes,0", "LHR,0,no,-"], "fleets.csv": ["320,1,30"]},
     ),
-    "the caller's costs": (
-        [*LOCAL, out(3, "ZRH 0900 +0100 LUG 0945 +0100")], "L", "--fleets fleets --costs costs",
-        {"costs.csv": ["ZZ1,E90,13900", "ZZ1,320,9500", "ZZ3,E90,5150", "ZZ2,E90,5500", "ZZ2,320,3500"]},
-    ),
+    "the caller's costs": ([*LOCAL, out(3, "ZRH 0900 +0100 LUG 0945 +0100")], "L", "--fleets fleets --costs costs", {
+        "costs.csv": ["ZZ1,E90,13900", "ZZ1,320,9500", "ZZ3,E90,5150", "ZZ2,E90,5500", "ZZ2,320,3500"],
+    }),
 }  # fmt: skip
 # The same of a week, which begins on the Monday.
 WEEKS: Dict[str, Tuple[List[str], Dict[str, List[str]]]] = {
@@ -158,9 +145,7 @@ WEEKS: Dict[str, Tuple[List[str], Dict[str, List[str]]]] = {
         "costs.csv": ["ZZ1D1,320,0", "ZZ2D1,320,0", "ZZ1D4,320,0", "ZZ2D5,320,0"],
         "throughs.csv": [],
         "plan.csv": ["ZZ1D1,320", "ZZ2D1,320", "ZZ1D4,320", "ZZ2D5,320"],
-        "names.csv": [
-            f"ZZ1D1,ZZ,1,,01,1,3,{DATE}", f"ZZ2D1,ZZ,2,,01,1,4,{DATE}", "ZZ1D4,ZZ,1,,01,1,3,2026-12-03", "ZZ2D5,ZZ,2,,01,1,4,2026-12-04",
-        ],
+        "names.csv": [f"ZZ1D1,ZZ,1,,01,1,3,{DATE}", f"ZZ2D1,ZZ,2,,01,1,4,{DATE}", "ZZ1D4,ZZ,1,,01,1,3,2026-12-03", "ZZ2D5,ZZ,2,,01,1,4,2026-12-04"],
     }),
     "Mondays' legs that depart on Sundays in UTC": ([out(1, "ZRH 0030 +0100 LHR 0220 +0000", days="1")], {
         "legs.csv": ["ZZ1D7,7,ZRH,23:30,LHR,02:20"], "names.csv": ["ZZ1D7,ZZ,1,,01,1,3,2026-12-07"],

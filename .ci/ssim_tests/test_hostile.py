@@ -36,17 +36,12 @@ def base() -> List[str]:
     """A small schedule with a flight of two legs, over midnight, shared flights and a bus."""
     far = leg("ZZ", 9, "ZRH 2155 +0100 KTM 1110 +0545", "333", shifts="01")
     legs = [
-        leg("ZZ", 1, "ZRH 0800 +0100 LHR 0950 +0000", "320"),
-        leg("ZZ", 2, "LHR 1100 +0000 ZRH 1250 +0100", "320"),
+        leg("ZZ", 1, "ZRH 0800 +0100 LHR 0950 +0000", "320"), leg("ZZ", 2, "LHR 1100 +0000 ZRH 1250 +0100", "320"),
         leg("ZZ", 1, "ZRH 0900 +0100 LHR 1050 +0000", "E90", "67", variation=2),
-        leg("ZZ", 7, "ZRH 2000 +0100 GVA 2045 +0100", "E90"),
-        leg("ZZ", 7, "GVA 2130 +0100 LIS 2310 +0000", "E90", sequence=2),
-        far,
-        segment(far, "010", "XY 7009"),
-        leg("ZZ", 10, "KTM 1310 +0545 ZRH 1740 +0100", "333"),
-        leg("ZZ", 11, "YYT 2230 -0330 ZRH 0915 +0100", "333", shifts="01", b36="2"),
-        leg("ZZ", 80, "ZRH 0700 +0100 BSL 0830 +0100", "BUS", service="U"),
-    ]
+        leg("ZZ", 7, "ZRH 2000 +0100 GVA 2045 +0100", "E90"), leg("ZZ", 7, "GVA 2130 +0100 LIS 2310 +0000", "E90", sequence=2),
+        far, segment(far, "010", "XY 7009"), leg("ZZ", 10, "KTM 1310 +0545 ZRH 1740 +0100", "333"),
+        leg("ZZ", 11, "YYT 2230 -0330 ZRH 0915 +0100", "333", shifts="01", b36="2"), leg("ZZ", 80, "ZRH 0700 +0100 BSL 0830 +0100", "BUS", service="U"),
+    ]  # fmt: skip
     return whole("ZZ", legs)
 
 

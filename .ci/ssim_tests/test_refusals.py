@@ -69,9 +69,7 @@ CHANGES = (
 WHOLES: Dict[str, Tuple[List[str], int, str]] = {
     "a short line": ([*LINES[:3], LINES[3][:-1], *LINES[4:]], 4, "the line has 199 bytes (bytes 1 to 199), it should be 200 bytes long"),
     "no trailer": (LINES[:7], 8, "the file ends (bytes 1 to 200), it should be 5, the trailer, behind lines of zeros"),
-    "a carrier that doesn't follow": (
-        [*LINES[:7], LINES[7][:193] + "C" + LINES[7][194:]], 9, "the file ends (bytes 1 to 200), it should be 2, a carrier",
-    ),
+    "a carrier that doesn't follow": ([*LINES[:7], LINES[7][:193] + "C" + LINES[7][194:]], 9, "the file ends (bytes 1 to 200), it should be 2, a carrier"),
     "a line behind the end": (
         [*LINES, ZEROS, LINES[3]], 10, 'record type is "3" (byte 1), it should be no record: the one before is the last trailer\'s',
     ),

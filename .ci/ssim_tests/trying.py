@@ -5,7 +5,7 @@ import importlib.machinery
 import io
 from pathlib import Path
 from types import ModuleType
-from typing import Any, List, Tuple
+from typing import Any, List, Sequence, Tuple
 
 TOP = Path(__file__).resolve().parent.parent.parent
 EXAMPLE = TOP / "examples" / "ssim"
@@ -13,15 +13,15 @@ EXAMPLE = TOP / "examples" / "ssim"
 Standing = Any
 
 
-def load_tool() -> ModuleType:
-    """Returns tools/ssim as a module."""
-    loader = importlib.machinery.SourceFileLoader("ssim", str(TOP / "tools" / "ssim"))
-    module = ModuleType("ssim")
+def load_tool(name: str) -> ModuleType:
+    """Returns a tool as a module."""
+    loader = importlib.machinery.SourceFileLoader(name, str(TOP / "tools" / name))
+    module = ModuleType(name)
     loader.exec_module(module)
     return module
 
 
-tool = load_tool()
+tool = load_tool("ssim")
 
 
 def call(*words: object) -> Tuple[int, str]:
@@ -31,9 +31,14 @@ def call(*words: object) -> Tuple[int, str]:
 
 def asked(*words: object) -> Tuple[int, str]:
     """Calls the tool, and returns its status and what stood on standard error."""
+    return heard(tool, words)
+
+
+def heard(of: ModuleType, words: Sequence[object]) -> Tuple[int, str]:
+    """Calls any tool, and returns the same."""
     told = io.StringIO()
     with contextlib.redirect_stderr(told):
-        status = tool.main([str(it) for it in words])
+        status = of.main([str(it) for it in words])
     return status, told.getvalue()
 
 
