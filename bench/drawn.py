@@ -11,7 +11,7 @@ that may fly a part of them. Of many there is no plan, since aircraft are taken 
 import random
 import sys
 import tempfile
-from typing import Callable, Dict, List, Sequence, Tuple
+from typing import Callable, List, Sequence, Tuple
 
 import hubs
 import nights
@@ -37,13 +37,11 @@ def fewer(folder: str, draw: random.Random) -> None:
 def of_hubs(folder: str, draw: random.Random) -> None:
     """Legs around hubs."""
     hubs.write(folder, draw.randrange(4, 90), draw.randrange(1, 7), draw.randrange(10**6))
-    fewer(folder, draw)
 
 
 def of_great_costs(folder: str, draw: random.Random) -> None:
     """The same with costs of any size."""
     hubs.write(folder, draw.randrange(4, 80), draw.randrange(2, 6), draw.randrange(10**6), draw.choice((3, 10**5, 10**9, MOST_COST)))
-    fewer(folder, draw)
 
 
 def of_tight(folder: str, draw: random.Random) -> None:
@@ -56,7 +54,6 @@ def of_tight(folder: str, draw: random.Random) -> None:
 def of_nights(folder: str, draw: random.Random) -> None:
     """The same with limits of parking."""
     nights.write(folder, draw.randrange(4, 80), draw.randrange(2, 6), draw.randrange(10**6), draw.randrange(0, 6))
-    fewer(folder, draw)
 
 
 def of_windows(folder: str, draw: random.Random) -> None:
@@ -72,7 +69,6 @@ def of_skips(folder: str, draw: random.Random) -> None:
 def of_weeks(folder: str, draw: random.Random) -> None:
     """A week."""
     weeks.write(folder, draw.randrange(4, 13), draw.randrange(2, 5), draw.randrange(10**6), draw.randrange(0, 2))
-    fewer(folder, draw)
 
 
 def of_rings(folder: str, draw: random.Random) -> None:
@@ -90,7 +86,6 @@ def with_all(folder: str, draw: random.Random) -> None:
     left = [(flight, draw.randrange(-2000, 30000)) for flight in flights if draw.random() < 0.4]
     put(folder, {"stations.csv": limited}, stations=LIMITED)
     put(folder, {"windows.csv": shifts, "optional.csv": left})
-    fewer(folder, draw)
 
 
 def of_any_minutes(folder: str, draw: random.Random) -> None:
@@ -106,21 +101,23 @@ def of_any_minutes(folder: str, draw: random.Random) -> None:
         legs.append((f"R{trip}", back, clock(later), out, clock(later + block)))
     costs = [(leg[0], fleet[0], draw.randrange(-50, 1000)) for leg in legs for fleet in fleets if draw.random() < 0.85]
     stations = [(code, draw.randrange(0, 30), draw.choice(("yes", "no"))) for code in codes]
-    tables: Dict[str, Sequence[Sequence[object]]] = {
-        "stations.csv": stations, "fleets.csv": fleets, "legs.csv": legs, "costs.csv": costs, "throughs.csv": []
-    }
-    put(folder, tables)
+    put(folder, {"stations.csv": stations, "fleets.csv": fleets, "legs.csv": legs, "costs.csv": costs, "throughs.csv": []})
 
 
 KINDS: Sequence[Callable[[str, random.Random], None]] = (
     of_hubs, of_great_costs, of_tight, of_nights, of_windows, of_skips, of_weeks, of_rings, with_all, of_any_minutes
 )
+# Those of which some aircraft are taken away.
+LESS = (of_hubs, of_great_costs, of_nights, of_weeks, with_all)
 
 
 def write(folder: str, number: int) -> str:
     """Writes the tables of a number, and returns when their day starts."""
     kind = KINDS[number % len(KINDS)]
-    kind(folder, random.Random(f"drawn {number}"))
+    draw = random.Random(f"drawn {number}")
+    kind(folder, draw)
+    if kind in LESS:
+        fewer(folder, draw)
     return "00:00" if kind is of_rings else DAY_START
 
 
