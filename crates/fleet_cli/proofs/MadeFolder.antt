@@ -1,5 +1,5 @@
 -- The folder in which made tables stand, as solving reads it.
-use Rattle.std.proofs.Common.{◌≡◌, ℕ, ◌-◌, List, Some, refl, sym, ap, subst, ◌∙◌, inl, inr, arith}
+use Rattle.std.proofs.Common.{◌≡◌, ℕ, List, Some, refl, sym, ap, subst, ◌∙◌, inl, inr, arith}
 use Rattle.std.proofs.lemmas.Bool.{cases_Bool}
 use Rattle.dual_bound.specs.Leaves.{has_open}
 use Rattle.branch_bound.specs.Solved.{IsRight}
