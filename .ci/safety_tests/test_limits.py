@@ -180,7 +180,7 @@ sys.path.insert(0, sys.argv[1])
 from schedule_files.files import schedule_bytes
 from schedule_files.reading import read_schedule
 
-def peak():
+def peak() -> int:
     with open("/proc/self/status") as it:
         return 1024 * int(re.search("VmHWM:\\s*([0-9]+) kB", it.read())[1])
 
