@@ -1,5 +1,5 @@
 -- The steps of a pivot.
-use Rattle.std.proofs.Common.{◌≡◌, ℕ, ◌+◌, ◌<◌, ◌≢◌, true, false, eqb, ℤ, pos, ◌<ℤ◌, List, length, Option, Some, None, option_map, unsigned_abs, sym, ◌∙◌, ap, arith, add-one, inl, inr}
+use Rattle.std.proofs.Common.{◌≡◌, ℕ, ◌+◌, ◌<◌, ◌≢◌, true, false, eqb, ℤ, pos, ◌<ℤ◌, List, length, Option, Some, None, option_map, unsigned_abs, sym, ◌∙◌, ap, arith, add-one}
 use Rattle.std.specs.Prelude.{is_some}
 use Rattle.std.proofs.lemmas.Bool.Decides.{nat_tests}
 use Rattle.sums.specs.Places.{first_below, or_else}
@@ -8,10 +8,9 @@ use Rattle.sums.proofs.Sizes.{zero_size, zero_size_tested}
 use Rattle.sums.proofs.Tests.{passed_over, picked, unlike}
 use Rattle.frac_row.specs.declared.row.FracRow.{FracRow}
 use Rattle.frac_row.specs.declared.growth.Growth.{Growth}
-use Rattle.frac_row.specs.Row.{number_of, width_of, IsRow, IsSmall}
-use Rattle.frac_row.specs.Combined.{combined_row, factors_of, growth_of}
-use Rattle.frac_row.proofs.Combinations.{small_growth, small_growth_beside}
-use Rattle.row_store.specs.Small.{IsSmallFor}
+use Rattle.frac_row.specs.Row.{number_of, IsSmall}
+use Rattle.frac_row.specs.Combined.{combined_row, growth_of}
+use Rattle.frac_row.proofs.Combinations.{small_growth}
 use Rattle.row_store.specs.Table.{row_at}
 use Rattle.row_store.specs.Pivot.{scaled_row, cleared_row, clearing_growth, new_row, row_growth, pivot_growth}
 use Rattle.row_store.specs.declared.error.Place.{Place}
@@ -43,13 +42,8 @@ unfolding clearing_growth
 growth_other row pivot_row column ne =
     passed_over (eqb (unsigned_abs (number_of row column)) 0) None (growth_of row pivot_row column) (nonzero_test (number_of row column) ne)
 
-pub growth_small : (row pivot_row : FracRow) (column : ℕ) → number_of row column ≢ pos 0 → column < width_of row → pos 0 <ℤ number_of pivot_row column → IsRow row → IsSmallFor (factors_of row pivot_row column) row pivot_row → IsSmall pivot_row → None ≡ clearing_growth row pivot_row column
-growth_small row pivot_row column ne lt some is h k =
-    sym (elim h [
-      | inl small ↦ small_growth row pivot_row column some small k
-      | inr beside ↦ small_growth_beside row pivot_row column lt some beside.0 is beside.1 k
-    ])
-    ∙ growth_other row pivot_row column ne
+pub growth_small : (row pivot_row : FracRow) (column : ℕ) → number_of row column ≢ pos 0 → pos 0 <ℤ number_of pivot_row column → IsSmall row → IsSmall pivot_row → None ≡ clearing_growth row pivot_row column
+growth_small row pivot_row column ne some h k = sym (small_growth row pivot_row column some h k) ∙ growth_other row pivot_row column ne
 
 -- ---- the rows one after another
 pub row_growth_self : (table : List FracRow) (row column place : ℕ) → place ≡ row → None ≡ row_growth table row column place

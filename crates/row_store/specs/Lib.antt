@@ -4,7 +4,6 @@ pub mod Pivot
 pub mod Choice
 pub mod PivotAnswers
 pub mod Points
-pub mod Small
 pub mod Steps
 pub mod DualValues
 pub mod Changes

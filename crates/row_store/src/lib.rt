@@ -17,6 +17,7 @@ pub mod sparse_first;
 pub mod sparse_pivoting;
 pub mod sparse_scanning;
 pub mod store;
+pub mod table_row;
 pub mod turning;
 
 pub use checks::is_problem;

@@ -1,23 +1,21 @@
 ghost use Rattle.std.specs.Prelude.{◌≡◌, ◌<◌, ◌^◌, pos, ◌<ℤ◌, None, length, IsTrue};
 ghost use Rattle.frac_row.specs.Row.{IsRow, IsSmall, number_of, width_of};
-ghost use Rattle.row_store.specs.Small.{IsSmallFor};
 ghost use Rattle.row_store.specs.Table.{IsTable, row_at, number_at, columns_of};
 ghost use Rattle.row_store.specs.Pivot.{scaled_row, cleared_row, clearing_growth, pivoted, row_growth, pivot_growth};
 
 use crate::error::{Place, place_in};
-use frac_row::{
-    Factors, FracRow, Growth, combine_in_place, growth_by, is_small, is_small_beside, reduce,
-};
+use crate::table_row::TableRow;
+use frac_row::{Factors, FracRow, Growth, combine_in_place, reduce};
 
 /// The place of the first outgrown product or difference of a pivot.
-pub fn pivot_growth(rows: &[FracRow], row: u32, column: u32) -> Option<Place>
-    requires table { IsTable rows.now }
-    requires row { row < length rows.now }
-    requires column { column < columns_of rows.now }
-    requires positive { pos 0 <ℤ number_at rows.now row column }
-    ensures { result ≡ pivot_growth rows.now row column }
+pub fn pivot_growth<R: TableRow>(rows: &[R], row: u32, column: u32) -> Option<Place>
+    requires table { IsTable (R.table rows.now) }
+    requires row { row < length (R.table rows.now) }
+    requires column { column < columns_of (R.table rows.now) }
+    requires positive { pos 0 <ℤ number_at (R.table rows.now) row column }
+    ensures { result ≡ pivot_growth (R.table rows.now) row column }
 {
-    let is_pivot_small = is_small(&rows[row as usize]);
+    let is_pivot_small = rows[row as usize].is_small();
     for other in 0..rows.len() {
         let growth = row_growth(rows, row, column, other as u32, is_pivot_small);
         if growth.is_some() {
@@ -28,20 +26,20 @@ pub fn pivot_growth(rows: &[FracRow], row: u32, column: u32) -> Option<Place>
 }
 
 /// That of one row.
-fn row_growth(
-    rows: &[FracRow],
+fn row_growth<R: TableRow>(
+    rows: &[R],
     row: u32,
     column: u32,
     other: u32,
     is_pivot_small: bool,
 ) -> Option<Place>
-    requires table { IsTable rows.now }
-    requires row { row < length rows.now }
-    requires column { column < columns_of rows.now }
-    requires positive { pos 0 <ℤ number_at rows.now row column }
-    requires other { other < length rows.now }
-    requires small { IsTrue is_pivot_small → IsSmall (row_at rows.now row) }
-    ensures { result ≡ row_growth rows.now row column other }
+    requires table { IsTable (R.table rows.now) }
+    requires row { row < length (R.table rows.now) }
+    requires column { column < columns_of (R.table rows.now) }
+    requires positive { pos 0 <ℤ number_at (R.table rows.now) row column }
+    requires other { other < length (R.table rows.now) }
+    requires small { IsTrue is_pivot_small → IsSmall (row_at (R.table rows.now) row) }
+    ensures { result ≡ row_growth (R.table rows.now) row column other }
 {
     if other == row {
         return None;
@@ -57,42 +55,28 @@ fn row_growth(
 
 /// The first outgrown product or difference on the way to a row without its number in the column. Two
 /// small rows have none, and that is quickly seen.
-fn clearing_growth(
-    row: &FracRow,
-    pivot_row: &FracRow,
+fn clearing_growth<R: TableRow>(
+    row: &R,
+    pivot_row: &R,
     column: u32,
     is_pivot_small: bool,
 ) -> Option<Growth>
-    requires row { IsRow row.now }
-    requires pivot_row { IsRow pivot_row.now }
-    requires same_width { width_of row.now ≡ width_of pivot_row.now }
-    requires columns { width_of row.now < 2 ^ 32 }
-    requires in_row { column < width_of row.now }
-    requires positive { pos 0 <ℤ number_of pivot_row.now column }
-    requires small { IsTrue is_pivot_small → IsSmall pivot_row.now }
-    ensures { result ≡ clearing_growth row.now pivot_row.now column }
+    requires row { IsRow (R.full row.now) }
+    requires pivot_row { IsRow (R.full pivot_row.now) }
+    requires same_width { width_of (R.full row.now) ≡ width_of (R.full pivot_row.now) }
+    requires columns { width_of (R.full row.now) < 2 ^ 32 }
+    requires in_row { column < width_of (R.full row.now) }
+    requires positive { pos 0 <ℤ number_of (R.full pivot_row.now) column }
+    requires small { IsTrue is_pivot_small → IsSmall (R.full pivot_row.now) }
+    ensures { result ≡ clearing_growth (R.full row.now) (R.full pivot_row.now) column }
 {
     if row.number(column) == 0 {
         return None;
     }
-    let factors = Factors::between(row, pivot_row, column);
-    if is_pivot_small && is_row_small(&factors, row, pivot_row) {
+    if is_pivot_small && row.is_small() {
         return None;
     }
-    growth_by(&factors, row, pivot_row)
-}
-
-/// Whether what matters of a row is small. Mostly its own factor is 1, and then the pivot row's zeros need
-/// no look at the numbers beside them.
-fn is_row_small(factors: &Factors, row: &FracRow, pivot_row: &FracRow) -> bool
-    requires { width_of row.now ≡ width_of pivot_row.now }
-    ensures { IsTrue result → IsSmallFor factors.now row.now pivot_row.now }
-{
-    if factors.own == 1 {
-        is_small_beside(row, pivot_row)
-    } else {
-        is_small(row)
-    }
+    row.growth(pivot_row, column)
 }
 
 /// Takes away a row's number in the column. Nothing is outgrown on the way.

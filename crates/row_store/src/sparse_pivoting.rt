@@ -7,85 +7,10 @@ ghost use Rattle.row_store.specs.Steps.{turned_row};
 
 use crate::changes::Change;
 use crate::error::Place;
-use crate::for_stores::place_in;
 use entries::NoMemory;
 use frac_row::sparse_combining::combine;
-use frac_row::sparse_growth::growth_by;
-use frac_row::sparse_sizes::is_small;
-use frac_row::{Growth, SparseRow, factors_between, scaled, turn};
+use frac_row::{SparseRow, scaled, turn};
 use std::alloc::Global;
-
-/// The place of the first outgrown product or difference of a pivot.
-pub fn pivot_growth(rows: &[SparseRow], row: u32, column: u32) -> Option<Place>
-    requires table { IsTable rows.now }
-    requires row { row < length rows.now }
-    requires column { column < columns_of rows.now }
-    requires positive { pos 0 <ℤ number_at rows.now row column }
-    ensures { result ≡ pivot_growth rows.now row column }
-{
-    let is_pivot_small = is_small(&rows[row as usize]);
-    for other in 0..rows.len() {
-        let growth = row_growth(rows, row, column, other as u32, is_pivot_small);
-        if growth.is_some() {
-            return growth;
-        }
-    }
-    None
-}
-
-/// That of one row.
-fn row_growth(
-    rows: &[SparseRow],
-    row: u32,
-    column: u32,
-    other: u32,
-    is_pivot_small: bool,
-) -> Option<Place>
-    requires table { IsTable rows.now }
-    requires row { row < length rows.now }
-    requires column { column < columns_of rows.now }
-    requires positive { pos 0 <ℤ number_at rows.now row column }
-    requires other { other < length rows.now }
-    requires small { IsTrue is_pivot_small → IsSmall (row_at rows.now row) }
-    ensures { result ≡ row_growth rows.now row column other }
-{
-    if other == row {
-        return None;
-    }
-    let growth = clearing_growth(
-        &rows[other as usize],
-        &rows[row as usize],
-        column,
-        is_pivot_small,
-    );
-    place_in(other, growth)
-}
-
-/// The first outgrown product or difference on the way to a row without its number in the column. Two
-/// small rows have none, and that is quickly seen.
-fn clearing_growth(
-    row: &SparseRow,
-    pivot_row: &SparseRow,
-    column: u32,
-    is_pivot_small: bool,
-) -> Option<Growth>
-    requires row { IsRow row.now }
-    requires pivot_row { IsRow pivot_row.now }
-    requires same_width { width_of row.now ≡ width_of pivot_row.now }
-    requires in_row { column < width_of row.now }
-    requires positive { pos 0 <ℤ number_of pivot_row.now column }
-    requires small { IsTrue is_pivot_small → IsSmall pivot_row.now }
-    ensures { result ≡ clearing_growth row.now pivot_row.now column }
-{
-    if row.number(column) == 0 {
-        return None;
-    }
-    if is_pivot_small && is_small(row) {
-        return None;
-    }
-    let factors = factors_between(row, pivot_row, column);
-    growth_by(&factors, row, pivot_row)
-}
 
 /// The rows that a pivot changes, where nothing is outgrown.
 pub fn changed_rows(
