@@ -2,9 +2,9 @@ ghost use Rattle.row_store.specs.Table.{IsTable};
 
 use crate::changes::put_rows;
 use crate::error::PivotError;
+use crate::first::first_rows;
 use crate::pivoting::pivot_growth;
 use crate::problem::Rows;
-use crate::sparse_first::first_rows;
 use crate::sparse_pivoting::{changed_rows, turn_row};
 use crate::sparse_scanning::{first_entering, least_ratio};
 use crate::store::RowStore;

@@ -1,27 +1,15 @@
 ghost use Rattle.std.specs.Prelude.{◌≡◌, ◌+◌, ◌<◌, ◌≤◌, length, neg_ℤ, IfOk};
 ghost use Rattle.sums.specs.Below.{sum_below_ℤ};
 ghost use Rattle.sums.specs.Places.{list_below};
-ghost use Rattle.row_store.specs.Problem.{IsProblem, entry, first_row, first_table};
+ghost use Rattle.row_store.specs.Problem.{IsProblem, entry, first_row};
 
 use crate::problem::Rows;
 use entries::NoMemory;
 use frac_row::{SparseRow, add_line, begun};
 use std::alloc::Global;
 
-/// The rows of the first table: the lines, the phase row, the cost row.
-pub fn first_rows(alloc: Global, rows: &Rows) -> Result<Vec<SparseRow>, NoMemory>
-    requires { IsProblem rows.now }
-    ensures { IfOk result (λ made. made.items ≡ first_table rows.now) }
-{
-    let mut made = Vec::new(alloc);
-    for row in 0..rows.lines.len() as u32 + 2 {
-        made.push(first_row(alloc, rows, row)?)?;
-    }
-    Ok(made)
-}
-
 /// The row of this number: that of a line, and after all lines the phase row and the cost row.
-fn first_row(alloc: Global, rows: &Rows, row: u32) -> Result<SparseRow, NoMemory>
+pub fn first_row(alloc: Global, rows: &Rows, row: u32) -> Result<SparseRow, NoMemory>
     requires problem { IsProblem rows.now }
     requires row { row < length rows.now.lines + 2 }
     ensures { IfOk result (λ made. made ≡ first_row rows.now row) }

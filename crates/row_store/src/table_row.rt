@@ -1,18 +1,24 @@
-ghost use Rattle.std.specs.Prelude.{◌≡◌, ◌<◌, ◌^◌, ◌↔◌, ℕ, List, pos, ◌<ℤ◌, length, slice_index_or, IsTrue, refl};
+ghost use Rattle.std.specs.Prelude.{◌≡◌, ◌<◌, ◌^◌, ◌↔◌, ◌++◌, ◌∷◌, [], ℕ, List, pos, ◌<ℤ◌, length, slice_index_or, IsTrue, IfOk, refl};
 ghost use Rattle.std.proofs.lemmas.List.{get_or_read};
 ghost use Rattle.frac_row.specs.declared.row.FracRow.{FracRow};
 ghost use Rattle.frac_row.specs.Row.{IsRow, IsSmall, number_of, width_of};
 ghost use Rattle.frac_row.specs.Combined.{growth_of};
 ghost use Rattle.row_store.specs.Table.{no_row, row_at};
 
+use entries::{Entries, NoMemory};
 use frac_row::sparse_growth::growth_by as sparse_growth_by;
 use frac_row::{Factors, FracRow, Growth, SparseRow, factors_between, growth_by};
+use std::alloc::Global;
 
 /// A row of a table, with all its numbers or with those other than 0 alone.
-pub trait TableRow: Sized {
+pub trait TableRow: Sized + Drop {
     ghost full: { Self → FracRow };
 
     ghost table: { List Self → List FracRow };
+
+    /// The row that holds these numbers.
+    fn of_sparse(alloc: Global, row: SparseRow) -> Result<Self, NoMemory>
+        ensures { IfOk result (λ made. full made ≡ row) };
 
     /// The number in a column.
     fn number(&self, column: u32) -> i128
@@ -36,6 +42,10 @@ pub trait TableRow: Sized {
 
     ghost same_length: { (rows : List Self) → length (table rows) ≡ length rows };
 
+    ghost none: { table [] ≡ [] };
+
+    ghost pushes: { (rows : List Self) (row : Self) → table (rows ++ row ∷ []) ≡ table rows ++ full row ∷ [] };
+
     ghost reads: { (rows : List Self) (place : ℕ) (read : Self) → place < length rows → read ≡ slice_index_or rows place read → full read ≡ row_at (table rows) place };
 }
 
@@ -43,6 +53,10 @@ impl TableRow for FracRow {
     ghost full = { λ row. row };
 
     ghost table = { λ rows. rows };
+
+    fn of_sparse(alloc: Global, row: SparseRow) -> Result<FracRow, NoMemory> {
+        full_row(alloc, &row)
+    }
 
     fn number(&self, column: u32) -> i128 {
         self.number(column)
@@ -58,6 +72,10 @@ impl TableRow for FracRow {
 
     ghost same_length = { λ rows. refl };
 
+    ghost none = { refl };
+
+    ghost pushes = { λ rows row. refl };
+
     ghost reads = { λ rows place read lt e. get_or_read rows place read lt e no_row };
 }
 
@@ -65,6 +83,10 @@ impl TableRow for SparseRow {
     ghost full = { λ row. row };
 
     ghost table = { λ rows. rows };
+
+    fn of_sparse(_alloc: Global, row: SparseRow) -> Result<SparseRow, NoMemory> {
+        Ok(row)
+    }
 
     fn number(&self, column: u32) -> i128 {
         self.number(column)
@@ -80,5 +102,23 @@ impl TableRow for SparseRow {
 
     ghost same_length = { λ rows. refl };
 
+    ghost none = { refl };
+
+    ghost pushes = { λ rows row. refl };
+
     ghost reads = { λ rows place read lt e. get_or_read rows place read lt e no_row };
+}
+
+/// The same row with all its numbers.
+fn full_row(alloc: Global, row: &SparseRow) -> Result<FracRow, NoMemory>
+    ensures { IfOk result (λ made. made ≡ row.now) }
+{
+    let mut numbers = Vec::new(alloc);
+    for column in 0..row.width() {
+        numbers.push(row.number(column))?;
+    }
+    Ok(FracRow {
+        numbers: Entries::from_vec(numbers),
+        den: row.den(),
+    })
 }

@@ -4,4 +4,4 @@ use Rattle.row_store.specs.Problem.{first_row}
 use Rattle.row_store.proofs.first.first_rows.Given as goal
 
 abbrev pub invariant-loop-row : goal.invariant-loop-row
-invariant-loop-row l = l.made.items ≡ list_below (first_row l.rows) l.row
+invariant-loop-row g l = g.R.TableRow.table l.made.items ≡ list_below (first_row l.rows) l.row
