@@ -1,18 +1,12 @@
 -- Rows that are to take the places of others.
-use Rattle.std.specs.Prelude.{ℕ, ◌==◌, List, [], ◌∷◌, Option, Some, None, if◌then◌else◌}
+use Rattle.std.specs.Prelude.{ℕ, List, slice_index_or, Option, Some, None}
 use Rattle.frac_row.specs.declared.row.FracRow.{FracRow}
-use Rattle.row_store.specs.declared.changes.Change.{Change}
 use Rattle.row_store.specs.Table.{row_at}
 
-abbrev pub value_or : Option FracRow → FracRow → FracRow
-value_or (Some fresh) row = fresh
-value_or None row = row
-
--- the first change of a place
-abbrev pub change_at : List Change → ℕ → Option FracRow
-change_at [] place = None
-change_at (change ∷ rest) place = if change.row == place then Some change.fresh else change_at rest place
+abbrev pub value_or : {R : Type 0} → (R → FracRow) → Option R → FracRow → FracRow
+value_or full (Some fresh) row = full fresh
+value_or full None row = row
 
 -- the row of a place, with the changes made
-abbrev pub row_after : List FracRow → List Change → ℕ → FracRow
-row_after table changes place = value_or (change_at changes place) (row_at table place)
+abbrev pub row_after : {R : Type 0} → (R → FracRow) → List FracRow → List (Option R) → ℕ → FracRow
+row_after full table changes place = value_or full (slice_index_or changes place None) (row_at table place)

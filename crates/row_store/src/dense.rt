@@ -2,7 +2,7 @@ ghost use Rattle.row_store.specs.Table.{IsTable};
 
 use crate::error::PivotError;
 use crate::first::first_rows;
-use crate::pivoting::{pivot_growth, pivot_rows};
+use crate::pivoting::pivot;
 use crate::problem::Rows;
 use crate::store::RowStore;
 use crate::turning::turn_row;
@@ -40,20 +40,8 @@ impl RowStore for Dense {
         self.rows[row as usize].den
     }
 
-    /// The bound on the sizes of two rows decides mostly that nothing is outgrown, so that the rows are
-    /// written in their places. The memory is that of one row.
     fn pivot(&mut self, row: u32, column: u32) -> Result<(), PivotError> {
-        if let Some(place) = pivot_growth(self.rows.as_slice(), row, column) {
-            return Err(PivotError::Grew {
-                row: place.row,
-                column: place.column,
-            });
-        }
-        let Ok(pivot_row) = self.rows[row as usize].copy(self.alloc) else {
-            return Err(PivotError::NoMemory);
-        };
-        pivot_rows(&mut self.rows, &pivot_row, row, column);
-        Ok(())
+        pivot(self.alloc, &mut self.rows, row, column)
     }
 
     fn turn(&mut self, row: u32) {

@@ -14,7 +14,6 @@ pub mod pivoting;
 pub mod problem;
 pub mod sparse;
 pub mod sparse_first;
-pub mod sparse_pivoting;
 pub mod sparse_scanning;
 pub mod store;
 pub mod table_row;

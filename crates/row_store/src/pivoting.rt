@@ -1,11 +1,45 @@
-ghost use Rattle.std.specs.Prelude.{◌≡◌, ◌<◌, ◌^◌, pos, ◌<ℤ◌, None, length, IsTrue};
+ghost use Rattle.std.specs.Prelude.{◌≡◌, ◌<◌, ◌^◌, pos, ◌<ℤ◌, None, length, IsTrue, IfOk, OnErr, IfErr};
 ghost use Rattle.frac_row.specs.Row.{IsRow, IsSmall, number_of, width_of};
 ghost use Rattle.row_store.specs.Table.{IsTable, row_at, number_at, columns_of};
-ghost use Rattle.row_store.specs.Pivot.{scaled_row, cleared_row, clearing_growth, pivoted, row_growth, pivot_growth};
+ghost use Rattle.row_store.specs.Pivot.{clearing_growth, pivoted, row_growth, pivot_growth};
+ghost use Rattle.row_store.specs.PivotAnswers.{IsPivotError};
 
-use crate::error::{Place, place_in};
+use crate::changes::{changed_rows, put_rows};
+use crate::error::{PivotError, Place, place_in};
 use crate::table_row::TableRow;
-use frac_row::{Factors, FracRow, Growth, combine_in_place, reduce};
+use frac_row::Growth;
+use std::alloc::Global;
+
+/// Makes the column a unit column with its 1 in the row. All rows that change are made before the first one is
+/// put in its place, so that want of memory leaves the table as it was.
+pub fn pivot<R: TableRow>(
+    alloc: Global,
+    rows: &mut Vec<R>,
+    row: u32,
+    column: u32,
+) -> Result<(), PivotError>
+    requires table { IsTable (R.table rows.old.items) }
+    requires row { row < length (R.table rows.old.items) }
+    requires column { column < columns_of (R.table rows.old.items) }
+    requires positive { pos 0 <ℤ number_at (R.table rows.old.items) row column }
+    ensures table { IsTable (R.table rows.new.items) }
+    ensures pivoted { IfOk result (λ _. R.table rows.new.items ≡ pivoted (R.table rows.old.items) row column) }
+    ensures fits { IfOk result (λ _. pivot_growth (R.table rows.old.items) row column ≡ None) }
+    ensures grew { IfErr result (IsPivotError (R.table rows.old.items) row column) }
+    ensures unchanged { OnErr result (R.table rows.new.items ≡ R.table rows.old.items) }
+{
+    if let Some(place) = pivot_growth(rows.as_slice(), row, column) {
+        return Err(PivotError::Grew {
+            row: place.row,
+            column: place.column,
+        });
+    }
+    let Ok(changes) = changed_rows(alloc, rows.as_slice(), row, column) else {
+        return Err(PivotError::NoMemory);
+    };
+    put_rows(rows, changes);
+    Ok(())
+}
 
 /// The place of the first outgrown product or difference of a pivot.
 pub fn pivot_growth<R: TableRow>(rows: &[R], row: u32, column: u32) -> Option<Place>
@@ -77,50 +111,4 @@ fn clearing_growth<R: TableRow>(
         return None;
     }
     row.growth(pivot_row, column)
-}
-
-/// Takes away a row's number in the column. Nothing is outgrown on the way.
-fn clear(row: &mut FracRow, pivot_row: &FracRow, column: u32)
-    requires row { IsRow row.old }
-    requires pivot_row { IsRow pivot_row.now }
-    requires same_width { width_of row.old ≡ width_of pivot_row.now }
-    requires in_row { column < width_of row.old }
-    requires positive { pos 0 <ℤ number_of pivot_row.now column }
-    requires fits { clearing_growth row.old pivot_row.now column ≡ None }
-    ensures { row.new ≡ cleared_row row.old pivot_row.now column }
-{
-    if row.number(column) != 0 {
-        let factors = Factors::between(row, pivot_row, column);
-        combine_in_place(row, pivot_row, &factors);
-    }
-}
-
-/// Divides the pivot row by its number in the column.
-fn scale(row: &mut FracRow, column: u32)
-    requires row { IsRow row.old }
-    requires in_row { column < width_of row.old }
-    requires positive { pos 0 <ℤ number_of row.old column }
-    ensures { row.new ≡ scaled_row row.old column }
-{
-    row.den = row.number(column);
-    reduce(row);
-}
-
-/// Pivots where nothing is outgrown. Takes no memory.
-pub fn pivot_rows(rows: &mut Vec<FracRow>, pivot_row: &FracRow, row: u32, column: u32)
-    requires table { IsTable rows.old.items }
-    requires row { row < length rows.old.items }
-    requires column { column < columns_of rows.old.items }
-    requires pivot_row { pivot_row.now ≡ row_at rows.old.items row }
-    requires positive { pos 0 <ℤ number_at rows.old.items row column }
-    requires fits { pivot_growth rows.old.items row column ≡ None }
-    ensures { rows.new.items ≡ pivoted rows.old.items row column }
-{
-    for other in 0..rows.len() {
-        if other == row as usize {
-            scale(&mut rows[other], column);
-        } else {
-            clear(&mut rows[other], pivot_row, column);
-        }
-    }
 }

@@ -1,15 +1,13 @@
 ghost use Rattle.row_store.specs.Table.{IsTable};
 
-use crate::changes::put_rows;
 use crate::error::PivotError;
 use crate::first::first_rows;
-use crate::pivoting::pivot_growth;
+use crate::pivoting::pivot;
 use crate::problem::Rows;
-use crate::sparse_pivoting::{changed_rows, turn_row};
 use crate::sparse_scanning::{first_entering, least_ratio};
 use crate::store::RowStore;
 use entries::NoMemory;
-use frac_row::SparseRow;
+use frac_row::{SparseRow, turn};
 use std::alloc::Global;
 
 /// A table that holds of each row the numbers that are not 0.
@@ -42,24 +40,12 @@ impl RowStore for Sparse {
         self.rows[row as usize].den()
     }
 
-    /// All rows that change are made before the first one is put in its place, so that want of memory
-    /// leaves the table as it was.
     fn pivot(&mut self, row: u32, column: u32) -> Result<(), PivotError> {
-        if let Some(place) = pivot_growth(self.rows.as_slice(), row, column) {
-            return Err(PivotError::Grew {
-                row: place.row,
-                column: place.column,
-            });
-        }
-        let Ok(changes) = changed_rows(self.alloc, self.rows.as_slice(), row, column) else {
-            return Err(PivotError::NoMemory);
-        };
-        put_rows(&mut self.rows, changes);
-        Ok(())
+        pivot(self.alloc, &mut self.rows, row, column)
     }
 
     fn turn(&mut self, row: u32) {
-        turn_row(&mut self.rows[row as usize]);
+        turn(&mut self.rows[row as usize]);
     }
 
     /// Reads the numbers of the phase row and the cost row one after another.

@@ -1,13 +1,17 @@
-ghost use Rattle.std.specs.Prelude.{◌≡◌, ◌<◌, ◌^◌, ◌↔◌, ◌++◌, ◌∷◌, [], ℕ, List, pos, ◌<ℤ◌, length, slice_index_or, IsTrue, IfOk, refl};
+ghost use Rattle.std.specs.Prelude.{◌≡◌, ◌<◌, ◌^◌, ◌↔◌, ◌++◌, ◌∷◌, [], ℕ, List, pos, ◌<ℤ◌, length, slice_index_or, slice_set, None, IsTrue, IfOk, refl};
 ghost use Rattle.std.proofs.lemmas.List.{get_or_read};
 ghost use Rattle.frac_row.specs.declared.row.FracRow.{FracRow};
 ghost use Rattle.frac_row.specs.Row.{IsRow, IsSmall, number_of, width_of};
-ghost use Rattle.frac_row.specs.Combined.{growth_of};
+ghost use Rattle.frac_row.specs.Combined.{combined_row, growth_of};
 ghost use Rattle.row_store.specs.Table.{no_row, row_at};
+ghost use Rattle.row_store.specs.Pivot.{scaled_row};
 
 use entries::{Entries, NoMemory};
+use frac_row::sparse_combining::combine;
 use frac_row::sparse_growth::growth_by as sparse_growth_by;
-use frac_row::{Factors, FracRow, Growth, SparseRow, factors_between, growth_by};
+use frac_row::{
+    Factors, FracRow, Growth, SparseRow, combine_in_place, factors_between, growth_by, reduce,
+};
 use std::alloc::Global;
 
 /// A row of a table, with all its numbers or with those other than 0 alone.
@@ -40,11 +44,31 @@ pub trait TableRow: Sized + Drop {
         requires positive { pos 0 <ℤ number_of (full pivot_row.now) column }
         ensures { result ≡ growth_of (full self.now) (full pivot_row.now) column };
 
+    /// The row over its number in a column, in lowest terms.
+    fn scaled(&self, alloc: Global, column: u32) -> Result<Self, NoMemory>
+        requires row { IsRow (full self.now) }
+        requires in_row { column < width_of (full self.now) }
+        requires positive { pos 0 <ℤ number_of (full self.now) column }
+        ensures { IfOk result (λ made. full made ≡ scaled_row (full self.now) column) };
+
+    /// The combination with a pivot row that leaves 0 in the column, in lowest terms. Nothing is outgrown on
+    /// the way.
+    fn combined(&self, alloc: Global, pivot_row: &Self, column: u32) -> Result<Self, NoMemory>
+        requires row { IsRow (full self.now) }
+        requires pivot_row { IsRow (full pivot_row.now) }
+        requires same_width { width_of (full self.now) ≡ width_of (full pivot_row.now) }
+        requires in_row { column < width_of (full self.now) }
+        requires positive { pos 0 <ℤ number_of (full pivot_row.now) column }
+        requires fits { growth_of (full self.now) (full pivot_row.now) column ≡ None }
+        ensures { IfOk result (λ made. full made ≡ combined_row (full self.now) (full pivot_row.now) column) };
+
     ghost same_length: { (rows : List Self) → length (table rows) ≡ length rows };
 
     ghost none: { table [] ≡ [] };
 
     ghost pushes: { (rows : List Self) (row : Self) → table (rows ++ row ∷ []) ≡ table rows ++ full row ∷ [] };
+
+    ghost writes: { (rows : List Self) (place : ℕ) (row : Self) → table (slice_set rows place row) ≡ slice_set (table rows) place (full row) };
 
     ghost reads: { (rows : List Self) (place : ℕ) (read : Self) → place < length rows → read ≡ slice_index_or rows place read → full read ≡ row_at (table rows) place };
 }
@@ -70,11 +94,32 @@ impl TableRow for FracRow {
         growth_by(&Factors::between(self, pivot_row, column), self, pivot_row)
     }
 
+    fn scaled(&self, alloc: Global, column: u32) -> Result<FracRow, NoMemory> {
+        let mut made = self.copy(alloc)?;
+        made.den = self.number(column);
+        reduce(&mut made);
+        Ok(made)
+    }
+
+    fn combined(
+        &self,
+        alloc: Global,
+        pivot_row: &FracRow,
+        column: u32,
+    ) -> Result<FracRow, NoMemory> {
+        let factors = Factors::between(self, pivot_row, column);
+        let mut made = self.copy(alloc)?;
+        combine_in_place(&mut made, pivot_row, &factors);
+        Ok(made)
+    }
+
     ghost same_length = { λ rows. refl };
 
     ghost none = { refl };
 
     ghost pushes = { λ rows row. refl };
+
+    ghost writes = { λ rows place row. refl };
 
     ghost reads = { λ rows place read lt e. get_or_read rows place read lt e no_row };
 }
@@ -100,11 +145,26 @@ impl TableRow for SparseRow {
         sparse_growth_by(&factors_between(self, pivot_row, column), self, pivot_row)
     }
 
+    fn scaled(&self, alloc: Global, column: u32) -> Result<SparseRow, NoMemory> {
+        frac_row::scaled(alloc, self, column)
+    }
+
+    fn combined(
+        &self,
+        alloc: Global,
+        pivot_row: &SparseRow,
+        column: u32,
+    ) -> Result<SparseRow, NoMemory> {
+        combine(alloc, self, pivot_row, column)
+    }
+
     ghost same_length = { λ rows. refl };
 
     ghost none = { refl };
 
     ghost pushes = { λ rows row. refl };
+
+    ghost writes = { λ rows place row. refl };
 
     ghost reads = { λ rows place read lt e. get_or_read rows place read lt e no_row };
 }
