@@ -1,5 +1,5 @@
 -- What holds of the combination of two rows where nothing grew.
-use Rattle.std.proofs.Common.{◌∙◌, ap, subst, ◌≢◌, ◌⊎◌, ◌≡◌, ℕ, ◌*◌, ◌-◌, ◌^◌, ◌<◌, ◌≤◌, ℤ, pos, ◌-ℤ◌, ◌*ℤ◌, ◌<ℤ◌, Bool, true, false, cond, Option, Some, None, List, length, get_or, unsigned_abs, refl, arith, inl, inr}
+use Rattle.std.proofs.Common.{◌∙◌, ap, ◌⊎◌, ◌≡◌, ℕ, ◌*◌, ◌-◌, ◌^◌, ◌<◌, ◌≤◌, ℤ, pos, ◌-ℤ◌, ◌*ℤ◌, ◌<ℤ◌, Bool, true, false, cond, Option, Some, None, List, length, get_or, unsigned_abs, refl, arith, inl, inr}
 use Rattle.std.specs.Prelude.{int_div, All}
 use Prim.Native.Nat.{◌∣◌}
 use Rattle.std.proofs.lemmas.Int.{ints, unsigned_abs-mul}
@@ -14,9 +14,8 @@ use Rattle.sums.proofs.Division.{*ℤ-int_div, size-int_div, positive_factor}
 use lib.IntN.{neg_ℤ, *ℤ-zero}
 use Rattle.sums.proofs.Integers.{positive_product, one-*ℤ}
 use Rattle.sums.proofs.Places.{length-list_below, get_or-list_below, nothing_at, all_nothing}
-use Rattle.sums.proofs.Sizes.{size_above, zero_size}
 use Rattle.frac_row.specs.Outgrown.{is_outgrown, IsWithin}
-use Rattle.frac_row.specs.Row.{number_of, width_of, IsRow, IsSmall, IsSmallBeside}
+use Rattle.frac_row.specs.Row.{number_of, width_of, IsRow, IsSmall}
 use Rattle.frac_row.specs.Combined.{combined_number, PlaceFits, combination, factors_of, place_growth, growth_by}
 use Rattle.frac_row.proofs.Rows.{same_row}
 use Rattle.frac_row.specs.declared.row.FracRow.{FracRow}
@@ -164,37 +163,3 @@ stays_beside f n r zero (inl one) =
     ap (λ x. (f.own *ℤ n) -ℤ (f.pivot *ℤ x)) zero ∙ ap (λ x. (x *ℤ n) -ℤ (f.pivot *ℤ pos 0)) one ∙ omega (arith, ints, one-*ℤ n, *ℤ-zero f.pivot)
 stays_beside f n r zero (inr none) =
     ap (λ x. (f.own *ℤ n) -ℤ (f.pivot *ℤ x)) zero ∙ ap (λ x. (f.own *ℤ x) -ℤ (f.pivot *ℤ pos 0)) none ∙ omega (arith, ints, none, *ℤ-zero f.own, *ℤ-zero f.pivot)
-
-zero_place : (f : Factors) (column : ℕ) (n r : ℤ) → f.own ≡ pos 1 → r ≡ pos 0 → IsWithin n → place_growth f column n r ≡ None
-unfolding place_growth
-zero_place f column n r one beside within =
-    let own : f.own *ℤ n ≡ n = ap (λ x. x *ℤ n) one ∙ one-*ℤ n in
-    let other : f.pivot *ℤ r ≡ pos 0 = ap (λ x. f.pivot *ℤ x) beside ∙ *ℤ-zero f.pivot in
-    no_growth _ _ _ _ _ _ (not_outgrown (f.own *ℤ n) (rw own within)) (not_outgrown (f.pivot *ℤ r) (rw other (omega arith)))
-    (not_outgrown (combined_number f n r) (rw (stays_beside f n r beside (inl one)) within))
-
-some_size : (z : ℤ) → 0 < unsigned_abs z → z ≢ pos 0
-some_size z h e = absurd (no_size (subst (λ x. 0 < unsigned_abs x) e h))
-  where
-    no_size : 0 < 0 → ⊥
-    no_size h = omega arith
-
--- where the row's own factor is 1, the numbers beside zeros of the pivot row need no bound
-pub small_growth_beside : (row pivot_row : FracRow) (column : ℕ) → column < width_of row → pos 0 <ℤ number_of pivot_row column → (factors_of row pivot_row column).own ≡ pos 1 → IsRow row → IsSmallBeside row pivot_row → IsSmall pivot_row → growth_by (factors_of row pivot_row column) row pivot_row ≡ None
-unfolding growth_by
-small_growth_beside row pivot_row column lt some one is h k =
-    let f : Factors = factors_of row pivot_row column in
-    let factors : AreFactors row pivot_row column = factors_are row pivot_row column some in
-    let above : 0 < unsigned_abs (number_of pivot_row column) = size_above (number_of pivot_row column) some in
-    let own : unsigned_abs f.own ≤ 2 ^ 63 - 1 = omega (arith, factors.own_size, small_in pivot_row.numbers column k.numbers) in
-    let pivot : unsigned_abs f.pivot ≤ 2 ^ 63 - 1 = omega (arith, factors.pivot_size, h column lt (some_size (number_of pivot_row column) above)) in
-    let den : f.own *ℤ row.den ≡ row.den = ap (λ x. x *ℤ row.den) one ∙ one-*ℤ row.den in
-    no_den_growth _ _ _ (all_nothing (λ c. place_growth f c (number_of row c) (number_of pivot_row c)) (width_of row) (λ c here. place c here own pivot))
-    (not_outgrown (f.own *ℤ row.den) (rw den is.den_within))
-  where
-    place : (c : ℕ) → c < width_of row → unsigned_abs ((factors_of row pivot_row column).own) ≤ 2 ^ 63 - 1 → unsigned_abs ((factors_of row pivot_row column).pivot) ≤ 2 ^ 63 - 1 → place_growth (factors_of row pivot_row column) c (number_of row c) (number_of pivot_row c) ≡ None
-    place c here own pivot =
-        elim (cases_lt 0 (unsigned_abs (number_of pivot_row c))) [
-          | inl size ↦ small_place (factors_of row pivot_row column) c (number_of row c) (number_of pivot_row c) own pivot (h c here (some_size (number_of pivot_row c) size)) (small_in pivot_row.numbers c k.numbers)
-          | inr none ↦ zero_place (factors_of row pivot_row column) c (number_of row c) (number_of pivot_row c) one (zero_size (number_of pivot_row c) (omega arith)) (is.within c)
-        ]

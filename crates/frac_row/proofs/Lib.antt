@@ -13,3 +13,4 @@ pub mod Smallness
 pub mod Turned
 pub mod LineNumbers
 pub mod FilledRows
+pub mod Fits

@@ -8,13 +8,15 @@ use Rattle.frac_row.specs.declared.row.FracRow.{FracRow}
 use Rattle.frac_row.specs.declared.growth.Growth.{Growth}
 use Rattle.frac_row.specs.declared.factors.Factors.{Factors}
 
--- the pivot row's number in the column and the row's own, each over their greatest common divisor
-unfoldable pub factors_of : FracRow → FracRow → ℕ → Factors
-factors_of row pivot_row column =
-    let p = number_of pivot_row column in
-    let q = number_of row column in
+-- the pivot row's number and the row's own, each over their greatest common divisor
+abbrev pub factors_of_numbers : ℤ → ℤ → Factors
+factors_of_numbers q p =
     let divisor = pos (gcd (unsigned_abs p) (unsigned_abs q)) in
     record { own = int_div p divisor; pivot = int_div q divisor }
+
+-- those of their numbers in a column
+unfoldable pub factors_of : FracRow → FracRow → ℕ → Factors
+factors_of row pivot_row column = factors_of_numbers (number_of row column) (number_of pivot_row column)
 
 abbrev pub combined_number : Factors → ℤ → ℤ → ℤ
 combined_number factors n r = (factors.own *ℤ n) -ℤ (factors.pivot *ℤ r)

@@ -1,5 +1,5 @@
 -- Rows of whole numbers over one positive number.
-use Rattle.std.specs.Prelude.{ℕ, ℤ, pos, ◌<ℤ◌, ◌<◌, ◌≢◌, ◌≤◌, ◌-◌, ◌^◌, length, slice_index_or, unsigned_abs, int_div, All}
+use Rattle.std.specs.Prelude.{ℕ, ℤ, pos, ◌<ℤ◌, ◌≤◌, ◌-◌, ◌^◌, length, slice_index_or, unsigned_abs, int_div, All}
 use Rattle.sums.specs.Divisors.{gcd_below}
 use Rattle.sums.specs.Places.{list_below}
 use Rattle.frac_row.specs.Outgrown.{IsWithin}
@@ -38,8 +38,3 @@ reduced row = divided row (common_divisor row)
 pub record IsSmall (row : FracRow) : Type 0 where
   pub numbers : All (λ number. unsigned_abs number ≤ 2 ^ 63 - 1) row.numbers
   pub den : unsigned_abs row.den ≤ 2 ^ 63 - 1
-
--- the same of the numbers beside a number of the pivot row that is not 0
-abbrev pub IsSmallBeside : FracRow → FracRow → Type 0
-IsSmallBeside row pivot_row =
-    (column : ℕ) → column < width_of row → number_of pivot_row column ≢ pos 0 → unsigned_abs (number_of row column) ≤ 2 ^ 63 - 1

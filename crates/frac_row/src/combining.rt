@@ -80,26 +80,19 @@ fn combine_numbers(numbers: &mut Entries<i128>, pivot_numbers: &[i128], factors:
     ensures { numbers.new ≡ list_below (λ k. combined_number factors.now (slice_index_or numbers.old k (pos 0)) (slice_index_or pivot_numbers.now k (pos 0))) (length numbers.old) }
 {
     for column in 0..numbers.len() {
-        let pivot_number = &pivot_numbers[column];
-        if !stays(factors, &numbers.as_slice()[column], pivot_number) {
-            let number = combined_number(factors, &numbers.as_slice()[column], pivot_number);
-            numbers.set(column, number);
-        }
+        let number = combined_number(factors, &numbers.as_slice()[column], &pivot_numbers[column]);
+        numbers.set(column, number);
     }
 }
 
-/// Whether a number is seen at once to stay as it is, as most do.
+/// Most numbers stay, beside a 0 of the pivot row.
 #[inline(always)]
-fn stays(factors: &Factors, number: &i128, pivot_number: &i128) -> bool
-    ensures { IsTrue result → combined_number factors.now number.now pivot_number.now ≡ number.now }
-{
-    *pivot_number == 0 && (factors.own == 1 || *number == 0)
-}
-
-#[inline(always)]
-fn combined_number(factors: &Factors, number: &i128, pivot_number: &i128) -> i128
+pub fn combined_number(factors: &Factors, number: &i128, pivot_number: &i128) -> i128
     requires { PlaceFits factors.now number.now pivot_number.now }
     ensures { result ≡ combined_number factors.now number.now pivot_number.now }
 {
+    if *pivot_number == 0 && factors.own == 1 {
+        return *number;
+    }
     factors.own * *number - factors.pivot * *pivot_number
 }

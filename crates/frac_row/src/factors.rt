@@ -1,6 +1,7 @@
 ghost use Rattle.std.specs.Prelude.{◌≡◌, ◌<◌, ◌<ℤ◌, pos};
+ghost use Rattle.frac_row.specs.Outgrown.{IsWithin};
 ghost use Rattle.frac_row.specs.Row.{IsRow, number_of, width_of};
-ghost use Rattle.frac_row.specs.Combined.{factors_of};
+ghost use Rattle.frac_row.specs.Combined.{factors_of, factors_of_numbers};
 
 use crate::division::divide;
 use crate::divisor::gcd;
@@ -25,13 +26,20 @@ impl Factors {
         requires positive { pos 0 <ℤ number_of pivot_row.now column }
         ensures { result ≡ factors_of row.now pivot_row.now column }
     {
-        let column = column as usize;
-        let pivot_number = pivot_row.numbers.as_slice()[column];
-        let number = row.numbers.as_slice()[column];
-        let divisor = gcd(pivot_number, number);
+        Factors::of_numbers(&row.number(column), &pivot_row.number(column))
+    }
+
+    /// Those of what the two rows have in the column: the other number each, over their greatest common divisor.
+    pub fn of_numbers(number: &i128, pivot_number: &i128) -> Factors
+        requires number { IsWithin number.now }
+        requires pivot_number { IsWithin pivot_number.now }
+        requires positive { pos 0 <ℤ pivot_number.now }
+        ensures { result ≡ factors_of_numbers number.now pivot_number.now }
+    {
+        let divisor = gcd(*pivot_number, *number);
         Factors {
-            own: divide(pivot_number, divisor).quotient,
-            pivot: divide(number, divisor).quotient,
+            own: divide(*pivot_number, divisor).quotient,
+            pivot: divide(*number, divisor).quotient,
         }
     }
 }

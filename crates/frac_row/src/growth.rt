@@ -54,7 +54,7 @@ pub fn growth_by(factors: &Factors, row: &FracRow, pivot_row: &FracRow) -> Optio
 }
 
 /// The first outgrown one of a column's two products and their difference.
-fn place_growth(
+pub fn place_growth(
     factors: &Factors,
     column: u32,
     number: &i128,

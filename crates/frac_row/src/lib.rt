@@ -39,7 +39,7 @@ pub use numbers::Numbers;
 pub use ratio::{ceil_div, compare_ratio};
 pub use row::FracRow;
 pub use scaling::scaled;
-pub use sizes::{is_row, is_small, is_small_beside};
+pub use sizes::{is_row, is_small};
 pub use sparse_factors::factors_between;
 pub use sparse_row::SparseRow;
 pub use turning::turn;

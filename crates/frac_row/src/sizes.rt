@@ -1,6 +1,6 @@
-ghost use Rattle.std.specs.Prelude.{◌≡◌, ◌≤◌, ◌-◌, ◌^◌, ◌↔◌, IsTrue, All, unsigned_abs};
+ghost use Rattle.std.specs.Prelude.{◌≤◌, ◌-◌, ◌^◌, ◌↔◌, IsTrue, All, unsigned_abs};
 ghost use Rattle.frac_row.specs.Outgrown.{IsWithin};
-ghost use Rattle.frac_row.specs.Row.{IsRow, IsSmall, IsSmallBeside, width_of};
+ghost use Rattle.frac_row.specs.Row.{IsRow, IsSmall};
 
 use crate::row::FracRow;
 
@@ -24,23 +24,9 @@ pub fn is_small(row: &FracRow) -> bool
     is_small_number(&row.den) && row.numbers.as_slice().iter().all(is_small_number)
 }
 
-/// Whether the numbers are small that stand beside a number of the pivot row. Where the row's own factor
-/// is 1, the others stay.
-pub fn is_small_beside(row: &FracRow, pivot_row: &FracRow) -> bool
-    requires { width_of row.now ≡ width_of pivot_row.now }
-    ensures { IsTrue result ↔ IsSmallBeside row.now pivot_row.now }
-{
-    let numbers = row.numbers.as_slice();
-    let pivot_numbers = pivot_row.numbers.as_slice();
-    for column in 0..numbers.len() {
-        if pivot_numbers[column] != 0 && !is_small_number(&numbers[column]) {
-            return false;
-        }
-    }
-    true
-}
-
-fn is_small_number(number: &i128) -> bool
+/// Whether a number is that small.
+#[inline(always)]
+pub fn is_small_number(number: &i128) -> bool
     ensures { IsTrue result ↔ (unsigned_abs number.now ≤ 2 ^ 63 - 1) }
 {
     -SMALL < *number && *number < SMALL

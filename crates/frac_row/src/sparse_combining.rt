@@ -1,11 +1,12 @@
 ghost use Rattle.std.specs.Prelude.{◌≡◌, ◌<◌, pos, ◌<ℤ◌, None, IfOk};
 ghost use Rattle.frac_row.specs.Row.{IsRow, number_of, width_of};
-ghost use Rattle.frac_row.specs.Combined.{combined_number, combined_row, growth_of, PlaceFits};
+ghost use Rattle.frac_row.specs.Combined.{combined_row, growth_of};
 ghost use Rattle.frac_row.specs.Pairs.{pairs_of, combined_entries, AllFit};
 
+use crate::combining::combined_number;
 use crate::entry::Entry;
 use crate::factors::Factors;
-use crate::pairs::{Pair, Pairs};
+use crate::pairs::Pairs;
 use crate::sparse_factors::factors_between;
 use crate::sparse_lowest_terms::reduce;
 use crate::sparse_row::SparseRow;
@@ -57,7 +58,7 @@ fn combine_entries(
     let mut made = Vec::with_capacity(alloc, row.len() + pivot_row.len())?;
     let mut pairs = Pairs { row, pivot_row };
     while let Some(pair) = pairs.next() {
-        let number = combined_number(factors, &pair);
+        let number = combined_number(factors, &pair.number, &pair.pivot_number);
         if number != 0 {
             made.push(Entry {
                 column: pair.column,
@@ -66,16 +67,4 @@ fn combine_entries(
         }
     }
     Ok(made)
-}
-
-/// Most numbers stay, beside a 0 of the pivot row.
-#[inline(always)]
-fn combined_number(factors: &Factors, pair: &Pair) -> i128
-    requires { PlaceFits factors.now pair.now.number pair.now.pivot_number }
-    ensures { result ≡ combined_number factors.now pair.now.number pair.now.pivot_number }
-{
-    if pair.pivot_number == 0 && factors.own == 1 {
-        return pair.number;
-    }
-    factors.own * pair.number - factors.pivot * pair.pivot_number
 }

@@ -2,8 +2,6 @@ ghost use Rattle.std.specs.Prelude.{◌≡◌, ◌<◌, pos, ◌<ℤ◌};
 ghost use Rattle.frac_row.specs.Row.{IsRow, number_of, width_of};
 ghost use Rattle.frac_row.specs.Combined.{factors_of};
 
-use crate::division::divide;
-use crate::divisor::gcd;
 use crate::factors::Factors;
 use crate::sparse_row::SparseRow;
 
@@ -16,11 +14,5 @@ pub fn factors_between(row: &SparseRow, pivot_row: &SparseRow, column: u32) -> F
     requires positive { pos 0 <ℤ number_of pivot_row.now column }
     ensures { result ≡ factors_of row.now pivot_row.now column }
 {
-    let pivot_number = pivot_row.number(column);
-    let number = row.number(column);
-    let divisor = gcd(pivot_number, number);
-    Factors {
-        own: divide(pivot_number, divisor).quotient,
-        pivot: divide(number, divisor).quotient,
-    }
+    Factors::of_numbers(&row.number(column), &pivot_row.number(column))
 }

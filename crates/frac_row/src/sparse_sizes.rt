@@ -2,6 +2,7 @@ ghost use Rattle.std.specs.Prelude.{◌≤◌, ◌-◌, ◌^◌, ◌↔◌, IsTr
 ghost use Rattle.frac_row.specs.Row.{IsSmall};
 
 use crate::entry::Entry;
+use crate::sizes::is_small_number;
 use crate::sparse_row::SparseRow;
 
 /// Whether all numbers and the denominator are small, so that nothing of two such rows is outgrown.
@@ -16,12 +17,3 @@ fn are_small(entries: &[Entry]) -> bool
 {
     entries.iter().all(|entry| is_small_number(&entry.number))
 }
-
-#[inline(always)]
-fn is_small_number(number: &i128) -> bool
-    ensures { IsTrue result ↔ (unsigned_abs number.now ≤ 2 ^ 63 - 1) }
-{
-    -SMALL < *number && *number < SMALL
-}
-
-const SMALL: i128 = 1 << 63;

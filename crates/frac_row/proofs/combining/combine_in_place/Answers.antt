@@ -1,20 +1,10 @@
-use Rattle.std.proofs.Common.{◌≡◌, ℤ, ◌*ℤ◌, FitsSigned, arith, rules, ◌∙◌, ap, to_z, of_z}
-use Rattle.std.proofs.lemmas.Int.{ints, to_z-of_z}
+use Rattle.std.proofs.Common.{rules, ◌∙◌, ap}
 use mir.Val.{SFits}
 use mir.Syntax.{w128}
-use Rattle.frac_row.specs.Outgrown.{IsWithin}
 use Rattle.frac_row.specs.Row.{reduced}
 use Rattle.frac_row.proofs.Combinations.{row_fits, den_fits, combination_is_row, combination_from}
+use Rattle.frac_row.proofs.Fits.{product_fits, product_is}
 use Rattle.frac_row.proofs.combining.combine_in_place.Goals as goal
-
-fits : (z : ℤ) → IsWithin z → SFits w128 z
-fits z h = omega (arith, ints)
-
-product_fits : (a b : ℤ) → SFits w128 a → SFits w128 b → IsWithin (a *ℤ b) → FitsSigned w128 (to_z w128 (of_z w128 a) *ℤ to_z w128 (of_z w128 b))
-product_fits a b fa fb h = simp to_z-of_z (fits (a *ℤ b) h)
-
-product_is : (a b : ℤ) → SFits w128 a → SFits w128 b → IsWithin (a *ℤ b) → to_z w128 (of_z w128 (to_z w128 (of_z w128 a) *ℤ to_z w128 (of_z w128 b))) ≡ a *ℤ b
-product_is a b fa fb p = let fp : SFits w128 (a *ℤ b) = fits (a *ℤ b) p in simp to_z-of_z
 
 pub combine_numbers-requires-clause-fits : goal.combine_numbers-requires-clause-fits
 combine_numbers-requires-clause-fits c k lt =

@@ -2,31 +2,23 @@ use Rattle.std.proofs.Common.{pos, arith, rules, sym, ◌∙◌, ap, subst, get_
 use Rattle.std.proofs.lemmas.Int.{to_z-of_z}
 use mir.Val.{SFits}
 use mir.Syntax.{w128}
-use Rattle.sums.proofs.Places.{filled_none, filled_more, filled_kept, filled_all}
+use Rattle.sums.proofs.Places.{filled_none, filled_more, filled_all}
 use Rattle.frac_row.specs.Combined.{combined_number, PlaceFits}
 use Rattle.frac_row.proofs.combining.combine_numbers.Goals as goal
-use Rattle.frac_row.proofs.combining.combine_numbers.Goals.{then-not-stays, else-not-stays}
 
 pub loop-column-init : goal.loop-column-init
 loop-column-init c = filled_none _ _ _
 
 pub combined_number-number-requires : goal.combined_number-number-requires
 combined_number-number-requires c =
-    let same = ap (λ xs. get_or xs c.loop-column.column (pos 0)) c.as_slice-then-not-stays.ensures ∙ c.loop-column.invariant.kept c.loop-column.column (omega arith) in
+    let same = ap (λ xs. get_or xs c.loop-column.column (pos 0)) c.as_slice.ensures ∙ c.loop-column.invariant.kept c.loop-column.column (omega arith) in
     subst (λ x. PlaceFits c.args.factors.now x (get_or c.args.pivot_numbers.now c.loop-column.column (pos 0))) (sym same) (c.requires.fits c.loop-column.column (omega arith))
 
 pub loop-column-preserved : goal.loop-column-preserved
 loop-column-preserved c =
-    elim c.if-not-stays.branch [
-      | then-not-stays w ↦
-          let fn : SFits w128 w.combined_number-number.result = search rules in
-          let same = ap (λ xs. get_or xs c.loop-column.column (pos 0)) w.as_slice-then-not-stays.ensures ∙ c.loop-column.invariant.kept c.loop-column.column (omega arith) in
-          rw (w.numbers-is, w.set.ensures) (filled_more _ _ _ _ _ _ c.loop-column.invariant (omega arith) (to_z-of_z w128 w.combined_number-number.result fn ∙ w.combined_number-number.ensures ∙ ap (λ x. combined_number c.args.factors.now x (get_or c.args.pivot_numbers.now c.loop-column.column (pos 0))) same))
-      | else-not-stays w ↦
-          let same = ap (λ xs. get_or xs c.loop-column.column (pos 0)) c.as_slice.ensures ∙ c.loop-column.invariant.kept c.loop-column.column (omega arith) in
-          rw w.numbers-is (filled_kept _ _ _ _ _ c.loop-column.invariant
-          (sym same ∙ sym (c.stays.ensures w.if-not-stays.false) ∙ ap (λ x. combined_number c.args.factors.now x (get_or c.args.pivot_numbers.now c.loop-column.column (pos 0))) same))
-    ]
+    let fn : SFits w128 c.combined_number-number.result = search rules in
+    let same = ap (λ xs. get_or xs c.loop-column.column (pos 0)) c.as_slice.ensures ∙ c.loop-column.invariant.kept c.loop-column.column (omega arith) in
+    rw c.set.ensures (filled_more _ _ _ _ _ _ c.loop-column.invariant (omega arith) (to_z-of_z w128 c.combined_number-number.result fn ∙ c.combined_number-number.ensures ∙ ap (λ x. combined_number c.args.factors.now x (get_or c.args.pivot_numbers.now c.loop-column.column (pos 0))) same))
 
 pub returns : goal.returns
 returns c = filled_all _ _ _ _ _ c.loop-column.invariant (omega arith)

@@ -1,5 +1,4 @@
-use Rattle.std.proofs.Common.{◌≡◌, ℕ, rules, arith, ℤ, pos, ◌<ℤ◌, ◌*ℤ◌, None, List, FitsSigned, sym, ◌∙◌, ap, subst, to_z, of_z}
-use Rattle.std.proofs.lemmas.Int.{ints, to_z-of_z}
+use Rattle.std.proofs.Common.{◌≡◌, ℕ, rules, ℤ, pos, ◌<ℤ◌, ◌*ℤ◌, None, List, sym, ◌∙◌, ap, subst}
 use mir.Val.{SFits}
 use mir.Syntax.{w128}
 use Rattle.frac_row.specs.Outgrown.{IsWithin}
@@ -7,6 +6,7 @@ use Rattle.frac_row.specs.Row.{IsRow, number_of, width_of, reduced}
 use Rattle.frac_row.specs.Combined.{factors_of, combination, combined_row, growth_of, growth_by}
 use Rattle.frac_row.specs.declared.row.FracRow.{FracRow}
 use Rattle.frac_row.specs.declared.factors.Factors.{Factors}
+use Rattle.frac_row.proofs.Fits.{product_fits, product_is}
 use Rattle.frac_row.proofs.Combinations.{factors_are, den_fits, combination_is_row}
 use Rattle.frac_row.specs.declared.entry.Entry.{Entry}
 use Rattle.frac_row.specs.Content.{content_of, IsHeld}
@@ -14,9 +14,6 @@ use Rattle.frac_row.specs.Pairs.{pairs_of, combined_entries, AllFit}
 use Rattle.frac_row.proofs.Contents.{den-content}
 use Rattle.frac_row.proofs.Combined.{AreHeld, both_held, combined_is_held, combination_is, pairs_fit}
 use Rattle.frac_row.proofs.sparse_combining.combine.Goals as goal
-
-fits : (z : ℤ) → IsWithin z → SFits w128 z
-fits z h = omega (arith, ints)
 
 -- all that the combination of two rows rests on
 record AreCombined (f : Factors) (xs ys : List Entry) (width : ℕ) (d e : ℤ) (row pivot_row : FracRow) : Type 0 where
@@ -55,12 +52,6 @@ made_is f xs ys slice pivot_slice made width d e over row pivot_row h s t is sam
 
 made_is_held : (f : Factors) (xs ys slice pivot_slice made : List Entry) (width : ℕ) (d e : ℤ) (row pivot_row : FracRow) → AreCombined f xs ys width d e row pivot_row → slice ≡ xs → pivot_slice ≡ ys → made ≡ combined_entries f (pairs_of slice pivot_slice) → IsHeld made width
 made_is_held f xs ys slice pivot_slice made width d e row pivot_row h s t is = rw (is, s, t) (combined_is_held f xs ys width h.held)
-
-product_is : (a b : ℤ) → SFits w128 a → SFits w128 b → IsWithin (a *ℤ b) → to_z w128 (of_z w128 (to_z w128 (of_z w128 a) *ℤ to_z w128 (of_z w128 b))) ≡ a *ℤ b
-product_is a b fa fb h = let fp : SFits w128 (a *ℤ b) = fits (a *ℤ b) h in simp to_z-of_z
-
-product_fits : (a b : ℤ) → SFits w128 a → SFits w128 b → IsWithin (a *ℤ b) → FitsSigned w128 (to_z w128 (of_z w128 a) *ℤ to_z w128 (of_z w128 b))
-product_fits a b fa fb h = simp to_z-of_z (fits (a *ℤ b) h)
 
 pub combine_entries-requires : goal.combine_entries-requires
 combine_entries-requires c =
