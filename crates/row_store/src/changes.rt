@@ -23,7 +23,7 @@ pub fn changed_rows<R: TableRow>(
     ensures same_length { IfOk result (λ changes. length changes.items ≡ length rows.now) }
     ensures made { IfOk result (λ changes. (place : ℕ) → place < length (R.table rows.now) → row_after R.full (R.table rows.now) changes.items place ≡ new_row (R.table rows.now) row column place) }
 {
-    let mut changes = Vec::new(alloc);
+    let mut changes = Vec::with_capacity(alloc, rows.len())?;
     for other in 0..rows.len() {
         changes.push(changed_row(alloc, rows, row, column, other as u32)?)?;
     }

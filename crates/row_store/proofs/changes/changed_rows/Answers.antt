@@ -3,7 +3,7 @@ use Rattle.row_store.proofs.Changed.{made_none, made_more}
 use Rattle.row_store.proofs.changes.changed_rows.Goals as goal
 
 pub loop-other-init : goal.loop-other-init
-loop-other-init g c = made_none _ _ _ _ c.new-changes.ensures.items
+loop-other-init g c = made_none _ _ _ _ c.in_ok-changes.ensures.items
 
 pub loop-other-preserved : goal.loop-other-preserved
 loop-other-preserved g c = made_more _ _ _ c.loop-other.changes.items _ c.loop-other.other _ c.loop-other.invariant c.in_ok-changed_row.ensures c.in_ok-push.ensures.items
