@@ -11,7 +11,7 @@ use Rattle.sums.proofs.Sizes.{nothing_added}
 use Rattle.frac_row.specs.Outgrown.{IsWithin}
 use Rattle.frac_row.specs.declared.entry.Entry.{Entry}
 use Rattle.frac_row.specs.Content.{number_in, AreRising}
-use Rattle.frac_row.proofs.LineNumbers.{none_before, rising_from}
+use Rattle.frac_row.proofs.Contents.{none_before, rising_from}
 use Rattle.end_check.specs.Ends.{value_in}
 use Rattle.end_check.specs.Sums.{AddWithin, AddsWithin, sums_with}
 

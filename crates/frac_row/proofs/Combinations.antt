@@ -1,5 +1,5 @@
 -- What holds of the combination of two rows where nothing grew.
-use Rattle.std.proofs.Common.{◌∙◌, ap, ◌⊎◌, ◌≡◌, ℕ, ◌*◌, ◌-◌, ◌^◌, ◌<◌, ◌≤◌, ℤ, pos, ◌-ℤ◌, ◌*ℤ◌, ◌<ℤ◌, Bool, true, false, cond, Option, Some, None, List, length, get_or, unsigned_abs, refl, arith, inl, inr}
+use Rattle.std.proofs.Common.{◌≡◌, ℕ, ◌*◌, ◌-◌, ◌^◌, ◌<◌, ◌≤◌, ℤ, pos, ◌-ℤ◌, ◌*ℤ◌, ◌<ℤ◌, Bool, true, false, cond, Option, Some, None, List, length, get_or, unsigned_abs, refl, arith, inl, inr}
 use Rattle.std.specs.Prelude.{int_div, All}
 use Prim.Native.Nat.{◌∣◌}
 use Rattle.std.proofs.lemmas.Int.{ints, unsigned_abs-mul}
@@ -11,8 +11,8 @@ use Rattle.sums.specs.Divisors.{gcd}
 use Rattle.sums.specs.Places.{list_below, first_below, or_else}
 use Rattle.sums.proofs.Divisors.{gcd_is}
 use Rattle.sums.proofs.Division.{*ℤ-int_div, size-int_div, positive_factor}
-use lib.IntN.{neg_ℤ, *ℤ-zero}
-use Rattle.sums.proofs.Integers.{positive_product, one-*ℤ}
+use lib.IntN.{neg_ℤ}
+use Rattle.sums.proofs.Integers.{positive_product}
 use Rattle.sums.proofs.Places.{length-list_below, get_or-list_below, nothing_at, all_nothing}
 use Rattle.frac_row.specs.Outgrown.{is_outgrown, IsWithin}
 use Rattle.frac_row.specs.Row.{number_of, width_of, IsRow, IsSmall}
@@ -156,10 +156,3 @@ number_of-combination f row pivot_row k lt = get_or-list_below _ (width_of row) 
 pub den-combination : (f : Factors) (row pivot_row : FracRow) → (combination f row pivot_row).den ≡ f.own *ℤ row.den
 unfolding combination
 den-combination f row pivot_row = refl
-
--- a number beside a 0 of the pivot row stays where its factor is 1 or it is 0
-pub stays_beside : (f : Factors) (n r : ℤ) → r ≡ pos 0 → (f.own ≡ pos 1) ⊎ (n ≡ pos 0) → combined_number f n r ≡ n
-stays_beside f n r zero (inl one) =
-    ap (λ x. (f.own *ℤ n) -ℤ (f.pivot *ℤ x)) zero ∙ ap (λ x. (x *ℤ n) -ℤ (f.pivot *ℤ pos 0)) one ∙ omega (arith, ints, one-*ℤ n, *ℤ-zero f.pivot)
-stays_beside f n r zero (inr none) =
-    ap (λ x. (f.own *ℤ n) -ℤ (f.pivot *ℤ x)) zero ∙ ap (λ x. (f.own *ℤ x) -ℤ (f.pivot *ℤ pos 0)) none ∙ omega (arith, ints, none, *ℤ-zero f.own, *ℤ-zero f.pivot)

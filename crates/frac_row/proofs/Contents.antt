@@ -11,7 +11,7 @@ use Rattle.sums.proofs.NumberTests.{if_apart, if_same}
 use Rattle.frac_row.specs.Row.{number_of, width_of}
 use Rattle.frac_row.specs.declared.entry.Entry.{Entry}
 use Rattle.std.proofs.lemmas.List.{get_or_past}
-use Rattle.frac_row.specs.Content.{number_in, number_at, AreEntries, IsHeld, content_of}
+use Rattle.frac_row.specs.Content.{number_in, number_at, AreEntries, IsHeld, content_of, AreRising}
 
 -- stands past the last entry
 abbrev pub no_entry : Entry
@@ -29,14 +29,25 @@ pub are_within : (from width most : ℕ) (entries : List Entry) → width ≤ mo
 are_within from width most [] le h = tt
 are_within from width most (x ∷ xs) le h = (h.0, omega (arith, h.1), h.2, are_within (x.column + 1) width most xs le h.3)
 
+pub rising_entries : (from width : ℕ) (entries : List Entry) → AreEntries from width entries → AreRising from width entries
+rising_entries from width [] h = tt
+rising_entries from width (x ∷ xs) h = (h.0, h.1, rising_entries (x.column + 1) width xs h.3)
+
+pub rising_from : (from start width : ℕ) (entries : List Entry) → start ≤ from → AreRising from width entries → AreRising start width entries
+rising_from from start width [] le h = tt
+rising_from from start width (x ∷ xs) le h = (omega (arith, h.0), h.1, h.2)
+
 -- nothing stands before the first column
-pub nothing_before : (from width : ℕ) (entries : List Entry) (column : ℕ) → AreEntries from width entries → column < from → number_in entries column ≡ pos 0
-nothing_before from width [] column h lt = refl
-nothing_before from width (x ∷ xs) column h lt =
-    if_apart x.column column _ _ (apart h.0) ∙ nothing_before (x.column + 1) width xs column h.3 (omega (arith, h.0))
+pub none_before : (from width : ℕ) (entries : List Entry) (column : ℕ) → AreRising from width entries → column < from → number_in entries column ≡ pos 0
+none_before from width [] column h lt = refl
+none_before from width (x ∷ xs) column h lt =
+    if_apart x.column column _ _ (apart h.0) ∙ none_before (x.column + 1) width xs column h.2 (omega (arith, h.0))
   where
     apart : from ≤ x.column → x.column ≢ column
     apart le = omega arith
+
+pub nothing_before : (from width : ℕ) (entries : List Entry) (column : ℕ) → AreEntries from width entries → column < from → number_in entries column ≡ pos 0
+nothing_before from width entries column h lt = none_before from width entries column (rising_entries from width entries h) lt
 
 -- nor past the last one
 pub nothing_past : (from width : ℕ) (entries : List Entry) (column : ℕ) → AreEntries from width entries → width ≤ column → number_in entries column ≡ pos 0

@@ -13,7 +13,8 @@ use Rattle.sums.proofs.NumberTests.{if_apart, if_same}
 use Rattle.frac_row.specs.Row.{number_of, width_of}
 use Rattle.frac_row.specs.declared.row.FracRow.{FracRow}
 use Rattle.frac_row.specs.declared.entry.Entry.{Entry}
-use Rattle.frac_row.specs.Content.{number_in, AreEntries, AreRising}
+use Rattle.frac_row.specs.Content.{number_in, AreRising}
+use Rattle.frac_row.proofs.Contents.{none_before, rising_from}
 use Rattle.frac_row.specs.Lines.{numbered, sizes_of, IsFilledRow}
 
 pub numbered_rise : (from width : ℕ) (xs : List ℤ) → from + length xs ≡ width → AreRising from width (numbered from xs)
@@ -27,22 +28,6 @@ numbered_is from column (suc k) (x ∷ xs) e = if_apart from column x _ (apart e
   where
     apart : column ≡ from + suc k → from ≢ column
     apart e = omega arith
-
-pub rising_entries : (from width : ℕ) (entries : List Entry) → AreEntries from width entries → AreRising from width entries
-rising_entries from width [] h = tt
-rising_entries from width (x ∷ xs) h = (h.0, h.1, rising_entries (x.column + 1) width xs h.3)
-
-pub rising_from : (from start width : ℕ) (entries : List Entry) → start ≤ from → AreRising from width entries → AreRising start width entries
-rising_from from start width [] le h = tt
-rising_from from start width (x ∷ xs) le h = (omega (arith, h.0), h.1, h.2)
-
-pub none_before : (from width : ℕ) (entries : List Entry) (column : ℕ) → AreRising from width entries → column < from → number_in entries column ≡ pos 0
-none_before from width [] column h lt = refl
-none_before from width (x ∷ xs) column h lt =
-    if_apart x.column column _ _ (apart h.0) ∙ none_before (x.column + 1) width xs column h.2 (omega (arith, h.0))
-  where
-    apart : from ≤ x.column → x.column ≢ column
-    apart le = omega arith
 
 -- ---- sizes
 pub sizes_are : (from width : ℕ) (entries : List Entry) → AreRising from width entries → sum_below (λ column. unsigned_abs (number_in entries column)) width ≡ sizes_of entries

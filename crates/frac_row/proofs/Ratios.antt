@@ -49,18 +49,13 @@ ratio_by_rests a b c d o same e = parts_cmp a b c d o (subst (λ q. o ≡ nat_cm
 pub ratio_equal : (a b c d : ℕ) → a / b ≡ c / d → a % b ≡ 0 → c % d ≡ 0 → Equal ≡ nat_cmp (a * d) (c * b)
 ratio_equal a b c d same p q = ratio_by_rests a b c d Equal same (nat_cmp_is (d * (a % b)) (b * (c % d)) Equal (rw (p, q) (omega arith)))
 
+above_nothing : (k x y : ℕ) → 0 < x → 0 < y → k * 0 < x * y
+above_nothing k (suc x) (suc y) p q = omega arith
+above_nothing k zero y p q = absurd (omega arith)
+above_nothing k (suc x) zero p q = absurd (omega arith)
+
 pub ratio_greater_rest : (a b c d : ℕ) → 0 < d → a / b ≡ c / d → 0 < a % b → c % d ≡ 0 → Greater ≡ nat_cmp (a * d) (c * b)
-ratio_greater_rest a b c d some same p q = ratio_by_rests a b c d Greater same (nat_cmp_is (d * (a % b)) (b * (c % d)) Greater (rw q (positive d (a % b) some p)))
-  where
-    positive : (x y : ℕ) → 0 < x → 0 < y → b * 0 < x * y
-    positive (suc x) (suc y) p q = omega arith
-    positive zero y p q = absurd (omega arith)
-    positive (suc x) zero p q = absurd (omega arith)
+ratio_greater_rest a b c d some same p q = ratio_by_rests a b c d Greater same (nat_cmp_is (d * (a % b)) (b * (c % d)) Greater (rw q (above_nothing b d (a % b) some p)))
 
 pub ratio_less_rest : (a b c d : ℕ) → 0 < b → a / b ≡ c / d → a % b ≡ 0 → 0 < c % d → Less ≡ nat_cmp (a * d) (c * b)
-ratio_less_rest a b c d some same p q = ratio_by_rests a b c d Less same (nat_cmp_is (d * (a % b)) (b * (c % d)) Less (rw p (positive b (c % d) some q)))
-  where
-    positive : (x y : ℕ) → 0 < x → 0 < y → d * 0 < x * y
-    positive (suc x) (suc y) p q = omega arith
-    positive zero y p q = absurd (omega arith)
-    positive (suc x) zero p q = absurd (omega arith)
+ratio_less_rest a b c d some same p q = ratio_by_rests a b c d Less same (nat_cmp_is (d * (a % b)) (b * (c % d)) Less (rw p (above_nothing d b (c % d) some q)))

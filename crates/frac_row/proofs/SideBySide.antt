@@ -24,27 +24,21 @@ abbrev pub ArePairs : ℕ → ℕ → List Pair → Type 0
 ArePairs from width [] = Unit {0}
 ArePairs from width (pair ∷ rest) = (from ≤ pair.column) × (pair.column < width) × ArePairs (pair.column + 1) width rest
 
--- what the pairs have in a column
+-- what the pairs have in a column, by one of their numbers
+abbrev pub value_in : (Pair → ℤ) → List Pair → ℕ → ℤ
+value_in value [] column = pos 0
+value_in value (pair ∷ rest) column = if pair.column == column then value pair else value_in value rest column
+
 abbrev pub first_in : List Pair → ℕ → ℤ
-first_in [] column = pos 0
-first_in (pair ∷ rest) column = if pair.column == column then pair.number else first_in rest column
+first_in pairs column = value_in (λ pair. pair.number) pairs column
 
 abbrev pub second_in : List Pair → ℕ → ℤ
-second_in [] column = pos 0
-second_in (pair ∷ rest) column = if pair.column == column then pair.pivot_number else second_in rest column
+second_in pairs column = value_in (λ pair. pair.pivot_number) pairs column
 
-no_first_before : (from width : ℕ) (pairs : List Pair) (column : ℕ) → ArePairs from width pairs → column < from → first_in pairs column ≡ pos 0
-no_first_before from width [] column h lt = refl
-no_first_before from width (p ∷ ps) column h lt =
-    if_apart p.column column _ _ (apart h.0) ∙ no_first_before (p.column + 1) width ps column h.2 (omega (arith, h.0))
-  where
-    apart : from ≤ p.column → p.column ≢ column
-    apart le = omega arith
-
-no_second_before : (from width : ℕ) (pairs : List Pair) (column : ℕ) → ArePairs from width pairs → column < from → second_in pairs column ≡ pos 0
-no_second_before from width [] column h lt = refl
-no_second_before from width (p ∷ ps) column h lt =
-    if_apart p.column column _ _ (apart h.0) ∙ no_second_before (p.column + 1) width ps column h.2 (omega (arith, h.0))
+none_before : (value : Pair → ℤ) (from width : ℕ) (pairs : List Pair) (column : ℕ) → ArePairs from width pairs → column < from → value_in value pairs column ≡ pos 0
+none_before value from width [] column h lt = refl
+none_before value from width (p ∷ ps) column h lt =
+    if_apart p.column column _ _ (apart h.0) ∙ none_before value (p.column + 1) width ps column h.2 (omega (arith, h.0))
   where
     apart : from ≤ p.column → p.column ≢ column
     apart le = omega arith
@@ -125,7 +119,7 @@ combined_rise f from width (p ∷ ps) h =
 combined_more : (f : Factors) (from width : ℕ) (p : Pair) (ps : List Pair) (column : ℕ) → ArePairs from width (p ∷ ps) → number_in (combined_entries f ps) column ≡ combined_number f (first_in ps column) (second_in ps column) → number_in (combined_entries f (p ∷ ps)) column ≡ combined_number f (first_in (p ∷ ps) column) (second_in (p ∷ ps) column)
 combined_more f from width p ps column h behind =
     by_zero (λ entries. number_in entries column ≡ combined_number f (first_in (p ∷ ps) column) (second_in (p ∷ ps) column)) (combined_number f p.number p.pivot_number) _ _
-    (λ e. by_column _ (λ here. behind ∙ combined_nothing f (first_in ps column) (second_in ps column) (no_first_before (p.column + 1) width ps column h.2 (omega arith)) (no_second_before (p.column + 1) width ps column h.2 (omega arith)) ∙ sym e) (λ _. behind))
+    (λ e. by_column _ (λ here. behind ∙ combined_nothing f (first_in ps column) (second_in ps column) (none_before (λ pair. pair.number) (p.column + 1) width ps column h.2 (omega arith)) (none_before (λ pair. pair.pivot_number) (p.column + 1) width ps column h.2 (omega arith)) ∙ sym e) (λ _. behind))
     (λ ne. same_behind column p.column (combined_number f p.number p.pivot_number) _ _ (λ here. by_column _ (λ _. refl) (λ apart. absurd (apart here))) (λ apart. by_column _ (λ here. absurd (apart here)) (λ _. behind)))
   where
     by_column : (z : ℤ) → (p.column ≡ column → z ≡ combined_number f p.number p.pivot_number) → (p.column ≢ column → z ≡ combined_number f (first_in ps column) (second_in ps column)) → z ≡ combined_number f (first_in (p ∷ ps) column) (second_in (p ∷ ps) column)
@@ -172,7 +166,7 @@ first_growth_is f from width [] place le h none is =
     sym (all_nothing place width (λ k lt. elim (cases_lt k from) [ inl before ↦ nothing_at place from k none before | inr ge ↦ is k ge ∙ no_growth_of_nothing f k (pos 0) (pos 0) refl refl ]))
 first_growth_is f from width (p ∷ ps) place le h none is =
     first_more f width from p.column p.number p.pivot_number place (first_growth f ps) h.0 h.1 none
-    (λ k ge below. is k ge ∙ no_growth_of_nothing f k _ _ (no_first_before p.column width (p ∷ ps) k (omega arith, h.1, h.2) below) (no_second_before p.column width (p ∷ ps) k (omega arith, h.1, h.2) below))
+    (λ k ge below. is k ge ∙ no_growth_of_nothing f k _ _ (none_before (λ pair. pair.number) p.column width (p ∷ ps) k (omega arith, h.1, h.2) below) (none_before (λ pair. pair.pivot_number) p.column width (p ∷ ps) k (omega arith, h.1, h.2) below))
     (is p.column h.0 ∙ ap (λ x. place_growth f p.column x (second_in (p ∷ ps) p.column)) (if_same p.column p.column p.number _ refl) ∙ ap (place_growth f p.column p.number) (if_same p.column p.column p.pivot_number _ refl))
     (λ past. first_growth_is f (p.column + 1) width ps place (omega (arith, h.1)) h.2 past
     (λ k ge. is k (omega (arith, h.0)) ∙ ap (λ x. place_growth f k x (second_in (p ∷ ps) k)) (if_apart p.column k p.number _ (apart k ge)) ∙ ap (place_growth f k (first_in ps k)) (if_apart p.column k p.pivot_number _ (apart k ge))))

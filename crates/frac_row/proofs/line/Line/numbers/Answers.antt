@@ -1,7 +1,8 @@
 use Rattle.std.proofs.Common.{pos, length, get_or, sym, ◌∙◌, ap, arith}
 use Rattle.frac_row.specs.Content.{number_in}
 use Rattle.frac_row.specs.Lines.{numbers_of, numbered}
-use Rattle.frac_row.proofs.LineNumbers.{numbered_rise, numbered_is, rising_entries}
+use Rattle.frac_row.proofs.LineNumbers.{numbered_rise, numbered_is}
+use Rattle.frac_row.proofs.Contents.{rising_entries}
 use Rattle.frac_row.proofs.line.Line.numbers.Goals as goal
 
 pub returns-in-Full-clause-rising : goal.returns-in-Full-clause-rising
