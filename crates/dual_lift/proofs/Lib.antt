@@ -7,7 +7,6 @@ pub mod Excesses
 pub mod LeastScales
 pub mod LowestTerms
 pub mod Mixtures
-pub mod Multiples
 pub mod PartLists
 pub mod Quotients
 pub mod Reached
