@@ -14,3 +14,4 @@ pub mod AllPlaces
 pub mod FirstRows
 pub mod Changed
 pub mod Scans
+pub mod MappedRows

@@ -8,7 +8,6 @@ pub mod choice;
 pub mod dense;
 pub mod error;
 pub mod first;
-pub mod for_stores;
 pub mod laws;
 pub mod pivoting;
 pub mod problem;

@@ -7,7 +7,7 @@ ghost use Rattle.row_store.specs.Table.{IsTable, columns_of, height_of};
 ghost use Rattle.row_store.specs.Choice.{improves, is_negative, better, candidate_at, entering, leaving};
 ghost use Rattle.row_store.specs.Scan.{first_where};
 
-use crate::for_stores::{Candidate, better, row_of};
+use crate::choice::{Candidate, better, row_of};
 use frac_row::{Entry, SparseRow};
 
 /// The least improving one of the first columns of a table.

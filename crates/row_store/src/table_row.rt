@@ -1,9 +1,9 @@
-ghost use Rattle.std.specs.Prelude.{◌≡◌, ◌<◌, ◌^◌, ◌↔◌, ◌++◌, ◌∷◌, [], ℕ, List, pos, ◌<ℤ◌, length, slice_index_or, slice_set, None, IsTrue, IfOk, refl};
-ghost use Rattle.std.proofs.lemmas.List.{get_or_read};
+ghost use Rattle.std.specs.Prelude.{◌≡◌, ◌<◌, ◌^◌, ◌↔◌, List, map, pos, ◌<ℤ◌, None, IsTrue, IfOk};
+ghost use Rattle.std.proofs.Common.{sym};
+ghost use Rattle.std.proofs.lemmas.List.{map-id};
 ghost use Rattle.frac_row.specs.declared.row.FracRow.{FracRow};
 ghost use Rattle.frac_row.specs.Row.{IsRow, IsSmall, number_of, width_of};
 ghost use Rattle.frac_row.specs.Combined.{combined_row, growth_of};
-ghost use Rattle.row_store.specs.Table.{no_row, row_at};
 ghost use Rattle.row_store.specs.Pivot.{scaled_row};
 
 use entries::{Entries, NoMemory};
@@ -62,15 +62,7 @@ pub trait TableRow: Sized + Drop {
         requires fits { growth_of (full self.now) (full pivot_row.now) column ≡ None }
         ensures { IfOk result (λ made. full made ≡ combined_row (full self.now) (full pivot_row.now) column) };
 
-    ghost same_length: { (rows : List Self) → length (table rows) ≡ length rows };
-
-    ghost none: { table [] ≡ [] };
-
-    ghost pushes: { (rows : List Self) (row : Self) → table (rows ++ row ∷ []) ≡ table rows ++ full row ∷ [] };
-
-    ghost writes: { (rows : List Self) (place : ℕ) (row : Self) → table (slice_set rows place row) ≡ slice_set (table rows) place (full row) };
-
-    ghost reads: { (rows : List Self) (place : ℕ) (read : Self) → place < length rows → read ≡ slice_index_or rows place read → full read ≡ row_at (table rows) place };
+    ghost mapped: { (rows : List Self) → table rows ≡ map full rows };
 }
 
 impl TableRow for FracRow {
@@ -113,15 +105,7 @@ impl TableRow for FracRow {
         Ok(made)
     }
 
-    ghost same_length = { λ rows. refl };
-
-    ghost none = { refl };
-
-    ghost pushes = { λ rows row. refl };
-
-    ghost writes = { λ rows place row. refl };
-
-    ghost reads = { λ rows place read lt e. get_or_read rows place read lt e no_row };
+    ghost mapped = { λ rows. sym (map-id rows) };
 }
 
 impl TableRow for SparseRow {
@@ -158,15 +142,7 @@ impl TableRow for SparseRow {
         combine(alloc, self, pivot_row, column)
     }
 
-    ghost same_length = { λ rows. refl };
-
-    ghost none = { refl };
-
-    ghost pushes = { λ rows row. refl };
-
-    ghost writes = { λ rows place row. refl };
-
-    ghost reads = { λ rows place read lt e. get_or_read rows place read lt e no_row };
+    ghost mapped = { λ rows. sym (map-id rows) };
 }
 
 /// The same row with all its numbers.

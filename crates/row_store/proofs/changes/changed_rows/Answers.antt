@@ -1,4 +1,5 @@
 use Rattle.std.proofs.Common.{◌≡◌, length, arith, ◌∙◌}
+use Rattle.row_store.proofs.MappedRows.{same_length}
 use Rattle.row_store.proofs.Changed.{made_none, made_more}
 use Rattle.row_store.proofs.changes.changed_rows.Goals as goal
 
@@ -15,7 +16,7 @@ changed_row-requires g c = record {
   column = c.requires.column;
   positive = c.requires.positive;
   fits = c.requires.fits;
-  other = rw (g.met.R.TableRow.same_length c.args.rows.now) (omega arith);
+  other = rw (same_length _ _ _ (g.met.R.TableRow.mapped c.args.rows.now)) (omega arith);
 }
 
 pub returns : goal.returns
@@ -23,5 +24,5 @@ returns g c =
     let all : c.loop-other.other ≡ length c.args.rows.now = omega arith in
     record {
       same_length = c.loop-other.invariant.same_length ∙ all;
-      made = λ place lt. c.loop-other.invariant.made place (rw all (rw (g.met.R.TableRow.same_length c.args.rows.now) at lt));
+      made = λ place lt. c.loop-other.invariant.made place (rw all (rw (same_length _ _ _ (g.met.R.TableRow.mapped c.args.rows.now)) at lt));
     }

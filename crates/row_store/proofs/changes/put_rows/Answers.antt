@@ -1,11 +1,12 @@
 use Rattle.std.proofs.Common.{◌≡◌, [], ◌∷◌, ◌++◌, rules, length, ◌∙◌, sym, ap, refl}
 use Rattle.row_store.specs.Table.{row_at}
 use Rattle.row_store.specs.Changes.{value_or}
+use Rattle.row_store.proofs.MappedRows.{same_length, written}
 use Rattle.row_store.proofs.Changed.{put_none, put_more, put_fresh, put_all}
 use Rattle.row_store.proofs.changes.put_rows.Goals as goal
 
 pub loop-change-init : goal.loop-change-init
-loop-change-init g c = put_none _ _ _ (c.requires ∙ sym (g.met.R.TableRow.same_length c.args.rows.now.items))
+loop-change-init g c = put_none _ _ _ (c.requires ∙ sym (same_length _ _ _ (g.met.R.TableRow.mapped c.args.rows.now.items)))
 
 pub loop-change-preserved : goal.loop-change-preserved
 loop-change-preserved g c =
@@ -18,7 +19,7 @@ loop-change-preserved-in-Some-change g c =
     let last : c.loop-change.left.items ≡ c.pop.new.self.items ++ c.in-Some.change ∷ [] = search rules in
     let place : c.len.result ≡ length c.pop.new.self.items = search rules in
     put_fresh _ _ (g.R.TableRow.table c.loop-change.rows.items) _ _ c.loop-change.left.items _ c.in-Some-change.fresh _ c.loop-change.invariant
-    (last ∙ ap (λ o. c.pop.new.self.items ++ o ∷ []) c.in-Some-change.is) place (g.met.R.TableRow.writes _ _ _)
+    (last ∙ ap (λ o. c.pop.new.self.items ++ o ∷ []) c.in-Some-change.is) place (written _ c.loop-change.rows.items _ c.in-Some-change.fresh _ _ (g.met.R.TableRow.mapped _) (g.met.R.TableRow.mapped _))
 
 pub returns : goal.returns
 returns g c =

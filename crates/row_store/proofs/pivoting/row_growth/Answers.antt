@@ -1,6 +1,7 @@
 use Rattle.std.proofs.Common.{◌≡◌, arith, ◌∙◌, ap, option_map, ◌<◌, ◌^◌, sym, subst}
 use Rattle.row_store.specs.Table.{row_at}
 use Rattle.row_store.specs.Pivot.{clearing_growth}
+use Rattle.row_store.proofs.MappedRows.{read_at}
 use Rattle.row_store.proofs.Pivots.{row_growth_self, row_growth_other}
 use Rattle.row_store.proofs.pivoting.row_growth.Goals as goal
 use Rattle.frac_row.specs.Row.{IsSmall}
@@ -13,8 +14,8 @@ pub returns : goal.returns
 returns g c =
     let table = g.R.TableRow.table c.args.rows.now in
     let mapped : c.place_in.result ≡ option_map (λ growth. record { row = c.args.other; column = growth.column }) c.clearing_growth-growth.result = c.place_in.ensures in
-    let old = g.met.R.TableRow.reads c.args.rows.now c.args.other c.index-rows-other.result (rw (g.met.R.TableRow.same_length c.args.rows.now) at c.requires.other) c.index-rows-other.is in
-    let pivot = g.met.R.TableRow.reads c.args.rows.now c.args.row c.index-rows-row.result (rw (g.met.R.TableRow.same_length c.args.rows.now) at c.requires.row) c.index-rows-row.is in
+    let old = read_at _ c.args.rows.now _ c.args.other c.index-rows-other.result (g.met.R.TableRow.mapped c.args.rows.now) c.requires.other c.index-rows-other.is in
+    let pivot = read_at _ c.args.rows.now _ c.args.row c.index-rows-row.result (g.met.R.TableRow.mapped c.args.rows.now) c.requires.row c.index-rows-row.is in
     mapped ∙ row_growth_other table c.args.row c.args.column c.args.other c.clearing_growth-growth.result (λ e. c.if-other-row.false e)
     (c.clearing_growth-growth.ensures ∙ ap (λ r. clearing_growth r (g.R.TableRow.full c.index-rows-row.result) c.args.column) old
     ∙ ap (λ r. clearing_growth (row_at table c.args.other) r c.args.column) pivot)
@@ -22,8 +23,8 @@ returns g c =
 pub clearing_growth-growth-requires : goal.clearing_growth-growth-requires
 clearing_growth-growth-requires g c =
     let table = g.R.TableRow.table c.args.rows.now in
-    let old = g.met.R.TableRow.reads c.args.rows.now c.args.other c.index-rows-other.result (rw (g.met.R.TableRow.same_length c.args.rows.now) at c.requires.other) c.index-rows-other.is in
-    let pivot = g.met.R.TableRow.reads c.args.rows.now c.args.row c.index-rows-row.result (rw (g.met.R.TableRow.same_length c.args.rows.now) at c.requires.row) c.index-rows-row.is in
+    let old = read_at _ c.args.rows.now _ c.args.other c.index-rows-other.result (g.met.R.TableRow.mapped c.args.rows.now) c.requires.other c.index-rows-other.is in
+    let pivot = read_at _ c.args.rows.now _ c.args.row c.index-rows-row.result (g.met.R.TableRow.mapped c.args.rows.now) c.requires.row c.index-rows-row.is in
     record {
       row = is_row table c.args.other _ c.requires.table c.requires.other old;
       pivot_row = is_row table c.args.row _ c.requires.table c.requires.row pivot;
