@@ -42,10 +42,3 @@ past_at_last lines columns others chosen e lt h =
 pub none_chosen : (others : ℕ) → 1 ≡ ways_to_choose (others + 0) 0
 unfolding ways_to_choose
 none_chosen others = refl
-
--- a count that is counted on stands at the next place
-pub next_count : (others chosen more : ℕ) → more ≡ ways_to_choose (others + chosen + 1) (chosen + 1) → more ≡ ways_to_choose (others + (chosen + 1)) (chosen + 1)
-next_count others chosen more e = e ∙ ap (λ n. ways_to_choose n (chosen + 1)) (together others chosen)
-  where
-    together : (m k : ℕ) → m + k + 1 ≡ m + (k + 1)
-    together m k = omega arith

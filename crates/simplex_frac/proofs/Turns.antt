@@ -51,6 +51,10 @@ pub record IsPivotPlace (now : Tableau) (columns row column : ℕ) : Type 0 wher
   pub real : column < columns
   pub positive : pos 0 <ℤ number_at now.table row column
 
+-- what is found at a slice of the basis
+pub due : (table : List FracRow) (basis slice : List ℕ) (columns row column : ℕ) → Pivot row column ≡ turn (record { table = table; basis = slice }) columns → slice ≡ basis → Pivot row column ≡ turn (record { table = table; basis = basis }) columns
+due table basis slice columns row column e same = e ∙ ap (λ b. turn (record { table = table; basis = b }) columns) same
+
 pub pivot_place : (now : Tableau) (columns row column : ℕ) → turn now columns ≡ Pivot row column → IsPivotPlace now columns row column
 unfolding turn
 pivot_place now columns row column e = by_entering (entering now.table columns) refl e
