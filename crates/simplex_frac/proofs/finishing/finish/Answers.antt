@@ -28,7 +28,7 @@ loop-basis-init g c = record {
 pub pivot-requires : goal.pivot-requires
 pivot-requires g c =
     let place = pivot_place (record { table = g.R.RowStore.content c.loop-basis.store; basis = c.loop-basis.basis.items }) c.args.columns c.in-Pivot.row c.in-Pivot.column (sym (due _ _ _ _ _ _ c.in-Pivot.ensures c.as_slice.ensures.value)) in
-    record { row = omega (arith, place.line); column = omega (arith, place.real, c.loop-basis.invariant.shape); positive = place.positive; }
+    record { row = omega (arith, place.line); column = omega (arith, place.real, c.loop-basis.invariant.shape); positive = place.positive }
 
 pub index_mut-requires : goal.index_mut-requires
 index_mut-requires g c =

@@ -24,7 +24,7 @@ returns-in_default-clause-stopped g c = inl refl
 pub pivot-requires : goal.pivot-requires
 pivot-requires g c =
     let place = pivot_place (record { table = g.R.RowStore.content c.loop-made.store; basis = c.loop-made.basis.items }) c.args.columns c.in-Pivot.row c.in-Pivot.column (sym (due _ _ _ _ _ _ c.in-Pivot.ensures c.as_slice.ensures.value)) in
-    record { row = omega (arith, place.line); column = omega (arith, place.real, c.loop-made.invariant.shape); positive = place.positive; }
+    record { row = omega (arith, place.line); column = omega (arith, place.real, c.loop-made.invariant.shape); positive = place.positive }
 
 pub index_mut-requires : goal.index_mut-requires
 index_mut-requires g c =
