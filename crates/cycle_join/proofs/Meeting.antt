@@ -1,5 +1,5 @@
 -- Turns that meet touch one minute, and turns of different labels that touch one meet.
-use Rattle.std.proofs.Common.{◌≡◌, ◌≢◌, ℕ, ◌<◌, ◌⊎◌, inl, inr, Bool, true, false, ◌&&◌, ◌||◌, List, length, sym, ◌∙◌, ap, arith}
+use Rattle.std.proofs.Common.{◌≡◌, ◌≢◌, ℕ, ◌<◌, ◌⊎◌, inl, inr, Bool, true, false, ◌||◌, List, length, sym, ◌∙◌, ap, arith}
 use Rattle.std.proofs.lemmas.Bool.{and_from, and_parts, cases_order, eq-eqb, eqb-true, lt-ltb, ltb-true}
 use Rattle.sums.proofs.Tests.{by_either, no_both}
 use Rattle.fleet_model.specs.declared.parts.Connection.{Connection}
@@ -117,10 +117,3 @@ module _ (t : Tables) (a : List ℕ) (f : ℕ) (pairs turns : List Connection) (
       by_order s m j k moment p q (inl same) = by_label j k p.within q.within same
       by_order s m j k moment p q (inr (inl less)) = absurd (no_both (none k j q.within p.within) (meeting s m k j moment q p less))
       by_order s m j k moment p q (inr (inr more)) = absurd (no_both (none j k p.within q.within) (meeting s m j k moment p q more))
-
--- a value by two tests, the first of which holds or fails
-pub and_then : (a b value : Bool) → a ≡ true → value ≡ b → value ≡ (a && b)
-and_then a b value holds e = e ∙ ap (λ (first : Bool). first && b) (sym holds)
-
-pub and_fails : (a b value : Bool) → a ≡ false → value ≡ false → value ≡ (a && b)
-and_fails a b value fails e = e ∙ ap (λ (first : Bool). first && b) (sym fails)

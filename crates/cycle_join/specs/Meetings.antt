@@ -1,5 +1,5 @@
 -- Cycles of a fitting map, and where turns of two of them touch one minute.
-use Rattle.std.specs.Prelude.{◌≡◌, ◌≢◌, ℕ, ◌<◌, Bool, true, false, ◌==◌, ◌&&◌, ◌||◌, nat_lt, List, length, slice_index_or}
+use Rattle.std.specs.Prelude.{◌≡◌, ◌≢◌, ℕ, ◌<◌, Bool, true, false, ◌==◌, ◌&&◌, ◌||◌, nat_lt, List, length}
 use Rattle.fleet_model.specs.declared.parts.Connection.{Connection}
 use Rattle.fleet_model.specs.declared.tables.Tables.{Tables}
 use Rattle.fleet_model.specs.Counts.{choice_at}
@@ -7,19 +7,20 @@ use Rattle.fleet_model.specs.Legal.{IsAssignment}
 use Rattle.fleet_model.specs.Schedule.{fleets_in, legs_in}
 use Rattle.ground_turns.specs.Maps.{Holds, IsFitting, arrivals_of, turn_at}
 use Rattle.ground_turns.specs.Turns.{ready_at, station_at, touches}
+use Rattle.lines_of_flying.specs.Grounds.{AreMarks}
 use Rattle.cycle_join.specs.Labels.{AreLabels, AreLinked, label_of}
 use Rattle.cycle_join.specs.declared.cycles.Cycles.{Cycles}
 use Rattle.cycle_join.specs.declared.ground.Ground.{Ground}
 
--- a mark for each leg: in none of the pairs it arrives
-pub record AreFree (pairs : List Connection) (legs : ℕ) (marks : List Bool) : Type 0 where
-  pub each_leg : length marks ≡ legs
-  pub each : (l : ℕ) → l < legs → slice_index_or marks l false ≡ (arrivals_of pairs l == 0)
-
+-- by leg, whether it arrives in none of the pairs
 pub record IsMeetingGround (g : Ground) : Type 0 where
   pub plan : IsAssignment g.tables.now g.plan.now
   pub fleet : g.fleet < fleets_in g.tables.now
-  pub free : AreFree g.pairs.now (legs_in g.tables.now) g.free.items
+  pub free : AreMarks (arrivals_of g.pairs.now) (legs_in g.tables.now) g.free.items
+
+-- no given pair says what follows the landing of a turn
+abbrev pub is_free : Ground → Connection → Bool
+is_free g turn = arrivals_of g.pairs.now turn.arriving == 0
 
 -- a fitting map that holds the pairs, with the labels of its cycles
 pub record AreCycles (g : Ground) (c : Cycles) : Type 0 where

@@ -2,11 +2,11 @@
 ghost use Rattle.std.specs.Prelude.{◌≡◌, ◌<◌, IfOk};
 ghost use Rattle.fleet_model.specs.Legal.{IsAssignment};
 ghost use Rattle.fleet_model.specs.Schedule.{fleets_in};
-ghost use Rattle.ground_turns.specs.Maps.{arrivals_of};
-ghost use Rattle.cycle_join.specs.Meetings.{AreFree, IsMeetingGround};
+ghost use Rattle.cycle_join.specs.Meetings.{IsMeetingGround};
 
 use entries::NoMemory;
 use fleet_model::{Assignment, Connection, Tables};
+use lines_of_flying::marks_of_arriving;
 use std::alloc::Global;
 
 /// What stays the same while cycles are joined.
@@ -36,7 +36,7 @@ pub(crate) fn ground_of<'a>(
     ensures fleet { IfOk result (λ ground. ground.fleet ≡ fleet) }
     ensures pairs { IfOk result (λ ground. ground.pairs.now ≡ pairs.now) }
 {
-    let free = free_legs(alloc, tables.leg_count(), pairs)?;
+    let free = marks_of_arriving(alloc, tables.leg_count(), pairs)?;
     Ok(Ground {
         tables,
         plan,
@@ -44,28 +44,4 @@ pub(crate) fn ground_of<'a>(
         pairs,
         free,
     })
-}
-
-// By leg, whether no given pair says what follows it.
-fn free_legs(alloc: Global, legs: u32, pairs: &[Connection]) -> Result<Vec<bool>, NoMemory>
-    ensures { IfOk result (λ marks. AreFree pairs.now legs marks.items) }
-{
-    let mut marks = Vec::new(alloc);
-    for leg in 0..legs {
-        marks.push(arrivals(pairs, leg) == 0)?;
-    }
-    Ok(marks)
-}
-
-// In how many pairs a leg arrives.
-fn arrivals(pairs: &[Connection], leg: u32) -> usize
-    ensures { result ≡ arrivals_of pairs.now leg }
-{
-    let mut count = 0;
-    for pair in pairs {
-        if pair.arriving == leg {
-            count += 1;
-        }
-    }
-    count
 }

@@ -1,9 +1,9 @@
 //! Where two turns touch one minute at one station.
-ghost use Rattle.std.specs.Prelude.{◌≡◌, ◌<◌};
+ghost use Rattle.std.specs.Prelude.{◌≡◌, ◌<◌, ◌==◌, ◌&&◌, nat_lt};
 ghost use Rattle.fleet_model.specs.Schedule.{fleets_in, legs_in, period_of};
-ghost use Rattle.ground_turns.specs.Turns.{IsTurn, ready_at, touches};
-ghost use Rattle.cycle_join.specs.Labels.{AreLabels};
-ghost use Rattle.cycle_join.specs.Meetings.{IsMeetingGround, meets_cycle, share_minute};
+ghost use Rattle.ground_turns.specs.Turns.{IsTurn, ready_at, station_at, touches};
+ghost use Rattle.cycle_join.specs.Labels.{AreLabels, label_of};
+ghost use Rattle.cycle_join.specs.Meetings.{IsMeetingGround, is_free, meets_cycle, share_minute};
 
 use crate::ground::Ground;
 use fleet_model::{Connection, Tables};
@@ -23,11 +23,31 @@ pub(crate) fn meets(
     requires other { IsTurn ground.now.tables.now ground.now.plan.now ground.now.fleet other }
     ensures { result ≡ meets_cycle ground.now.tables.now ground.now.fleet ground.now.pairs.now labels.now turn other }
 {
+    may_meet(ground, labels, turn, other) && share_minute(ground.tables, ground.fleet, turn, other)
+}
+
+// Whether a turn may meet another: one of a cycle with a lower label, neither of a given pair, at the same station.
+fn may_meet(ground: &Ground<'_>, labels: &[u32], turn: Connection, other: Connection) -> bool
+    requires ground { IsMeetingGround ground.now }
+    requires labels { AreLabels labels.now (legs_in ground.now.tables.now) }
+    requires turn { turn.arriving < legs_in ground.now.tables.now }
+    requires other { other.arriving < legs_in ground.now.tables.now }
+    ensures { result ≡ (nat_lt (label_of labels.now other.arriving) (label_of labels.now turn.arriving) && is_free ground.now turn && is_free ground.now other
+        && (station_at ground.now.tables.now turn == station_at ground.now.tables.now other)) }
+{
     labels[other.arriving as usize] < labels[turn.arriving as usize]
-        && ground.free[turn.arriving as usize]
-        && ground.free[other.arriving as usize]
+        && is_free(ground, turn)
+        && is_free(ground, other)
         && ground.tables.leg(turn.arriving).to == ground.tables.leg(other.arriving).to
-        && share_minute(ground.tables, ground.fleet, turn, other)
+}
+
+// Whether no given pair says what follows the landing of a turn.
+fn is_free(ground: &Ground<'_>, turn: Connection) -> bool
+    requires ground { IsMeetingGround ground.now }
+    requires turn { turn.arriving < legs_in ground.now.tables.now }
+    ensures { result ≡ is_free ground.now turn }
+{
+    ground.free[turn.arriving as usize]
 }
 
 // Whether one of two turns touches the ready minute of the other.

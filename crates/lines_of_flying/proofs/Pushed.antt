@@ -1,9 +1,8 @@
 -- Lists that a loop makes entry by entry.
-use Rattle.std.proofs.Common.{◌≡◌, ℕ, ◌+◌, ◌==◌, ◌&&◌, Bool, true, false, if◌then◌else◌, List, [], ◌∷◌, ◌++◌, refl, sym, ◌∙◌, ap, inl, inr, append_assoc, arith}
+use Rattle.std.proofs.Common.{◌≡◌, ℕ, ◌+◌, ◌==◌, Bool, false, List, [], ◌∷◌, ◌++◌, ◌∙◌, ap, inl, inr, append_assoc, arith}
 use Rattle.std.proofs.Math.Numerals.{suc-eq-add-one}
 use Rattle.std.proofs.lemmas.Bool.{cases_lt}
 use Rattle.std.proofs.lemmas.List.{get_or_append_left, get_or_push, length_push}
-use Rattle.sums.specs.Below.{count_below}
 use Rattle.lines_of_flying.specs.Grounds.{AreMarks}
 use Rattle.lines_of_flying.specs.Lines.{line_after, lines_ended}
 
@@ -26,23 +25,3 @@ ended_more line n old now more ended is here pushed =
 -- the line after a night
 pub line_begun : (line : List ℕ) (n : ℕ) (now : List ℕ) → now ≡ [] → now ≡ line_after line (n + 1)
 line_begun line n now none = none ∙ ap (line_after line) (suc-eq-add-one n)
-
--- one number more that is counted, and one that isn't
-pub one_counted : (p : ℕ → Bool) (n count more : ℕ) → count ≡ count_below p n → more ≡ count + 1 → p n ≡ true → more ≡ count_below p (n + 1)
-one_counted p n count more is e passes =
-    e ∙ ap (λ m. m + 1) is ∙ ap (λ (b : Bool). count_below p n + (if b then 1 else 0)) (sym passes) ∙ ap (count_below p) (suc-eq-add-one n)
-
-pub none_counted : (p : ℕ → Bool) (n count more : ℕ) → count ≡ count_below p n → more ≡ count → p n ≡ false → more ≡ count_below p (n + 1)
-none_counted p n count more is e fails =
-    e ∙ is ∙ plus_none (count_below p n) ∙ ap (λ (b : Bool). count_below p n + (if b then 1 else 0)) (sym fails) ∙ ap (count_below p) (suc-eq-add-one n)
-  where
-    plus_none : (m : ℕ) → m ≡ m + 0
-    plus_none m = omega arith
-
--- a test of which one part fails
-pub not_first : (b x : Bool) → b ≡ false → (b && x) ≡ false
-not_first b x fails = ap (λ (first : Bool). first && x) fails
-
-pub not_second : (b x : Bool) → x ≡ false → (b && x) ≡ false
-not_second true x fails = fails
-not_second false x fails = refl

@@ -75,8 +75,12 @@ pub(crate) fn departure(ground: &Ground<'_>, leg: u32) -> u16
         .departure(flight(ground.tables, leg, ground.fleet))
 }
 
-// By leg, whether no given pair says what follows it.
-fn marks_of_arriving(alloc: Global, legs: u32, pairs: &[Connection]) -> Result<Vec<bool>, NoMemory>
+/// By leg, whether no given pair says what follows it.
+pub fn marks_of_arriving(
+    alloc: Global,
+    legs: u32,
+    pairs: &[Connection],
+) -> Result<Vec<bool>, NoMemory>
     ensures { IfOk result (λ marks. AreMarks (arrivals_of pairs.now) legs marks.items) }
 {
     let mut marks = Vec::new(alloc);

@@ -10,4 +10,5 @@ mod needs;
 mod places;
 
 pub use days::{cut, first_day, lines, nights_after, periods_after, turn_after};
+pub use ground::marks_of_arriving;
 pub use mapping::successors;
