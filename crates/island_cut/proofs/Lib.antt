@@ -10,7 +10,6 @@ pub mod Passing
 pub mod PlainDays
 pub mod QuickestFleets
 pub mod QuietMinutes
-pub mod Raised
 pub mod SameUse
 pub mod Slower
 pub mod Told

@@ -1,5 +1,5 @@
 -- The list of idle minutes, one minute and one station more; it is empty where there are no islands.
-use Rattle.std.proofs.Common.{◌≡◌, ℕ, zero, suc, ◌+◌, Bool, true, false, if◌then◌else◌, List, [], ◌∷◌, ◌++◌, map, filter, append-nil, append_assoc, refl, sym, ◌∙◌, ap, arith}
+use Rattle.std.proofs.Common.{◌≡◌, ℕ, zero, suc, ◌+◌, Bool, true, false, if◌then◌else◌, List, [], ◌∷◌, ◌++◌, map, filter, refl, sym, ◌∙◌, ap, arith}
 use Rattle.std.proofs.lemmas.List.{map-append}
 use Rattle.std.proofs.lemmas.List.FromFn.{filter_of_map_range_with_len_more}
 use Rattle.sums.specs.Places.{list_below}
@@ -24,12 +24,6 @@ entry_more t s n = ap (map (idle_at s)) (filter_of_map_range_with_len_more (is_i
 pub no_entries : (t : Tables) (s : ℕ) → entries_below t s 0 ≡ []
 unfolding entries_below
 no_entries t s = refl
-
-pub grown_more : (t : Tables) (s n : ℕ) (b : Bool) (old now new : List Idle) → now ≡ old ++ entries_below t s n → b ≡ is_idle t s n → new ≡ now ++ (if b then idle_at s n ∷ [] else [])
-    → new ≡ old ++ entries_below t s (n + 1)
-grown_more t s n b old now new so_far here grown =
-    grown ∙ ap (λ xs. xs ++ (if b then idle_at s n ∷ [] else [])) so_far ∙ ap (λ c. old ++ entries_below t s n ++ (if c then idle_at s n ∷ [] else [])) here
-    ∙ append_assoc old (entries_below t s n) (if is_idle t s n then idle_at s n ∷ [] else []) ∙ ap (λ xs. old ++ xs) (sym (entry_more t s n))
 
 -- ---- where there are no islands
 none_passes : (p : ℕ → Bool) (n : ℕ) → ((m : ℕ) → p m ≡ false) → filter p (list_below (λ m. m) n) ≡ []
@@ -67,9 +61,6 @@ station_more t s = ap (idles_below t) next
   where
     next : s + 1 ≡ suc s
     next = omega arith
-
-pub none_yet : (t : Tables) (s : ℕ) (xs : List Idle) → xs ≡ xs ++ entries_below t s 0
-none_yet t s xs = sym (ap (λ ys. xs ++ ys) (no_entries t s) ∙ append-nil xs)
 
 pub entries_of_station : (t : Tables) (s n : ℕ) → n ≡ period_of t → entries_below t s n ≡ map (idle_at s) (idle_minutes t s)
 unfolding entries_below

@@ -47,7 +47,7 @@ module _ (t : Tables) (some other : ℕ → ℕ) (first : AreQuickest t some) (s
   unfolding need_by
   same_need s = max_below-agree (excess_by t (joined_flights t some) s) (excess_by t (joined_flights t other) s) (period_of t) (record { each = λ m within. same_excess s m })
 
-  pub same_laps_flown : laps_by t (joined_flights t some) ≡ laps_by t (joined_flights t other)
+  same_laps_flown : laps_by t (joined_flights t some) ≡ laps_by t (joined_flights t other)
   unfolding laps_by
   same_laps_flown = sum_below-agree (laps_at_by t (joined_flights t some)) (laps_at_by t (joined_flights t other)) (legs_in t)
       (record { each = λ l below. ap (λ n. 1 * n) (same_laps l below) })

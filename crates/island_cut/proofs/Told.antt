@@ -1,89 +1,53 @@
--- What counts of the joined_flights schedule by minutes tell, whichever quickest fleets are taken.
-use Rattle.std.proofs.Common.{◌≡◌, ℕ, suc, ◌+◌, ◌-◌, ◌<◌, ◌≤◌, ◌==◌, ◌&&◌, not, nat_le, Bool, true, false, if◌then◌else◌, List, slice_index, refl, ◌∙◌, ap, arith}
+-- What counts of the joined schedule tell, whichever quickest fleets are taken, and the empty minutes of a plan.
+use Rattle.std.proofs.Common.{◌≡◌, ℕ, ◌<◌, ◌==◌, ◌&&◌, Bool, true, false, if◌then◌else◌, List, filter, refl, sym, ◌∙◌, ap}
+use mathlib.Core.Path.{fun_ext}
 use mir.Val.{bool_byte}
-use Rattle.std.proofs.lemmas.Bool.Decides.{nat_tests}
-use Rattle.sums.specs.Below.{count_below, sum_below}
-use Rattle.sums.proofs.Maxima.{max_below-agree}
+use Rattle.sums.specs.Below.{count_below}
+use Rattle.sums.specs.Places.{list_below}
 use Rattle.fleet_model.specs.declared.tables.Tables.{Tables}
-use Rattle.fleet_model.specs.Schedule.{last_of, period_of, stations_in}
-use Rattle.fleet_model.proofs.PeriodMinutes.{last_in}
-use Rattle.stand_counts.specs.Flights.{arrived_by, departed_by, excess_by, laps_by, need_by, stand_by, used_by}
-use Rattle.island_cut.specs.Islands.{has_islands, have_pairs, is_idle, is_uneven, joined_legs, quickest_of}
-use Rattle.island_cut.specs.Movements.{TellEach, greatest_lead, lead}
+use Rattle.fleet_model.specs.Counts.{weights_of}
+use Rattle.fleet_model.specs.Legal.{IsAssignment}
+use Rattle.fleet_model.specs.Schedule.{fleets_in, last_of, period_of, stations_in}
+use Rattle.stand_counts.specs.Flights.{planned, stand_by, used_by}
+use Rattle.stand_counts.proofs.PlanCounts.{stand_of_plan}
+use Rattle.island_cut.specs.Islands.{balance_by, has_islands, have_pairs, idle_minutes, is_idle, is_uneven, joined_legs, quickest_of}
 use Rattle.island_cut.specs.PlainDay.{is_plain_day}
 use Rattle.island_cut.specs.Spare.{AreQuickest, aircraft_in, joined_flights}
+use Rattle.island_cut.specs.Zeros.{empty_of, none_left, none_stands, zeros_below, zeros_of}
+use Rattle.island_cut.proofs.IslandProofs.{quickest_there}
 use Rattle.island_cut.proofs.QuickestFleets.{pairs_tested, quickest_are}
-use Rattle.island_cut.proofs.SameUse.{same_arrived, same_departed, same_laps_flown}
+use Rattle.island_cut.proofs.SameUse.{same_arrived, same_departed, same_need, same_use}
 
-empty_test : (a b : ℕ) → nat_le a b ≡ (a - b == 0)
-empty_test a b = grind (arith, nat_tests)
+-- of the first minutes those that pass one test pass another that says the same
+same_passing : (p q : ℕ → Bool) (n : ℕ) → ((m : ℕ) → p m ≡ q m) → filter p (list_below (λ m. m) n) ≡ filter q (list_below (λ m. m) n)
+same_passing p q n same = ap (λ (r : ℕ → Bool). filter r (list_below (λ m. m) n)) (fun_ext same)
 
--- two tests that are there already
-with_two : (a b c d e : Bool) → a ≡ true → b ≡ d → c ≡ e → (b && c) ≡ ((a && d) && e)
-with_two true b c d e p q r = rw (q, r) refl
-with_two false b c d e p q r = cc
+-- those that are empty by a fleet's flights of a plan
+pub plan_told : (t : Tables) (a : List ℕ) (f : ℕ) → IsAssignment t a → f < fleets_in t → (s : ℕ) → empty_of t (planned t a f) s ≡ zeros_of t (weights_of a) f s
+unfolding zeros_below
+plan_told t a f plan known s = same_passing (none_left t (planned t a f) s) (none_stands t (weights_of a) f s) (period_of t) (λ m. ap (λ n. n == 0) (stand_of_plan t a f plan known s m))
 
--- .. and one
-with_day : (a b c : Bool) → a ≡ true → b ≡ c → b ≡ (a && c)
-with_day true b c e same = same
-with_day false b c e same = cc
+module _ (t : Tables) (fleets : ℕ → ℕ) (quick : AreQuickest t fleets) where
+  same_stand : AreQuickest t (quickest_of t) → (s m : ℕ) → stand_by t (joined_flights t fleets) s m ≡ stand_by t (joined_legs t) s m
+  unfolding stand_by
+  same_stand others s m =
+      rw (same_need t fleets (quickest_of t) quick others s, same_arrived t fleets (quickest_of t) quick others s m, same_departed t fleets (quickest_of t) quick others s m) refl
 
-module _ (t : Tables) (fleets : ℕ → ℕ) (pairs : have_pairs t ≡ true) (quick : AreQuickest t fleets) where
-  others : AreQuickest t (quickest_of t)
-  others = quickest_are t (pairs_tested t pairs)
+  same_uneven : AreQuickest t (quickest_of t) → (s : ℕ) → is_uneven t (joined_flights t fleets) s ≡ is_uneven t (joined_legs t) s
+  same_uneven others s = rw (same_arrived t fleets (quickest_of t) quick others s (last_of t), same_departed t fleets (quickest_of t) quick others s (last_of t)) refl
 
-  module _ (s : ℕ) (departed arrived : List ℕ) (left : TellEach (period_of t) (departed_by t (joined_flights t fleets) s) departed) (come : TellEach (period_of t) (arrived_by t (joined_flights t fleets) s) arrived) where
-    left_same : (m : ℕ) → m < period_of t → slice_index departed m ≡ departed_by t (joined_legs t) s m
-    left_same m within = left.each m within ∙ same_departed t fleets (quickest_of t) quick others s m
+  pub minutes_told : has_islands t ≡ true → (s : ℕ) → empty_of t (joined_flights t fleets) s ≡ idle_minutes t s
+  unfolding is_idle
+  minutes_told islands s =
+      same_passing (none_left t (joined_flights t fleets) s) (is_idle t s) (period_of t)
+      (λ m. ap (λ n. n == 0) (same_stand (quickest_there t islands) s m) ∙ ap (λ b. b && none_left t (joined_legs t) s m) (sym islands))
 
-    come_same : (m : ℕ) → m < period_of t → slice_index arrived m ≡ arrived_by t (joined_legs t) s m
-    come_same m within = come.each m within ∙ same_arrived t fleets (quickest_of t) quick others s m
-
-    pub need_told : greatest_lead (period_of t) departed arrived ≡ need_by t (joined_legs t) s
-    unfolding need_by excess_by
-    need_told = max_below-agree (lead departed arrived) (excess_by t (joined_legs t) s) (period_of t)
-        (record { each = λ m within. omega (arith, left_same m within, come_same m within) })
-
-    pub even_told : not (slice_index arrived (last_of t) == slice_index departed (last_of t)) ≡ is_uneven t (joined_legs t) s
-    even_told = rw (come_same (last_of t) (last_in t), left_same (last_of t) (last_in t)) refl
-
-    pub empty_told : has_islands t ≡ true → (m : ℕ) → m < period_of t → nat_le (greatest_lead (period_of t) departed arrived + slice_index arrived m) (slice_index departed m) ≡ is_idle t s m
-    unfolding is_idle stand_by
-    empty_told islands m within = rw (islands, need_told, come_same m within, left_same m within) (empty_test _ _)
-
-    -- the same of the lists that the calls get
-    pub empty_found : has_islands t ≡ true → (m : ℕ) → m < period_of t → (d a e b : List ℕ) (need : ℕ) (is_one : Bool) → d ≡ departed → a ≡ arrived → e ≡ departed → b ≡ arrived
-        → need ≡ greatest_lead (period_of t) d a → is_one ≡ nat_le (need + slice_index b m) (slice_index e m) → is_one ≡ is_idle t s m
-    empty_found islands m within d a e b need is_one d_is a_is e_is b_is need_is one_is = one_is ∙ rw (need_is, d_is, a_is, e_is, b_is) (empty_told islands m within)
-
-    pub need_found : (d a : List ℕ) (need : ℕ) → d ≡ departed → a ≡ arrived → need ≡ greatest_lead (period_of t) d a → need ≡ need_by t (joined_legs t) s
-    need_found d a need d_is a_is need_is = need_is ∙ rw (d_is, a_is) need_told
-
-    pub even_found : (d a : List ℕ) (even : Bool) → d ≡ departed → a ≡ arrived → even ≡ (slice_index a (last_of t) == slice_index d (last_of t)) → not even ≡ is_uneven t (joined_legs t) s
-    even_found d a even d_is a_is even_is = ap not even_is ∙ rw (d_is, a_is) even_told
-
-  pub islands_told : (uneven needed laps aircraft : ℕ) → uneven ≡ count_below (is_uneven t (joined_legs t)) (stations_in t) → needed ≡ sum_below (need_by t (joined_legs t)) (stations_in t)
-      → laps ≡ laps_by t (joined_flights t fleets) → aircraft ≡ aircraft_in t → is_plain_day t ≡ true → ((uneven == 0) && (needed + laps == aircraft)) ≡ has_islands t
-  unfolding has_islands used_by
-  islands_told uneven needed laps aircraft first second third fourth day = with_day (is_plain_day t) _ _ day (with_two (have_pairs t) _ _ _ _ pairs (ap (λ n. n == 0) first)
-      (let same = third ∙ same_laps_flown t fleets (quickest_of t) quick others in rw (second, same, fourth) refl))
-
--- one station more
-pub uneven_more : (p : ℕ → Bool) (b : Bool) (n count : ℕ) → count ≡ count_below p n → b ≡ p n → count + (if b then 1 else 0) ≡ count_below p (n + 1)
-uneven_more p b n count so_far here = let next : n + 1 ≡ suc n = omega arith in rw (next, so_far, here) refl
-
-pub station_needs : (f : ℕ → ℕ) (n sum here : ℕ) → sum ≡ sum_below f n → here ≡ f n → sum + here ≡ sum_below f (n + 1)
-station_needs f n sum here so_far is = let next : n + 1 ≡ suc n = omega arith in rw (next, so_far, is) refl
-
--- a test of two, by its first
-pub by_second : (n : ℕ) (b : Bool) → n ≡ 0 → b ≡ ((n == 0) && b)
-by_second n b none = grind (arith, nat_tests)
-
-pub by_first : (n : ℕ) (b : Bool) → (n ≡ 0 → ⊥) → (n == 0) ≡ ((n == 0) && b)
-by_first n b some = grind (arith, nat_tests)
-
-pub at_most_one : (b : Bool) (n : ℕ) → ◌≡◌ {A = ℕ} n (if b then 1 else 0) → n ≤ 1
-at_most_one b n e = grind (arith, nat_tests)
+  pub islands_told : is_plain_day t ≡ true → have_pairs t ≡ true → (balance_by t (joined_flights t fleets) && (used_by t (joined_flights t fleets) == aircraft_in t)) ≡ has_islands t
+  unfolding has_islands
+  islands_told day pairs =
+      let others = quickest_are t (pairs_tested t pairs) in
+      let balance : balance_by t (joined_flights t fleets) ≡ balance_by t (joined_legs t) = ap (λ (p : ℕ → Bool). count_below p (stations_in t) == 0) (fun_ext (same_uneven others)) in
+      rw (day, pairs, balance, same_use t fleets (quickest_of t) quick others) refl
 
 -- a test as a number
 pub byte_is : (b : Bool) → ◌≡◌ {A = ℕ} (bool_byte b) (if b then 1 else 0)

@@ -1,7 +1,6 @@
 pub mod IslandLaws
 pub mod Islands
 pub mod Lookup
-pub mod Movements
 pub mod PlainDay
 pub mod Spare
 pub mod Zeros

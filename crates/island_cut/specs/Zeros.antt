@@ -4,9 +4,10 @@ use Rattle.sums.specs.Places.{list_below}
 use Rattle.fleet_model.specs.declared.parts.Pair.{Pair}
 use Rattle.fleet_model.specs.declared.tables.Tables.{Tables}
 use Rattle.fleet_model.specs.Counts.{Weights}
-use Rattle.fleet_model.specs.Schedule.{leg_of, pair_on, period_of}
+use Rattle.fleet_model.specs.Schedule.{leg_of, period_of}
 use Rattle.fleet_model.specs.Times.{departure, ready_minute}
 use Rattle.fleet_model.specs.Use.{stand_of}
+use Rattle.stand_counts.specs.Flights.{Flights, stand_by}
 
 -- none stands there at the end of the minute
 abbrev pub none_stands : Tables → Weights → ℕ → ℕ → ℕ → Bool
@@ -19,6 +20,14 @@ zeros_below t w f s n = filter (none_stands t w f s) (list_below (λ m. m) n)
 -- those of the period
 abbrev pub zeros_of : Tables → Weights → ℕ → ℕ → List ℕ
 zeros_of t w f s = zeros_below t w f s (period_of t)
+
+-- none of some flights' aircraft stands there at the end of the minute
+abbrev pub none_left : Tables → Flights → ℕ → ℕ → Bool
+none_left t x s m = stand_by t x s m == 0
+
+-- the minutes of the period at whose end none does, rising
+abbrev pub empty_of : Tables → Flights → ℕ → List ℕ
+empty_of t x s = filter (none_left t x s) (list_below (λ m. m) (period_of t))
 
 -- the minute in which a pair's aircraft becomes ready at the station, and that in which it departs from there; the end of the
 -- period where it doesn't
@@ -33,10 +42,10 @@ pub record MovesOutside (t : Tables) (w : Weights) (s minute next : ℕ) (p : Pa
   pub comes : minute < comes_in t w s p → next ≤ comes_in t w s p
   pub leaves : minute < leaves_in t w s p → next ≤ leaves_in t w s p
 
--- so do the fleet's first departures
-pub record MoveOutside (t : Tables) (w : Weights) (f s minute next n : ℕ) : Type 0 where
-  pub each : (d : ℕ) → d < n → MovesOutside t w s minute next (pair_on t d f)
+-- so do the first of the flights
+pub record MoveOutside (t : Tables) (x : Flights) (s minute next n : ℕ) : Type 0 where
+  pub each : (k : ℕ) → k < n → MovesOutside t x.weight s minute next (x.pair k)
 
 -- until then it stays as it is whether one stands there
-pub record StaysSo (t : Tables) (w : Weights) (f s minute next : ℕ) : Type 0 where
-  pub each : (m : ℕ) → minute ≤ m → suc m < next → none_stands t w f s (suc m) ≡ none_stands t w f s m
+pub record StaysSo (empty : ℕ → Bool) (minute next : ℕ) : Type 0 where
+  pub each : (m : ℕ) → minute ≤ m → suc m < next → empty (suc m) ≡ empty m

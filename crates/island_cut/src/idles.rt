@@ -1,20 +1,20 @@
 //! The idle minutes of islands.
-ghost use Rattle.std.specs.Prelude.{◌≡◌, ◌≤◌, ◌*◌, ◌++◌, ◌∷◌, [], if◌then◌else◌, IfOk, OnOk, map, true};
+ghost use Rattle.std.specs.Prelude.{◌≡◌, ◌==◌, ◌&&◌, ◌≤◌, ◌++◌, IfOk, OnOk, map, true};
+ghost use Rattle.sums.specs.Below.{count_below};
 ghost use Rattle.fleet_model.specs.Counts.{choice_at};
 ghost use Rattle.fleet_model.specs.Schedule.{stations_in};
-ghost use Rattle.fleet_model.specs.declared.limits.TheConstants.{MAX_LEGS};
-ghost use Rattle.island_cut.specs.Islands.{has_islands, have_pairs, idle_at, idle_minutes, idles_of};
-ghost use Rattle.island_cut.specs.PlainDay.{is_plain_day};
-ghost use Rattle.island_cut.specs.Spare.{AreFleetsOf, AreQuickest, joined_flights};
-ghost use Rattle.stand_counts.specs.Flights.{laps_by};
+ghost use Rattle.stand_counts.specs.Flights.{used_by};
+ghost use Rattle.island_cut.specs.Islands.{balance_by, has_islands, idle_at, idle_minutes, idles_of, is_uneven};
+ghost use Rattle.island_cut.specs.Spare.{AreFleetsOf, AreQuickest, aircraft_in, joined_flights};
 
 use crate::idle_minutes::Idle;
-use crate::joined::{have_pairs, quickest};
-use crate::movements::{arrivals, departures, is_empty_at, is_even, need};
+use crate::joined::{Joined, have_pairs, quickest};
 use crate::plain_day::is_plain_day;
 use crate::spares::aircraft;
+use crate::zeros::empty_minutes;
 use entries::{Entries, NoMemory};
 use fleet_model::{Assignment, Tables};
+use stand_counts::{arrivals, departures, used};
 use std::alloc::Global;
 
 /// The stations and minutes at which no aircraft stands in any legal assignment, since all aircraft are needed even if each
@@ -31,7 +31,7 @@ pub fn idle(alloc: Global, tables: &Tables) -> Result<Entries<Idle>, NoMemory>
         return Ok(Entries::from_vec(Vec::new(alloc)));
     }
     let plan = quickest(tables);
-    if !has_islands(alloc, tables, &plan)? {
+    if !uses_all(tables, &plan) {
         return Ok(Entries::from_vec(Vec::new(alloc)));
     }
     let mut idles = Vec::new(alloc);
@@ -41,37 +41,36 @@ pub fn idle(alloc: Global, tables: &Tables) -> Result<Entries<Idle>, NoMemory>
     Ok(Entries::from_vec(idles))
 }
 
-// Whether the joined schedule, on one plain day where each leg has a pair, balances and uses all aircraft.
-fn has_islands(alloc: Global, tables: &Tables, plan: &Assignment) -> Result<bool, NoMemory>
-    requires plan { AreFleetsOf tables.now plan.now }
-    requires day { is_plain_day tables.now ≡ true }
-    requires pairs { have_pairs tables.now ≡ true }
-    requires quickest { AreQuickest tables.now (choice_at plan.now) }
-    ensures { IfOk result (λ has. has ≡ has_islands tables.now) }
+// Whether the joined schedule balances and uses all aircraft.
+fn uses_all(tables: &Tables, plan: &Assignment) -> bool
+    requires { AreFleetsOf tables.now plan.now }
+    ensures { result ≡ (balance_by tables.now (joined_flights tables.now (choice_at plan.now)) && (used_by tables.now (joined_flights tables.now (choice_at plan.now)) == aircraft_in tables.now)) }
 {
-    let mut uneven = 0;
-    let mut needed = 0;
-    for station in 0..tables.station_count() {
-        let departed = departures(alloc, tables, plan, station)?;
-        let arrived = arrivals(alloc, tables, plan, station)?;
-        uneven += u32::from(!is_even(tables, &departed, &arrived));
-        needed += need(tables, &departed, &arrived);
-    }
-    Ok(uneven == 0 && needed + lapping(tables, plan) == aircraft(tables))
+    uneven(tables, plan) == 0 && used(tables, &Joined { plan }) == u128::from(aircraft(tables))
 }
 
-// The laps of all legs.
-#[tactic(auto, unfolding(stand_counts::specs::Flights::laps_by))]
-fn lapping(tables: &Tables, plan: &Assignment) -> u32
+// At how many stations not as many of the joined schedule's aircraft come as leave.
+fn uneven(tables: &Tables, plan: &Assignment) -> u32
     requires { AreFleetsOf tables.now plan.now }
-    ensures value { result ≡ laps_by tables.now (joined_flights tables.now (choice_at plan.now)) }
-    ensures few { result ≤ 2 * MAX_LEGS }
+    ensures { result ≡ count_below (is_uneven tables.now (joined_flights tables.now (choice_at plan.now))) (stations_in tables.now) }
 {
-    let mut sum = 0;
-    for leg in 0..tables.leg_count() {
-        sum += tables.laps(tables.own_pair(leg, plan.choice(leg)));
+    let mut count = 0;
+    for station in 0..tables.station_count() {
+        if is_uneven(tables, plan, station) {
+            count += 1;
+        }
     }
-    sum
+    count
+}
+
+// Whether not as many of them come to a station as leave it.
+fn is_uneven(tables: &Tables, plan: &Assignment, station: u32) -> bool
+    requires { AreFleetsOf tables.now plan.now }
+    ensures { result ≡ is_uneven tables.now (joined_flights tables.now (choice_at plan.now)) station }
+{
+    let flights = Joined { plan };
+    let last = tables.period() - 1;
+    arrivals(tables, &flights, station, last) != departures(tables, &flights, station, last)
 }
 
 // Puts a station's idle minutes behind those of the stations before it.
@@ -87,22 +86,19 @@ fn push_idles(
     requires islands { has_islands tables.now ≡ true }
     ensures { OnOk result (idles.new.items ≡ idles.old.items ++ map (idle_at station) (idle_minutes tables.now station)) }
 {
-    let departed = departures(alloc, tables, plan, station)?;
-    let arrived = arrivals(alloc, tables, plan, station)?;
-    let need = need(tables, &departed, &arrived);
-    for minute in 0..tables.period() {
-        let is_one = is_empty_at(&departed, &arrived, need, minute);
-        push_where(idles, Idle { station, minute }, is_one)?;
-    }
-    Ok(())
+    let minutes = empty_minutes(alloc, tables, &Joined { plan }, station)?;
+    push_all(idles, station, minutes.as_slice())
 }
 
-// Puts an entry behind those so far, where it is one.
-fn push_where(idles: &mut Vec<Idle>, entry: Idle, is_one: bool) -> Result<(), NoMemory>
-    ensures { OnOk result (idles.new.items ≡ idles.old.items ++ (if is_one then entry ∷ [] else [])) }
+// Puts minutes of a station behind the entries so far.
+fn push_all(idles: &mut Vec<Idle>, station: u32, minutes: &[u16]) -> Result<(), NoMemory>
+    ensures { OnOk result (idles.new.items ≡ idles.old.items ++ map (idle_at station) minutes.now) }
 {
-    if is_one {
-        idles.push(entry)?;
+    for minute in minutes {
+        idles.push(Idle {
+            station,
+            minute: *minute,
+        })?;
     }
     Ok(())
 }

@@ -7,7 +7,6 @@ pub mod idles;
 mod joined;
 pub mod laws;
 pub mod lookup;
-mod movements;
 mod plain_day;
 pub mod spares;
 pub mod zeros;

@@ -1,9 +1,11 @@
 use Rattle.std.proofs.Common.{◌≡◌, ◌++◌, true, false, map, sym, ◌∙◌, ap, arith}
+use Rattle.fleet_model.specs.Counts.{choice_at}
 use Rattle.fleet_model.specs.Schedule.{stations_in}
 use Rattle.island_cut.specs.Islands.{has_islands, have_pairs, idle_at, idle_minutes, idles_below}
 use Rattle.island_cut.specs.PlainDay.{is_plain_day}
 use Rattle.island_cut.proofs.Listed.{first_station, no_idles, on_other_days, station_more, without_pairs}
 use Rattle.island_cut.proofs.QuickestFleets.{pairs_tested}
+use Rattle.island_cut.proofs.Told.{islands_told}
 use Rattle.island_cut.proofs.idles.idle.Goals as goal
 
 pub returns-then-not-is_plain_day : goal.returns-then-not-is_plain_day
@@ -20,10 +22,16 @@ returns-then-not-have_pairs c =
 pub quickest-plan-requires : goal.quickest-plan-requires
 quickest-plan-requires c = pairs_tested c.args.tables.now (sym c.have_pairs.ensures.value ∙ c.if-not-have_pairs.false)
 
-pub returns-then-not-branch : goal.returns-then-not-branch
-returns-then-not-branch c =
-    let none : has_islands c.args.tables.now ≡ false = sym c.in_ok-has_islands.ensures ∙ c.if-not-branch.true in
-    c.from_vec-then-not-branch.ensures ∙ c.new-then-not-branch.ensures.items ∙ sym (no_idles c.args.tables.now (stations_in c.args.tables.now) none)
+pub returns-then-not-uses_all : goal.returns-then-not-uses_all
+returns-then-not-uses_all c =
+    let told = islands_told c.args.tables.now (choice_at c.quickest-plan.result) c.quickest-plan.ensures.quickest (sym c.is_plain_day.ensures ∙ c.if-not-is_plain_day.false) (sym c.have_pairs.ensures.value ∙ c.if-not-have_pairs.false) in
+    let none : has_islands c.args.tables.now ≡ false = sym told ∙ sym c.uses_all.ensures ∙ c.if-not-uses_all.true in
+    c.from_vec-then-not-uses_all.ensures ∙ c.new-then-not-uses_all.ensures.items ∙ sym (no_idles c.args.tables.now (stations_in c.args.tables.now) none)
+
+pub push_idles-requires-clause-islands : goal.push_idles-requires-clause-islands
+push_idles-requires-clause-islands c =
+    let told = islands_told c.args.tables.now (choice_at c.quickest-plan.result) c.quickest-plan.ensures.quickest (sym c.is_plain_day.ensures ∙ c.if-not-is_plain_day.false) (sym c.have_pairs.ensures.value ∙ c.if-not-have_pairs.false) in
+    sym told ∙ sym c.uses_all.ensures ∙ c.if-not-uses_all.false
 
 pub loop-station-init : goal.loop-station-init
 loop-station-init c = c.new-idles.ensures.items ∙ sym (first_station c.args.tables.now)
