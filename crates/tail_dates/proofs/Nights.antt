@@ -61,6 +61,6 @@ turn_nights_of t f tour place aloft waited turn flag old with_flight new (Err er
 pub all_nights : (t : Tables) (a : List ℕ) (f : ℕ) (tour : List ℕ) → IsTour t a f tour → length (maintenance_nights t f tour) ≡ used_of t (weights_of a) f * days_in t
 all_nights t a f tour is = length-map (nights_in_turns t f (turns_round tour)) (can_maintain t) ∙ nights_are_use t a f (turns_round tour) is.fitting
 
-pub same_more : (old now grown : List Bool) (x : Bool) (n : ℕ) → now ≡ old ++ replicate n x → grown ≡ now ++ x ∷ [] → grown ≡ old ++ replicate (n + 1) x
+pub same_more : {X : Type 0} (old now grown : List X) (x : X) (n : ℕ) → now ≡ old ++ replicate n x → grown ≡ now ++ x ∷ [] → grown ≡ old ++ replicate (n + 1) x
 same_more old now grown x n so_far pushed =
     pushed ∙ ap (λ xs. xs ++ x ∷ []) so_far ∙ append_assoc old (replicate n x) (x ∷ []) ∙ ap (λ xs. old ++ xs) (replicate_more n x)

@@ -2,7 +2,7 @@
 use Rattle.std.proofs.Common.{◌≡◌, ℕ, suc, ◌+◌, ◌-◌, ◌*◌, ◌%◌, ◌<◌, List, [], ◌∷◌, ◌++◌, Bool, true, false, nat_lt, if◌then◌else◌, All, append_assoc, inl, inr, length, replicate, slice_index, slice_index_or, Result, Ok, Err, OnOk, refl, sym, ◌∙◌, ap, subst, arith}
 use Rattle.std.proofs.lemmas.Bool.{cases_lt, lt-ltb}
 use Rattle.std.proofs.lemmas.Bool.Decides.{nat_tests}
-use Rattle.std.proofs.lemmas.List.{append-nil, get_or_append_left, get_or_default, get_or_push, length-append, length-map, length-replicate, replicate_more}
+use Rattle.std.proofs.lemmas.List.{append-nil, get_or_append_left, get_or_default, get_or_push, length-append, length-map, length-replicate}
 use Rattle.std.proofs.lemmas.List.Elements.{All-append, All-get_or, All-nil, All-replicate}
 use Rattle.std.proofs.lemmas.Nat.{mod_below}
 use Rattle.fleet_model.specs.declared.parts.Connection.{Connection}
@@ -59,10 +59,6 @@ turn_places_of t f tour at aloft waited station turn old with_flight new (Ok don
     turn_places t f aloft waited turn old with_flight new flown stays first (second ∙ ap (λ s. with_flight ++ replicate waited (place.Stands s)) lands)
     ∙ ap (λ one. old ++ places_in_turn t f one) is
 turn_places_of t f tour at aloft waited station turn old with_flight new (Err error) is flown stays lands first second = tt
-
-pub place_more : (old now grown : List Place) (p : Place) (n : ℕ) → now ≡ old ++ replicate n p → grown ≡ now ++ p ∷ [] → grown ≡ old ++ replicate (n + 1) p
-place_more old now grown p n so_far pushed =
-    pushed ∙ ap (λ places. places ++ p ∷ []) so_far ∙ append_assoc old (replicate n p) (p ∷ []) ∙ ap (λ places. old ++ places) (replicate_more n p)
 
 -- ---- how many they are
 places_long : (t : Tables) (f : ℕ) (turns : List Connection) → length (places_in_turns t f turns) ≡ sum_below (λ k. nights_in t f (turn_at turns k)) (length turns)

@@ -115,12 +115,16 @@ fn push_nights(
     )
 }
 
-/// Appends so many nights alike.
-fn push_same(nights: &mut Vec<bool>, count: u32, maintained: bool) -> Result<(), NoMemory>
-    ensures { OnOk result (nights.new.items ≡ nights.old.items ++ replicate count maintained) }
+/// Appends an entry so many times.
+pub(crate) fn push_same<T: Copy + Drop>(
+    list: &mut Vec<T>,
+    count: u32,
+    entry: T,
+) -> Result<(), NoMemory>
+    ensures { OnOk result (list.new.items ≡ list.old.items ++ replicate count entry) }
 {
     for _ in 0..count {
-        nights.push(maintained)?;
+        list.push(entry)?;
     }
     Ok(())
 }

@@ -1,5 +1,5 @@
 //! Where the aircraft of a tour are as days start.
-ghost use Rattle.std.specs.Prelude.{◌≡◌, ◌<◌, ◌++◌, ℕ, IfOk, OnOk, length, replicate};
+ghost use Rattle.std.specs.Prelude.{◌≡◌, ◌<◌, ◌++◌, ℕ, IfOk, OnOk, length};
 ghost use Rattle.fleet_model.specs.Counts.{weights_of};
 ghost use Rattle.fleet_model.specs.Legal.{IsAssignment};
 ghost use Rattle.fleet_model.specs.Schedule.{days_in, fleets_in};
@@ -9,7 +9,7 @@ ghost use Rattle.lines_of_flying.specs.Lines.{AreLegsOfTables, BeginsAfterStart}
 ghost use Rattle.tail_dates.specs.Places.{AreStartPlaces, places_in_turn, places_of_tour};
 
 use crate::place_numbers::number_of;
-use crate::reaches::start_line;
+use crate::reaches::{push_same, start_line};
 use crate::tails::Place;
 use entries::NoMemory;
 use fleet_model::{Assignment, Tables};
@@ -86,14 +86,4 @@ fn push_turn(
     let station = tables.leg(leg).to;
     let waited = nights_waited(tables, fleet, turn);
     push_same(places, waited, Place::Stands { station })
-}
-
-/// Appends a place for each of so many nights.
-fn push_same(places: &mut Vec<Place>, count: u32, place: Place) -> Result<(), NoMemory>
-    ensures { OnOk result (places.new.items ≡ places.old.items ++ replicate count place) }
-{
-    for _ in 0..count {
-        places.push(place)?;
-    }
-    Ok(())
 }

@@ -12,5 +12,5 @@ returns c =
     let waited : c.nights_waited.result ≡ nights_waited c.args.tables.now c.args.fleet c.turn_after-turn.result = search rules in
     let flag : c.is_maintained.result ≡ can_maintain c.args.tables.now (night_of_stay c.args.tables.now c.args.fleet c.turn_after-turn.result) = search rules in
     turn_nights_of c.args.tables.now c.args.fleet c.args.tour.now c.args.place c.nights-aloft.result c.nights_waited.result c.turn_after-turn.result c.is_maintained.result
-    c.args.nights.now.items c.push_same.new.nights.items c.push_same-2.new.nights.items c.push_same-2.result
+    c.args.nights.now.items c.push_same.new.list.items c.push_same-2.new.list.items c.push_same-2.result
     c.turn_after-turn.ensures aloft waited flag c.in_ok-push_same.ensures c.push_same-2.ensures

@@ -2,4 +2,4 @@ use Rattle.std.proofs.Common.{◌≡◌, ◌++◌, replicate}
 use Rattle.tail_dates.proofs.reaches.push_same.Given as goal
 
 abbrev pub invariant-loop : goal.invariant-loop
-invariant-loop l = l.nights.items ≡ l.fn.nights.items ++ replicate l.counter l.maintained
+invariant-loop g l = l.list.items ≡ l.fn.list.items ++ replicate l.counter l.entry

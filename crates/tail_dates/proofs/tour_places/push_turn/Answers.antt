@@ -12,5 +12,5 @@ returns c =
     let waited : c.nights_waited-waited.result ≡ nights_waited c.args.tables.now c.args.fleet c.turn_after-turn.result = search rules in
     let lands : c.leg.result.now.to ≡ station_at c.args.tables.now c.turn_after-turn.result = ap (λ (leg : Leg). leg.to) c.leg.ensures.value in
     turn_places_of c.args.tables.now c.args.fleet c.args.tour.now c.args.place c.nights-aloft.result c.nights_waited-waited.result c.leg.result.now.to c.turn_after-turn.result
-    c.args.places.now.items c.push_same.new.places.items c.push_same-2.new.places.items c.push_same-2.result
+    c.args.places.now.items c.push_same.new.list.items c.push_same-2.new.list.items c.push_same-2.result
     c.turn_after-turn.ensures aloft waited lands c.in_ok-push_same.ensures c.push_same-2.ensures
