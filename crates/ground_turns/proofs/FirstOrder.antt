@@ -2,14 +2,14 @@
 use Rattle.std.proofs.Common.{◌≡◌, ℕ, zero, suc, ◌+◌, ◌-◌, ◌%◌, ◌<◌, ◌≤◌, inl, inr, Bool, true, ◌==◌, ◌&&◌, nat_le, List, length, sym, ap, subst, arith}
 use Rattle.std.proofs.lemmas.Bool.{cases_eq, cases_lt, cases_order, eq-eqb, lt-ltb}
 use Rattle.std.proofs.lemmas.Bool.Decides.{nat_tests}
-use Rattle.sums.specs.Below.{max_below}
+use Rattle.sums.specs.Below.{max_below, sum_below}
 use Rattle.sums.proofs.Maxima.{max_below-suc, max_below-zero}
 use Rattle.sums.proofs.Sums.{sum_below-add, sum_below-le, sum_below-one}
 use Rattle.fleet_model.specs.declared.parts.Connection.{Connection}
 use Rattle.fleet_model.specs.declared.tables.Tables.{Tables}
 use Rattle.fleet_model.specs.Schedule.{leg_on, legs_in, period_of}
 use Rattle.fleet_model.specs.Times.{departure, ready_minute}
-use Rattle.ground_turns.specs.FirstOut.{AreFirstOut, departs_before, departure_place, free_departed, free_excess, free_landed, free_landings, free_need, is_before, is_free_departure, is_free_landing, landing_place, lands_before}
+use Rattle.ground_turns.specs.FirstOut.{AreFirstOut, departure_place, free_departed, free_excess, free_landed, free_landings, free_need, is_before, is_free_departure, is_free_landing, landing_place}
 use Rattle.ground_turns.specs.Laws.{FreeTogether, ReadyFirstDepartsFirst}
 use Rattle.ground_turns.specs.Maps.{Holds, IsSuccessorMap, turn_at}
 use Rattle.ground_turns.specs.Turns.{departs_at, ready_at, station_at}
@@ -143,55 +143,34 @@ and_it p x q d m l less h = elim (cases_eq l q) [
     at_last : (p : Bool) (x q d m l : ℕ) → l ≡ q → p ≡ true → x ≡ d → d ≤ m → bit (p && is_before x q d l) + bit (l == q) ≤ bit (p && nat_le x m)
     at_last p x q d m l same passes equal less = grind (arith, nat_tests)
 
-module _ (t : Tables) (a : List ℕ) (f : ℕ) (given : List Connection) (s : ℕ) where
-  -- a free landing, with those before it
-  landed_with : (l m : ℕ) → l < legs_in t → is_free_landing t a f given s l ≡ true → ready_minute t (leg_on l f) ≤ m
-      → suc (landing_place t a f given s l) ≤ free_landed t a f given s m
-  unfolding landing_place free_landed
-  landed_with l m known free by =
-      let parts = sum_below-add (λ q. bit (lands_before t a f given s l q)) (λ q. bit (l == q)) (legs_in t) in
-      let one = sum_below-one l 1 (legs_in t) known in
-      let less = sum_below-le (λ q. bit (lands_before t a f given s l q) + bit (l == q)) (λ q. bit (is_free_landing t a f given s q && nat_le (ready_minute t (leg_on q f)) m)) (legs_in t)
-      (record {
-        each = λ q below. and_it (is_free_landing t a f given s q) (ready_minute t (leg_on q f)) q (ready_minute t (leg_on l f)) m l by (λ same.
-            (subst (λ leg. is_free_landing t a f given s leg ≡ true) same free, ap (λ leg. ready_minute t (leg_on leg f)) (sym same)));
-      }) in
+-- of legs that pass, in the order of minutes and then of legs
+module _ (free : ℕ → Bool) (minute : ℕ → ℕ) (legs : ℕ) where
+  abbrev before : ℕ → ℕ → ℕ
+  before l q = bit (free q && is_before (minute q) q (minute l) l)
+
+  abbrev come : ℕ → ℕ → ℕ
+  come m q = bit (free q && nat_le (minute q) m)
+
+  -- one, with those before it
+  come_with : (l m : ℕ) → l < legs → free l ≡ true → minute l ≤ m → suc (sum_below (before l) legs) ≤ sum_below (come m) legs
+  come_with l m known passes by =
+      let parts = sum_below-add (before l) (λ q. bit (l == q)) legs in
+      let one = sum_below-one l 1 legs known in
+      let less = sum_below-le (λ q. before l q + bit (l == q)) (come m) legs
+      (record { each = λ q below. and_it (free q) (minute q) q (minute l) m l by (λ same. (subst (λ k. free k ≡ true) same passes, ap minute (sym same))) }) in
       omega (arith, parts, one, less)
 
-  landed_before : (l m : ℕ) → m < ready_minute t (leg_on l f) → free_landed t a f given s m ≤ landing_place t a f given s l
-  unfolding landing_place free_landed
-  landed_before l m less = sum_below-le _ (λ q. bit (lands_before t a f given s l q)) (legs_in t)
-      (record { each = λ q lt. all_before (is_free_landing t a f given s q) (ready_minute t (leg_on q f)) q m (ready_minute t (leg_on l f)) l less })
+  come_before : (l m : ℕ) → m < minute l → sum_below (come m) legs ≤ sum_below (before l) legs
+  come_before l m less = sum_below-le (come m) (before l) legs (record { each = λ q lt. all_before (free q) (minute q) q m (minute l) l less })
 
-  gone_with : (l m : ℕ) → l < legs_in t → is_free_departure t a f given s l ≡ true → departure t (leg_on l f) ≤ m
-      → suc (departure_place t a f given s l) ≤ free_departed t a f given s m
-  unfolding departure_place free_departed
-  gone_with l m known free by =
-      let parts = sum_below-add (λ q. bit (departs_before t a f given s l q)) (λ q. bit (l == q)) (legs_in t) in
-      let one = sum_below-one l 1 (legs_in t) known in
-      let less = sum_below-le (λ q. bit (departs_before t a f given s l q) + bit (l == q)) (λ q. bit (is_free_departure t a f given s q && nat_le (departure t (leg_on q f)) m)) (legs_in t)
+  lower_first : (l l' : ℕ) → l < legs → free l ≡ true → minute l ≡ minute l' → l < l' → sum_below (before l) legs < sum_below (before l') legs
+  lower_first l l' known passes same less =
+      let parts = sum_below-add (before l) (λ q. bit (l == q)) legs in
+      let one = sum_below-one l 1 legs known in
+      let more = sum_below-le (λ q. before l q + bit (l == q)) (before l') legs
       (record {
-        each = λ q below. and_it (is_free_departure t a f given s q) (departure t (leg_on q f)) q (departure t (leg_on l f)) m l by (λ same.
-            (subst (λ leg. is_free_departure t a f given s leg ≡ true) same free, ap (λ leg. departure t (leg_on leg f)) (sym same)));
-      }) in
-      omega (arith, parts, one, less)
-
-  gone_before : (l m : ℕ) → m < departure t (leg_on l f) → free_departed t a f given s m ≤ departure_place t a f given s l
-  unfolding departure_place free_departed
-  gone_before l m less = sum_below-le _ (λ q. bit (departs_before t a f given s l q)) (legs_in t)
-      (record { each = λ q lt. all_before (is_free_departure t a f given s q) (departure t (leg_on q f)) q m (departure t (leg_on l f)) l less })
-
-  lower_first : (l l' : ℕ) → l < legs_in t → is_free_landing t a f given s l ≡ true → ready_minute t (leg_on l f) ≡ ready_minute t (leg_on l' f) → l < l'
-      → landing_place t a f given s l < landing_place t a f given s l'
-  unfolding landing_place
-  lower_first l l' known free same less =
-      let parts = sum_below-add (λ q. bit (lands_before t a f given s l q)) (λ q. bit (l == q)) (legs_in t) in
-      let one = sum_below-one l 1 (legs_in t) known in
-      let more = sum_below-le (λ q. bit (lands_before t a f given s l q) + bit (l == q)) (λ q. bit (lands_before t a f given s l' q)) (legs_in t)
-      (record {
-        each = λ q below. subst (λ minute. bit (lands_before t a f given s l q) + bit (l == q) ≤ bit (is_free_landing t a f given s q && is_before (ready_minute t (leg_on q f)) q minute l')) same
-            (lower_leg (is_free_landing t a f given s q) (ready_minute t (leg_on q f)) q (ready_minute t (leg_on l f)) l l' less (λ e.
-            (subst (λ leg. is_free_landing t a f given s leg ≡ true) e free, ap (λ leg. ready_minute t (leg_on leg f)) (sym e))));
+        each = λ q below. subst (λ m. before l q + bit (l == q) ≤ bit (free q && is_before (minute q) q m l')) same
+            (lower_leg (free q) (minute q) q (minute l) l l' less (λ e. (subst (λ k. free k ≡ true) e passes, ap minute (sym e))));
       }) in
       omega (arith, parts, one, more)
 
@@ -218,16 +197,17 @@ module _ (t : Tables) (a : List ℕ) (f : ℕ) (given turns : List Connection) (
       (landing_place t a f given s (turn_at turns k).arriving) (departure_place t a f given s (turn_at turns k).departing) (ready_at t f (turn_at turns k)) (departs_at t f (turn_at turns k))
 
   placed : (k : ℕ) → k < length turns → is_free t a f given turns map holds k ≡ true → IsPlacedAt k (station_at t (turn_at turns k))
+  unfolding landing_place free_landed departure_place free_departed
   placed k lt free =
       let s = station_at t (turn_at turns k) in
       let turn = map.each k lt in
       record {
         within = within_landings t a f given turns map holds k lt free;
         place = (first_out.each k lt (free_zero t a f given turns map holds k free)).place;
-        has_landed = λ m by. landed_with t a f given s (turn_at turns k).arriving m turn.arriving (lands_free t a f given turns map holds k lt free) by;
-        to_land = λ m less. landed_before t a f given s (turn_at turns k).arriving m less;
-        has_gone = λ m by. gone_with t a f given s (turn_at turns k).departing m turn.departing (departs_free t a f given turns map holds k lt free) by;
-        to_go = λ m less. gone_before t a f given s (turn_at turns k).departing m less;
+        has_landed = λ m by. come_with (is_free_landing t a f given s) (λ l. ready_minute t (leg_on l f)) (legs_in t) (turn_at turns k).arriving m turn.arriving (lands_free t a f given turns map holds k lt free) by;
+        to_land = λ m less. come_before (is_free_landing t a f given s) (λ l. ready_minute t (leg_on l f)) (legs_in t) (turn_at turns k).arriving m less;
+        has_gone = λ m by. come_with (is_free_departure t a f given s) (λ l. departure t (leg_on l f)) (legs_in t) (turn_at turns k).departing m turn.departing (departs_free t a f given turns map holds k lt free) by;
+        to_go = λ m less. come_before (is_free_departure t a f given s) (λ l. departure t (leg_on l f)) (legs_in t) (turn_at turns k).departing m less;
         low = λ crossing. low_place t a f given turns map holds first_out k lt free (lt-ltb _ _ crossing);
       }
 
@@ -235,7 +215,7 @@ module _ (t : Tables) (a : List ℕ) (f : ℕ) (given turns : List Connection) (
       → (departs_at t f (turn_at turns j) + period_of t - ready_at t f (turn_at turns j)) % period_of t
       ≤ (ready_at t f (turn_at turns k) + period_of t - ready_at t f (turn_at turns j)) % period_of t
       + (departs_at t f (turn_at turns k) + period_of t - ready_at t f (turn_at turns k)) % period_of t
-  unfolding is_free
+  unfolding is_free landing_place
   in_turn j k both =
       let s = station_at t (turn_at turns k) in
       let lands = subst (λ at. is_free_landing t a f given at (turn_at turns j).arriving ≡ true) both.together (lands_free t a f given turns map holds j both.first (eq-eqb _ _ both.first_free)) in
@@ -244,7 +224,7 @@ module _ (t : Tables) (a : List ℕ) (f : ℕ) (given turns : List Connection) (
       (landing_place t a f given s (turn_at turns k).arriving) (departure_place t a f given s (turn_at turns k).departing) (ready_at t f (turn_at turns k)) (departs_at t f (turn_at turns k))
       (subst (IsPlacedAt j) both.together (placed j both.first (eq-eqb _ _ both.first_free))) (placed k both.second (eq-eqb _ _ both.second_free))
       (ready_within t a f turns map j) (departs_within t a f turns map j both.first) (ready_within t a f turns map k) (departs_within t a f turns map k both.second)
-      (λ tie. lower_first t a f given s (turn_at turns j).arriving (turn_at turns k).arriving (map.each j both.first).arriving lands tie (both.lower tie))
+      (λ tie. lower_first (is_free_landing t a f given s) (λ l. ready_minute t (leg_on l f)) (legs_in t) (turn_at turns j).arriving (turn_at turns k).arriving (map.each j both.first).arriving lands tie (both.lower tie))
 
 pub ready_first_departs_first : ReadyFirstDepartsFirst
 ready_first_departs_first t a f given turns j k map holds first_out both = in_turn t a f given turns map holds first_out j k both
