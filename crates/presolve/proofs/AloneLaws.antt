@@ -129,12 +129,6 @@ more_alone t keeps p f m pair kept left =
     sum_below-more (busy_alone t (part keeps p.leg p.choice false) f m) (busy_alone t keeps f m) (legs_in t) p.leg (busy_alone t (part keeps p.leg p.choice false) f m p.leg) pair.leg
     (omega (arith, none)) (record { each = λ l below other. other_alone t keeps p f m l other })
 
--- and where it keeps two yet, nothing is more
-pub same_alone : (t : Tables) (keeps : Domains) (p : Pair) (f m : ℕ) → IsPair t p → keeps p ≡ true → kept_on t (part keeps p.leg p.choice false) p.leg ≢ 0
-    → kept_on t (part keeps p.leg p.choice false) p.leg ≢ 1 → all_busy_alone t (part keeps p.leg p.choice false) f m ≡ all_busy_alone t keeps f m
-same_alone t keeps p f m pair kept left other =
-    omega (arith, more_alone t keeps p f m pair kept left, not_alone t (part keeps p.leg p.choice false) f m p.leg other)
-
 -- ---- where a pair is flown
 -- what its own leg keeps busy is what it keeps busy alone, and the pair where it isn't alone
 own_busy : (t : Tables) (keeps : Domains) (p : Pair) (m : ℕ) → IsPair t p → keeps p ≡ true

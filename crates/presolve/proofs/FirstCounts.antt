@@ -1,18 +1,21 @@
 -- What is counted of all kept pairs at first, leg by leg.
-use Rattle.std.proofs.Common.{◌≡◌, ◌≢◌, ℕ, ◌+◌, ◌*◌, ◌<◌, ◌≤◌, Bool, true, false, ◌==◌, ◌&&◌, if◌then◌else◌, List, add-one, refl, ap, sym, ◌∙◌, arith}
+use Rattle.std.proofs.Common.{◌≡◌, ℕ, ◌+◌, ◌*◌, ◌<◌, ◌≤◌, Bool, true, false, ◌==◌, ◌&&◌, if◌then◌else◌, List, add-one, refl, ap, sym, ◌∙◌, arith}
 use Rattle.sums.specs.Below.{count_below, sum_below}
 use Rattle.sums.proofs.NumberTests.{if_below}
 use Rattle.sums.proofs.Sums.{count_below-le}
-use Rattle.fleet_model.specs.Kept.{Domains, kept_on}
-use Rattle.fleet_model.specs.Schedule.{choices_in, fleets_in, leg_of, legs_in, period_of, stations_in}
+use Rattle.fleet_model.specs.Kept.{Domains}
+use Rattle.fleet_model.specs.Schedule.{choices_in, fleets_in, legs_in, period_of, stations_in}
 use Rattle.fleet_model.specs.declared.limits.TheConstants.{MAX_CHOICES, MAX_LEGS}
 use Rattle.fleet_model.specs.declared.tables.Tables.{Tables}
 use Rattle.fleet_model.proofs.FewChoices.{few_choices}
 use Rattle.presolve.specs.Cells.{AreCells, AreMore, cell_of}
 use Rattle.presolve.specs.Choices.{all_busy_alone}
+use Rattle.presolve.specs.Ends.{kept_at, station_at}
 use Rattle.presolve.specs.Rules.{busy_alone, departures, flies, kept_flown_on, landings}
+use Rattle.presolve.specs.declared.counting.End.{End}
+use Rattle.presolve.specs.declared.counting.End.TheVariants as end
 use Rattle.presolve.specs.declared.cells.TheConstants.{CELL_WIDTH}
-use Rattle.presolve.proofs.AloneLaws.{few_below, not_alone}
+use Rattle.presolve.proofs.AloneLaws.{few_below}
 use Rattle.presolve.proofs.CellLaws.{few_minutes, few_stations, fewer_places, more_there, same_there}
 use Rattle.presolve.proofs.Landed.{counted, few_counted}
 
@@ -39,13 +42,10 @@ module _ (t : Tables) (keeps : Domains) (place : ℕ → ℕ) (leg : ℕ) where
       more_there cells new (λ f s. sum_below (counted t keeps place f s) leg) (λ f s. sum_below (counted t keeps place f s) (leg + 1)) (λ f s. if station == s then kept_flown_on t keeps f leg else 0) (fleets_in t) (stations_in t) are grown
       (λ f s known. next (counted t keeps place f s) leg ∙ ap (λ k. sum_below (counted t keeps place f s) leg + (if k == s then kept_flown_on t keeps f leg else 0)) (sym there))
 
-pub all_landings : (t : Tables) (keeps : Domains) (leg : ℕ) (cells : List ℕ) → leg ≡ legs_in t → AreCounted t keeps (λ l. (leg_of t l).to) leg cells leg → AreCells cells (landings t keeps) (fleets_in t) (stations_in t)
-unfolding landings
-all_landings t keeps leg cells all are = same_there cells _ _ (fleets_in t) (stations_in t) are (λ f s known. sym (at_end t leg all (counted t keeps (λ l. (leg_of t l).to) f s)))
-
-pub all_departures : (t : Tables) (keeps : Domains) (leg : ℕ) (cells : List ℕ) → leg ≡ legs_in t → AreCounted t keeps (λ l. (leg_of t l).from) leg cells leg → AreCells cells (departures t keeps) (fleets_in t) (stations_in t)
-unfolding departures
-all_departures t keeps leg cells all are = same_there cells _ _ (fleets_in t) (stations_in t) are (λ f s known. sym (at_end t leg all (counted t keeps (λ l. (leg_of t l).from) f s)))
+pub all_counted : (t : Tables) (keeps : Domains) (at : End) (leg : ℕ) (cells : List ℕ) → leg ≡ legs_in t → AreCounted t keeps (station_at t at) leg cells leg → AreCells cells (kept_at t keeps at) (fleets_in t) (stations_in t)
+unfolding departures landings
+all_counted t keeps end.From leg cells all are = same_there cells _ _ (fleets_in t) (stations_in t) are (λ f s known. sym (at_end t leg all (counted t keeps (station_at t end.From) f s)))
+all_counted t keeps end.To leg cells all are = same_there cells _ _ (fleets_in t) (stations_in t) are (λ f s known. sym (at_end t leg all (counted t keeps (station_at t end.To) f s)))
 
 -- ---- what one leg adds, choice by choice
 module _ (t : Tables) (keeps : Domains) (leg station : ℕ) where
@@ -103,11 +103,6 @@ module _ (t : Tables) (keeps : Domains) (leg : ℕ) where
   alone_leg_more cells new are grown =
       more_there cells new (λ f m. sum_below (busy_alone t keeps f m) leg) (λ f m. sum_below (busy_alone t keeps f m) (leg + 1)) (λ f m. busy_alone t keeps f m leg) (fleets_in t) (period_of t) are grown
       (λ f m known. next (busy_alone t keeps f m) leg)
-
-  pub alone_leg_passed : (cells : List ℕ) → kept_on t keeps leg ≢ 1 → AreAlone cells leg → AreAlone cells (leg + 1)
-  alone_leg_passed cells other are =
-      same_there cells (λ f m. sum_below (busy_alone t keeps f m) leg) (λ f m. sum_below (busy_alone t keeps f m) (leg + 1)) (fleets_in t) (period_of t) are
-      (λ f m known. omega (arith, next (busy_alone t keeps f m) leg, not_alone t keeps f m leg other))
 
 pub all_alone : (t : Tables) (keeps : Domains) (leg : ℕ) (cells : List ℕ) → leg ≡ legs_in t → AreAlone t keeps leg cells leg → AreCells cells (all_busy_alone t keeps) (fleets_in t) (period_of t)
 unfolding all_busy_alone

@@ -8,13 +8,16 @@ use Rattle.sums.proofs.OneChanged.{count_below-fewer, sum_below-more}
 use Rattle.sums.proofs.Sums.{count_below-le, sum_below-agree, sum_below-bound}
 use Rattle.sums.proofs.Tests.{by_test, both_true, never_passes}
 use Rattle.fleet_model.specs.Kept.{Domains}
-use Rattle.fleet_model.specs.Schedule.{IsPair, choices_in, fleet_by, leg_of, leg_on, legs_in}
+use Rattle.fleet_model.specs.Schedule.{IsPair, choices_in, fleet_by, leg_on, legs_in}
 use Rattle.fleet_model.specs.declared.limits.TheConstants.{MAX_CHOICES}
 use Rattle.fleet_model.specs.declared.parts.Pair.{Pair}
 use Rattle.fleet_model.specs.declared.tables.Tables.{Tables}
 use Rattle.fleet_model.proofs.FewChoices.{few_choices}
 use Rattle.dual_bound.specs.Bound.{part}
+use Rattle.presolve.specs.Ends.{kept_at, station_at}
 use Rattle.presolve.specs.Rules.{departures, flies, kept_flown_on, landings}
+use Rattle.presolve.specs.declared.counting.End.{End}
+use Rattle.presolve.specs.declared.counting.End.TheVariants as end
 use Rattle.presolve.proofs.KeptParts.{is_removed, on_other_choices, on_others}
 
 -- kept pairs of a fleet, counted where their legs have a place
@@ -97,20 +100,14 @@ module _ (t : Tables) (keeps : Domains) (p : Pair) where
       each l true e = let leg : l ≡ p.leg = grind (arith, nat_tests) in rw leg own
       each l false e = let another : l ≢ p.leg = grind (arith, nat_tests) in ap (λ n. if place l == s then n else 0) (other_leg f l another)
 
-pub landing_fewer : (t : Tables) (keeps : Domains) (p : Pair) → IsPair t p → keeps p ≡ true
-    → landings t keeps (fleet_by t p) (leg_of t p.leg).to ≡ landings t (part keeps p.leg p.choice false) (fleet_by t p) (leg_of t p.leg).to + 1
-unfolding landings
-landing_fewer t keeps p pair kept = fewer t keeps p (λ l. (leg_of t l).to) pair kept
+-- by either end of the legs
+pub end_fewer : (t : Tables) (keeps : Domains) (p : Pair) (at : End) → IsPair t p → keeps p ≡ true
+    → kept_at t keeps at (fleet_by t p) (station_at t at p.leg) ≡ kept_at t (part keeps p.leg p.choice false) at (fleet_by t p) (station_at t at p.leg) + 1
+unfolding departures landings
+end_fewer t keeps p end.From pair kept = fewer t keeps p (station_at t end.From) pair kept
+end_fewer t keeps p end.To pair kept = fewer t keeps p (station_at t end.To) pair kept
 
-pub landing_same : (t : Tables) (keeps : Domains) (p : Pair) (f s : ℕ) → (f ≡ fleet_by t p → s ≡ (leg_of t p.leg).to → ⊥) → landings t keeps f s ≡ landings t (part keeps p.leg p.choice false) f s
-unfolding landings
-landing_same t keeps p f s other = same t keeps p (λ l. (leg_of t l).to) f s other
-
-pub departure_fewer : (t : Tables) (keeps : Domains) (p : Pair) → IsPair t p → keeps p ≡ true
-    → departures t keeps (fleet_by t p) (leg_of t p.leg).from ≡ departures t (part keeps p.leg p.choice false) (fleet_by t p) (leg_of t p.leg).from + 1
-unfolding departures
-departure_fewer t keeps p pair kept = fewer t keeps p (λ l. (leg_of t l).from) pair kept
-
-pub departure_same : (t : Tables) (keeps : Domains) (p : Pair) (f s : ℕ) → (f ≡ fleet_by t p → s ≡ (leg_of t p.leg).from → ⊥) → departures t keeps f s ≡ departures t (part keeps p.leg p.choice false) f s
-unfolding departures
-departure_same t keeps p f s other = same t keeps p (λ l. (leg_of t l).from) f s other
+pub end_same : (t : Tables) (keeps : Domains) (p : Pair) (at : End) (f s : ℕ) → (f ≡ fleet_by t p → s ≡ station_at t at p.leg → ⊥) → kept_at t keeps at f s ≡ kept_at t (part keeps p.leg p.choice false) at f s
+unfolding departures landings
+end_same t keeps p end.From f s other = same t keeps p (station_at t end.From) f s other
+end_same t keeps p end.To f s other = same t keeps p (station_at t end.To) f s other

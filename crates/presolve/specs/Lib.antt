@@ -1,5 +1,6 @@
 pub mod Cells
 pub mod Choices
+pub mod Ends
 pub mod Laws
 pub mod Reasons
 pub mod Removals

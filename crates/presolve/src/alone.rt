@@ -37,15 +37,32 @@ pub(crate) fn all_alone(
 {
     let mut cells = zeros(alloc, tables)?;
     for leg in 0..tables.leg_count() {
-        if counts[leg as usize] == 1 {
-            add_alone(&mut cells, tables, kept, leg);
-        }
+        add_alone(&mut cells, tables, kept, counts, leg);
     }
     Ok(cells)
 }
 
-/// Adds the aircraft that a leg keeps busy to those of the fleet of the one pair that it keeps.
-pub(crate) fn add_alone(cells: &mut Vec<u32>, tables: &Tables, kept: &Kept, leg: u32)
+/// Adds the aircraft that a leg keeps busy, where it keeps one pair, to those of that pair's fleet.
+pub(crate) fn add_alone(
+    cells: &mut Vec<u32>,
+    tables: &Tables,
+    kept: &Kept,
+    counts: &[u32; MAX_LEGS],
+    leg: u32,
+)
+    requires width { length cells.old.items ≡ fleets_in tables.now * CELL_WIDTH }
+    requires leg { leg < legs_in tables.now }
+    requires count { slice_index counts.now leg ≡ kept_on tables.now (kept_by kept.now) leg }
+    requires small { (f m : ℕ) → f < fleets_in tables.now → m < period_of tables.now → cell_of cells.old.items f m ≤ 3 * MAX_LEGS }
+    ensures { AreMore (λ f m. busy_alone tables.now (kept_by kept.now) f m leg) (fleets_in tables.now) (period_of tables.now) cells.old.items cells.new.items }
+{
+    if counts[leg as usize] == 1 {
+        add_only(cells, tables, kept, leg);
+    }
+}
+
+// Adds the aircraft that the one pair which a leg keeps keeps busy.
+fn add_only(cells: &mut Vec<u32>, tables: &Tables, kept: &Kept, leg: u32)
     requires width { length cells.old.items ≡ fleets_in tables.now * CELL_WIDTH }
     requires leg { leg < legs_in tables.now }
     requires one { kept_on tables.now (kept_by kept.now) leg ≡ 1 }

@@ -8,7 +8,7 @@ ghost use Rattle.presolve.specs.Removals.{NoneBare};
 
 use crate::alone::{add_alone, all_alone};
 use crate::cells::take_one;
-use crate::counting::{all_departures, all_landings, counts_of};
+use crate::counting::{End, all_at, counts_of};
 use entries::NoMemory;
 use fleet_model::limits::MAX_LEGS;
 use fleet_model::{Kept, Pair, Step, Tables};
@@ -36,8 +36,8 @@ impl Choices {
     {
         let kept = Kept::all(tables);
         let counts = counts_of(tables, &kept);
-        let landings = all_landings(alloc, tables, &kept)?;
-        let departures = all_departures(alloc, tables, &kept)?;
+        let landings = all_at(alloc, tables, &kept, End::To)?;
+        let departures = all_at(alloc, tables, &kept, End::From)?;
         let busy = all_alone(alloc, tables, &kept, &counts)?;
         Ok(Choices {
             kept,
@@ -90,8 +90,6 @@ impl Choices {
         self.counts[pair.leg as usize] -= 1;
         take_one(&mut self.landings, fleet, flown.to);
         take_one(&mut self.departures, fleet, flown.from);
-        if self.counts[pair.leg as usize] == 1 {
-            add_alone(&mut self.busy, tables, &self.kept, pair.leg);
-        }
+        add_alone(&mut self.busy, tables, &self.kept, &self.counts, pair.leg);
     }
 }

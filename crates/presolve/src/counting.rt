@@ -4,7 +4,8 @@ ghost use Rattle.fleet_model.specs.Kept.{kept_by, kept_on};
 ghost use Rattle.fleet_model.specs.Schedule.{IsPair, fleets_in, legs_in, stations_in};
 ghost use Rattle.fleet_model.specs.declared.limits.TheConstants.{MAX_CHOICES, MAX_LEGS};
 ghost use Rattle.presolve.specs.Cells.{AreCells, AreMore, cell_of};
-ghost use Rattle.presolve.specs.Rules.{departures, flies, kept_flown_on, landings};
+ghost use Rattle.presolve.specs.Ends.{kept_at, station_at};
+ghost use Rattle.presolve.specs.Rules.{flies, kept_flown_on};
 ghost use Rattle.presolve.specs.declared.cells.TheConstants.{CELL_WIDTH};
 
 use crate::cells::{add_one, zeros};
@@ -24,34 +25,41 @@ pub(crate) fn counts_of(tables: &Tables, kept: &Kept) -> [u32; MAX_LEGS]
     counts
 }
 
-/// How many kept pairs of each fleet land at each station.
-pub(crate) fn all_landings(
+/// An end of a leg.
+#[derive(Clone, Copy)]
+pub(crate) enum End {
+    /// Where it departs.
+    From,
+    /// Where it lands.
+    To,
+}
+
+/// How many kept pairs of each fleet there are at each station, by an end of their legs.
+pub(crate) fn all_at(
     alloc: Global,
     tables: &Tables,
     kept: &Kept,
+    end: End,
 ) -> Result<Vec<u32>, NoMemory>
-    ensures { IfOk result (λ cells. AreCells cells.items (landings tables.now (kept_by kept.now)) (fleets_in tables.now) (stations_in tables.now)) }
+    ensures { IfOk result (λ cells. AreCells cells.items (kept_at tables.now (kept_by kept.now) end) (fleets_in tables.now) (stations_in tables.now)) }
 {
     let mut cells = zeros(alloc, tables)?;
     for leg in 0..tables.leg_count() {
-        add_leg(&mut cells, tables, kept, leg, tables.leg(leg).to);
+        add_leg(&mut cells, tables, kept, leg, station_at(tables, end, leg));
     }
     Ok(cells)
 }
 
-/// How many kept pairs of each fleet depart from each station.
-pub(crate) fn all_departures(
-    alloc: Global,
-    tables: &Tables,
-    kept: &Kept,
-) -> Result<Vec<u32>, NoMemory>
-    ensures { IfOk result (λ cells. AreCells cells.items (departures tables.now (kept_by kept.now)) (fleets_in tables.now) (stations_in tables.now)) }
+// The station at an end of a leg.
+fn station_at(tables: &Tables, end: End, leg: u32) -> u32
+    requires leg { leg < legs_in tables.now }
+    ensures value { result ≡ station_at tables.now end leg }
+    ensures known { result < stations_in tables.now }
 {
-    let mut cells = zeros(alloc, tables)?;
-    for leg in 0..tables.leg_count() {
-        add_leg(&mut cells, tables, kept, leg, tables.leg(leg).from);
+    match end {
+        End::From => tables.leg(leg).from,
+        End::To => tables.leg(leg).to,
     }
-    Ok(cells)
 }
 
 // Adds the kept pairs of a leg to those of their fleets at a station.

@@ -3,7 +3,7 @@ use Rattle.fleet_model.specs.Kept.{kept_by}
 use Rattle.fleet_model.specs.declared.limits.TheConstants.{MAX_LEGS}
 use Rattle.presolve.specs.Cells.{cell_of}
 use Rattle.presolve.proofs.AloneLaws.{alone_is, some_choice}
-use Rattle.presolve.proofs.alone.add_alone.Goals as goal
+use Rattle.presolve.proofs.alone.add_only.Goals as goal
 
 pub add_busy-requires-clause-small : goal.add_busy-requires-clause-small
 add_busy-requires-clause-small c f m known within =
