@@ -7,8 +7,8 @@ ghost use Rattle.fleet_model.specs.Use.{IsBalanced};
 ghost use Rattle.plan_judge.specs.Verdicts.{Balances};
 ghost use Rattle.plan_judge.specs.Firsts.{FirstAtFleet, IsFirstUnbalanced};
 
-use crate::counting::{arrivals, departures};
 use fleet_model::{Assignment, Tables};
+use stand_counts::{Planned, arrivals, departures};
 
 /// A fleet and a station at which as many aircraft do not come as leave.
 #[derive(Clone, Copy)]
@@ -33,15 +33,17 @@ pub(crate) fn first_unbalanced(tables: &Tables, plan: &Assignment) -> Option<Imb
 }
 
 /// The first station at which a fleet does not balance.
+#[tactic(auto, using(stand_counts::proofs::PlanCounts::arrivals_of_plan, stand_counts::proofs::PlanCounts::departures_of_plan))]
 fn first_at(tables: &Tables, plan: &Assignment, fleet: u32) -> Option<Imbalance>
     requires plan { IsAssignment tables.now plan.now }
     requires fleet { fleet < fleets_in tables.now }
     ensures { MatchOption result ((s : ℕ) → s < stations_in tables.now → Balances tables.now plan.now fleet s) (FirstAtFleet tables.now plan.now fleet) }
 {
+    let flights = Planned { plan, fleet };
     let last = tables.period() - 1;
     for station in 0..tables.station_count() {
-        let came = arrivals(tables, plan, fleet, station, last);
-        let left = departures(tables, plan, fleet, station, last);
+        let came = arrivals(tables, &flights, station, last) as u32;
+        let left = departures(tables, &flights, station, last) as u32;
         if came != left {
             return Some(Imbalance {
                 fleet,

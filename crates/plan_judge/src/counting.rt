@@ -1,44 +1,12 @@
-//! Departures, arrivals, need and use of a fleet by an assignment.
+//! Need and use of a fleet by an assignment.
 ghost use Rattle.std.specs.Prelude.{◌≡◌, ◌<◌, ◌≤◌};
-ghost use Rattle.fleet_model.specs.Counts.{arrived, departed, weights_of};
+ghost use Rattle.fleet_model.specs.Counts.{weights_of};
 ghost use Rattle.fleet_model.specs.Legal.{IsAssignment};
 ghost use Rattle.fleet_model.specs.Schedule.{fleets_in, legs_in};
 ghost use Rattle.fleet_model.specs.Use.{need_of, used_of};
 
 use fleet_model::{Assignment, Tables};
 use stand_counts::Planned;
-
-/// How many legs of a fleet have left a station by the end of a minute.
-#[tactic(auto, using(stand_counts::proofs::PlanCounts::departures_of_plan))]
-pub(crate) fn departures(
-    tables: &Tables,
-    plan: &Assignment,
-    fleet: u32,
-    station: u32,
-    minute: u16,
-) -> u32
-    requires plan { IsAssignment tables.now plan.now }
-    requires fleet { fleet < fleets_in tables.now }
-    ensures { result ≡ departed tables.now (weights_of plan.now) fleet station minute }
-{
-    stand_counts::departures(tables, &Planned { plan, fleet }, station, minute) as u32
-}
-
-/// How many legs of a fleet have brought an aircraft to a station that is ready by the end of a minute.
-#[tactic(auto, using(stand_counts::proofs::PlanCounts::arrivals_of_plan))]
-pub(crate) fn arrivals(
-    tables: &Tables,
-    plan: &Assignment,
-    fleet: u32,
-    station: u32,
-    minute: u16,
-) -> u32
-    requires plan { IsAssignment tables.now plan.now }
-    requires fleet { fleet < fleets_in tables.now }
-    ensures { result ≡ arrived tables.now (weights_of plan.now) fleet station minute }
-{
-    stand_counts::arrivals(tables, &Planned { plan, fleet }, station, minute) as u32
-}
 
 /// The aircraft of a fleet that must be at a station at the start of the period, so that none is ever lacking there.
 /// Takes no memory.
