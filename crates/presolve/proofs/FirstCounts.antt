@@ -10,7 +10,7 @@ use Rattle.fleet_model.specs.declared.tables.Tables.{Tables}
 use Rattle.fleet_model.proofs.FewChoices.{few_choices}
 use Rattle.presolve.specs.Cells.{AreCells, AreMore, cell_of}
 use Rattle.presolve.specs.Choices.{all_busy_alone}
-use Rattle.presolve.specs.Ends.{kept_at, station_at}
+use Rattle.presolve.specs.Ends.{end_station, kept_at}
 use Rattle.presolve.specs.Rules.{busy_alone, departures, flies, kept_flown_on, landings}
 use Rattle.presolve.specs.declared.counting.End.{End}
 use Rattle.presolve.specs.declared.counting.End.TheVariants as end
@@ -42,10 +42,10 @@ module _ (t : Tables) (keeps : Domains) (place : ℕ → ℕ) (leg : ℕ) where
       more_there cells new (λ f s. sum_below (counted t keeps place f s) leg) (λ f s. sum_below (counted t keeps place f s) (leg + 1)) (λ f s. if station == s then kept_flown_on t keeps f leg else 0) (fleets_in t) (stations_in t) are grown
       (λ f s known. next (counted t keeps place f s) leg ∙ ap (λ k. sum_below (counted t keeps place f s) leg + (if k == s then kept_flown_on t keeps f leg else 0)) (sym there))
 
-pub all_counted : (t : Tables) (keeps : Domains) (at : End) (leg : ℕ) (cells : List ℕ) → leg ≡ legs_in t → AreCounted t keeps (station_at t at) leg cells leg → AreCells cells (kept_at t keeps at) (fleets_in t) (stations_in t)
+pub all_counted : (t : Tables) (keeps : Domains) (at : End) (leg : ℕ) (cells : List ℕ) → leg ≡ legs_in t → AreCounted t keeps (end_station t at) leg cells leg → AreCells cells (kept_at t keeps at) (fleets_in t) (stations_in t)
 unfolding departures landings
-all_counted t keeps end.From leg cells all are = same_there cells _ _ (fleets_in t) (stations_in t) are (λ f s known. sym (at_end t leg all (counted t keeps (station_at t end.From) f s)))
-all_counted t keeps end.To leg cells all are = same_there cells _ _ (fleets_in t) (stations_in t) are (λ f s known. sym (at_end t leg all (counted t keeps (station_at t end.To) f s)))
+all_counted t keeps end.From leg cells all are = same_there cells _ _ (fleets_in t) (stations_in t) are (λ f s known. sym (at_end t leg all (counted t keeps (end_station t end.From) f s)))
+all_counted t keeps end.To leg cells all are = same_there cells _ _ (fleets_in t) (stations_in t) are (λ f s known. sym (at_end t leg all (counted t keeps (end_station t end.To) f s)))
 
 -- ---- what one leg adds, choice by choice
 module _ (t : Tables) (keeps : Domains) (leg station : ℕ) where

@@ -14,7 +14,7 @@ use Rattle.fleet_model.specs.declared.parts.Pair.{Pair}
 use Rattle.fleet_model.specs.declared.tables.Tables.{Tables}
 use Rattle.fleet_model.proofs.FewChoices.{few_choices}
 use Rattle.dual_bound.specs.Bound.{part}
-use Rattle.presolve.specs.Ends.{kept_at, station_at}
+use Rattle.presolve.specs.Ends.{end_station, kept_at}
 use Rattle.presolve.specs.Rules.{departures, flies, kept_flown_on, landings}
 use Rattle.presolve.specs.declared.counting.End.{End}
 use Rattle.presolve.specs.declared.counting.End.TheVariants as end
@@ -102,12 +102,12 @@ module _ (t : Tables) (keeps : Domains) (p : Pair) where
 
 -- by either end of the legs
 pub end_fewer : (t : Tables) (keeps : Domains) (p : Pair) (at : End) → IsPair t p → keeps p ≡ true
-    → kept_at t keeps at (fleet_by t p) (station_at t at p.leg) ≡ kept_at t (part keeps p.leg p.choice false) at (fleet_by t p) (station_at t at p.leg) + 1
+    → kept_at t keeps at (fleet_by t p) (end_station t at p.leg) ≡ kept_at t (part keeps p.leg p.choice false) at (fleet_by t p) (end_station t at p.leg) + 1
 unfolding departures landings
-end_fewer t keeps p end.From pair kept = fewer t keeps p (station_at t end.From) pair kept
-end_fewer t keeps p end.To pair kept = fewer t keeps p (station_at t end.To) pair kept
+end_fewer t keeps p end.From pair kept = fewer t keeps p (end_station t end.From) pair kept
+end_fewer t keeps p end.To pair kept = fewer t keeps p (end_station t end.To) pair kept
 
-pub end_same : (t : Tables) (keeps : Domains) (p : Pair) (at : End) (f s : ℕ) → (f ≡ fleet_by t p → s ≡ station_at t at p.leg → ⊥) → kept_at t keeps at f s ≡ kept_at t (part keeps p.leg p.choice false) at f s
+pub end_same : (t : Tables) (keeps : Domains) (p : Pair) (at : End) (f s : ℕ) → (f ≡ fleet_by t p → s ≡ end_station t at p.leg → ⊥) → kept_at t keeps at f s ≡ kept_at t (part keeps p.leg p.choice false) at f s
 unfolding departures landings
-end_same t keeps p end.From f s other = same t keeps p (station_at t end.From) f s other
-end_same t keeps p end.To f s other = same t keeps p (station_at t end.To) f s other
+end_same t keeps p end.From f s other = same t keeps p (end_station t end.From) f s other
+end_same t keeps p end.To f s other = same t keeps p (end_station t end.To) f s other

@@ -8,7 +8,7 @@ use Rattle.fleet_model.specs.declared.tables.Tables.{Tables}
 use Rattle.dual_bound.specs.Bound.{part}
 use Rattle.presolve.specs.Cells.{AreCells, AreMore, cell_of}
 use Rattle.presolve.specs.Choices.{all_busy_alone}
-use Rattle.presolve.specs.Ends.{kept_at, station_at}
+use Rattle.presolve.specs.Ends.{end_station, kept_at}
 use Rattle.presolve.specs.Removals.{NoneBare}
 use Rattle.presolve.specs.Rules.{busy_alone}
 use Rattle.presolve.specs.declared.cells.TheConstants.{CELL_WIDTH}
@@ -20,20 +20,20 @@ use Rattle.presolve.proofs.Landed.{end_fewer, end_same}
 
 module _ (t : Tables) (keeps after : Domains) (p : Pair) (pair : IsPair t p) (flies : fleet_by t p < fleets_in t) (kept : keeps p ≡ true) (is : after ≡ part keeps p.leg p.choice false) where
   -- one fewer where an end of the leg is
-  end_known : (at : End) → station_at t at p.leg < stations_in t
+  end_known : (at : End) → end_station t at p.leg < stations_in t
   end_known end.From = (t.in_range.legs_fit.each p.leg no_leg pair.leg).from
   end_known end.To = (t.in_range.legs_fit.each p.leg no_leg pair.leg).to
 
-  pub some_there : (at : End) (fleet station : ℕ) (cells : List ℕ) → AreCells cells (kept_at t keeps at) (fleets_in t) (stations_in t) → fleet ≡ fleet_by t p → station ≡ station_at t at p.leg → 0 < cell_of cells fleet station
+  pub some_there : (at : End) (fleet station : ℕ) (cells : List ℕ) → AreCells cells (kept_at t keeps at) (fleets_in t) (stations_in t) → fleet ≡ fleet_by t p → station ≡ end_station t at p.leg → 0 < cell_of cells fleet station
   some_there at fleet station cells are by there =
-      let value = are.each (fleet_by t p) (station_at t at p.leg) flies (end_known at) in
+      let value = are.each (fleet_by t p) (end_station t at p.leg) flies (end_known at) in
       rw (by, there) (omega (arith, value, end_fewer t keeps p at pair kept))
 
-  pub ends_after : (at : End) (fleet station : ℕ) (cells new : List ℕ) → AreCells cells (kept_at t keeps at) (fleets_in t) (stations_in t) → fleet ≡ fleet_by t p → station ≡ station_at t at p.leg
+  pub ends_after : (at : End) (fleet station : ℕ) (cells new : List ℕ) → AreCells cells (kept_at t keeps at) (fleets_in t) (stations_in t) → fleet ≡ fleet_by t p → station ≡ end_station t at p.leg
       → new ≡ set cells (fleet * CELL_WIDTH + station) (cell_of cells fleet station - 1) → AreCells new (kept_at t after at) (fleets_in t) (stations_in t)
   ends_after at fleet station cells new are by there made =
       subst (λ k. AreCells new (kept_at t k at) (fleets_in t) (stations_in t)) (sym is)
-      (one_less cells new (kept_at t keeps at) (kept_at t (part keeps p.leg p.choice false) at) (fleets_in t) (stations_in t) (fleet_by t p) (station_at t at p.leg) (few_stations t) are
+      (one_less cells new (kept_at t keeps at) (kept_at t (part keeps p.leg p.choice false) at) (fleets_in t) (stations_in t) (fleet_by t p) (end_station t at p.leg) (few_stations t) are
       (made ∙ ap (λ f. set cells (f * CELL_WIDTH + station) (cell_of cells f station - 1)) by ∙ ap (λ s. set cells (fleet_by t p * CELL_WIDTH + s) (cell_of cells (fleet_by t p) s - 1)) there) flies (end_known at)
       (end_fewer t keeps p at pair kept) (λ f s other. end_same t keeps p at f s other))
 

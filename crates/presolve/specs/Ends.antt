@@ -8,9 +8,9 @@ use Rattle.presolve.specs.declared.counting.End.{End}
 use Rattle.presolve.specs.declared.counting.End.TheVariants as end
 
 -- the station at an end of a leg
-abbrev pub station_at : Tables → End → ℕ → ℕ
-station_at t end.From l = (leg_of t l).from
-station_at t end.To l = (leg_of t l).to
+abbrev pub end_station : Tables → End → ℕ → ℕ
+end_station t end.From l = (leg_of t l).from
+end_station t end.To l = (leg_of t l).to
 
 -- how many kept pairs of a fleet have this end at a station
 abbrev pub kept_at : Tables → Domains → End → ℕ → ℕ → ℕ

@@ -4,7 +4,7 @@ ghost use Rattle.fleet_model.specs.Kept.{kept_by, kept_on};
 ghost use Rattle.fleet_model.specs.Schedule.{IsPair, fleets_in, legs_in, stations_in};
 ghost use Rattle.fleet_model.specs.declared.limits.TheConstants.{MAX_CHOICES, MAX_LEGS};
 ghost use Rattle.presolve.specs.Cells.{AreCells, AreMore, cell_of};
-ghost use Rattle.presolve.specs.Ends.{kept_at, station_at};
+ghost use Rattle.presolve.specs.Ends.{end_station, kept_at};
 ghost use Rattle.presolve.specs.Rules.{flies, kept_flown_on};
 ghost use Rattle.presolve.specs.declared.cells.TheConstants.{CELL_WIDTH};
 
@@ -45,15 +45,15 @@ pub(crate) fn all_at(
 {
     let mut cells = zeros(alloc, tables)?;
     for leg in 0..tables.leg_count() {
-        add_leg(&mut cells, tables, kept, leg, station_at(tables, end, leg));
+        add_leg(&mut cells, tables, kept, leg, end_station(tables, end, leg));
     }
     Ok(cells)
 }
 
 // The station at an end of a leg.
-fn station_at(tables: &Tables, end: End, leg: u32) -> u32
+fn end_station(tables: &Tables, end: End, leg: u32) -> u32
     requires leg { leg < legs_in tables.now }
-    ensures value { result ≡ station_at tables.now end leg }
+    ensures value { result ≡ end_station tables.now end leg }
     ensures known { result < stations_in tables.now }
 {
     match end {
