@@ -2,7 +2,7 @@
 use Rattle.std.specs.Prelude.{◌≡◌, ℕ, ◌<◌, ◌≤◌, ◌==◌, Bool, false, List, length, slice_index, slice_index_or}
 use Rattle.fleet_model.specs.Legal.{IsAssignment}
 use Rattle.fleet_model.specs.Schedule.{fleets_in, leg_of, legs_in, stations_in}
-use Rattle.ground_turns.specs.FirstOut.{departs_before, departure_place, free_departed, free_landed, free_landings, free_need, is_free_departure, is_free_landing, landing_place, lands_before}
+use Rattle.ground_turns.specs.FirstOut.{departure_place, free_departed, free_landed, free_landings, free_need, is_free_departure, is_free_landing, landing_place}
 use Rattle.ground_turns.specs.Maps.{arrivals_of, departures_of}
 use Rattle.lines_of_flying.specs.declared.ground.Ground.{Ground}
 use Rattle.lines_of_flying.specs.declared.places.Places.{Places}
@@ -25,14 +25,6 @@ lands_free g s l = is_free_landing g.tables.now g.plan.now g.fleet g.pairs.now s
 
 abbrev pub departs_free : Ground → ℕ → ℕ → Bool
 departs_free g s l = is_free_departure g.tables.now g.plan.now g.fleet g.pairs.now s l
-
--- another leg's landing is free where a leg lands, and comes before it
-abbrev pub landing_before : Ground → ℕ → ℕ → Bool
-landing_before g l q = lands_before g.tables.now g.plan.now g.fleet g.pairs.now (leg_of g.tables.now l).to l q
-
--- another leg's departure is free where a leg departs, and comes before it
-abbrev pub leaves_first : Ground → ℕ → ℕ → Bool
-leaves_first g l q = departs_before g.tables.now g.plan.now g.fleet g.pairs.now (leg_of g.tables.now l).from l q
 
 abbrev pub landings_at : Ground → ℕ → ℕ
 landings_at g s = free_landings g.tables.now g.plan.now g.fleet g.pairs.now s

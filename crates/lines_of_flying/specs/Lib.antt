@@ -1,4 +1,5 @@
 pub mod Following
 pub mod Grounds
+pub mod Moves
 pub mod Successors
 pub mod Lines

@@ -6,8 +6,8 @@ ghost use Rattle.ground_turns.specs.Maps.{HasTurn, IsHeldByMap, arrivals_of};
 ghost use Rattle.lines_of_flying.specs.Following.{Follows, IsFirstOutNext, next_place};
 ghost use Rattle.lines_of_flying.specs.Grounds.{ArePlaces, IsGround};
 
-use crate::free::{departs_free, landing_place, landings};
-use crate::ground::Ground;
+use crate::free::{landings, moves_free, place_of};
+use crate::ground::{Ground, Movement};
 use crate::places::Places;
 use fleet_model::Connection;
 
@@ -51,7 +51,8 @@ fn next_place(ground: &Ground<'_>, places: &Places, leg: u32) -> u32
     ensures { result ≡ next_place ground.now.tables.now ground.now.plan.now ground.now.fleet ground.now.pairs.now leg }
 {
     let station = ground.tables.leg(leg).to;
-    (landing_place(ground, leg) + places.needs[station as usize]) % landings(ground, station)
+    (place_of(ground, Movement::Landing, leg) + places.needs[station as usize])
+        % landings(ground, station)
 }
 
 // The leg that departs first in, first out after a free landing.
@@ -67,7 +68,9 @@ fn first_out(ground: &Ground<'_>, places: &Places, leg: u32) -> u32
     let station = ground.tables.leg(leg).to;
     let place = next_place(ground, places, leg);
     for other in 0..ground.tables.leg_count() {
-        if departs_free(ground, station, other) && places.departures[other as usize] == place {
+        if moves_free(ground, Movement::Departure, station, other)
+            && places.departures[other as usize] == place
+        {
             return other;
         }
     }

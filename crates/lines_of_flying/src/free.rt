@@ -1,32 +1,21 @@
 //! Free landings and free departures at a station: those that no given pair has.
 ghost use Rattle.std.specs.Prelude.{◌≡◌, ◌<◌, ◌≤◌};
-ghost use Rattle.fleet_model.specs.Schedule.{leg_on, legs_in};
-ghost use Rattle.fleet_model.specs.Times.{departure, ready_minute};
+ghost use Rattle.fleet_model.specs.Schedule.{legs_in};
 ghost use Rattle.ground_turns.specs.FirstOut.{is_before};
-ghost use Rattle.lines_of_flying.specs.Grounds.{IsGround, landing_before, departs_free, lands_free, leaves_first, landings_at, place_of_departure, place_of_landing};
+ghost use Rattle.lines_of_flying.specs.Grounds.{IsGround, landings_at};
+ghost use Rattle.lines_of_flying.specs.Moves.{is_ahead, moves_free, minute_of, place_of};
 
-use crate::ground::{Ground, departure, ready};
+use crate::ground::{Ground, Movement, is_unpaired, minute_of, moves_at};
 
-/// Whether a leg of the fleet lands at a station, and no given pair says what follows.
-pub(crate) fn lands_free(ground: &Ground<'_>, station: u32, leg: u32) -> bool
+/// Whether a leg of the fleet lands at a station or departs from there, and no given pair says what follows or comes before.
+pub(crate) fn moves_free(ground: &Ground<'_>, movement: Movement, station: u32, leg: u32) -> bool
     requires ground { IsGround ground.now }
     requires leg { leg < legs_in ground.now.tables.now }
-    ensures { result ≡ lands_free ground.now station leg }
+    ensures { result ≡ moves_free ground.now movement station leg }
 {
     ground.plan.choice(leg) == ground.fleet
-        && ground.tables.leg(leg).to == station
-        && ground.lands[leg as usize]
-}
-
-/// Whether a leg of the fleet departs from a station, and no given pair says what comes before.
-pub(crate) fn departs_free(ground: &Ground<'_>, station: u32, leg: u32) -> bool
-    requires ground { IsGround ground.now }
-    requires leg { leg < legs_in ground.now.tables.now }
-    ensures { result ≡ departs_free ground.now station leg }
-{
-    ground.plan.choice(leg) == ground.fleet
-        && ground.tables.leg(leg).from == station
-        && ground.departs[leg as usize]
+        && moves_at(ground, movement, leg) == station
+        && is_unpaired(ground, movement, leg)
 }
 
 // Whether a minute and a leg come before others.
@@ -45,67 +34,37 @@ pub(crate) fn landings(ground: &Ground<'_>, station: u32) -> u32
 {
     let mut count = 0;
     for leg in 0..ground.tables.leg_count() {
-        if lands_free(ground, station, leg) {
+        if moves_free(ground, Movement::Landing, station, leg) {
             count += 1;
         }
     }
     count
 }
 
-// Whether another leg's landing is free where a leg lands, and comes before it, whose ready minute is this.
-fn lands_before(ground: &Ground<'_>, leg: u32, minute: u16, other: u32) -> bool
+// Whether another leg is free where a leg lands or departs, and comes before it, whose minute is this.
+fn is_ahead(ground: &Ground<'_>, movement: Movement, leg: u32, minute: u16, other: u32) -> bool
     requires ground { IsGround ground.now }
     requires leg { leg < legs_in ground.now.tables.now }
     requires other { other < legs_in ground.now.tables.now }
-    requires minute { minute ≡ ready_minute ground.now.tables.now (leg_on leg ground.now.fleet) }
-    ensures { result ≡ landing_before ground.now leg other }
+    requires minute { minute ≡ minute_of ground.now movement leg }
+    ensures { result ≡ is_ahead ground.now movement leg other }
 {
-    let station = ground.tables.leg(leg).to;
-    lands_free(ground, station, other) && is_before(ready(ground, other), other, minute, leg)
+    let station = moves_at(ground, movement, leg);
+    moves_free(ground, movement, station, other)
+        && is_before(minute_of(ground, movement, other), other, minute, leg)
 }
 
-/// How many free landings come before that of a leg where it lands, by ready minute and leg.
-#[tactic(auto, unfolding(ground_turns::specs::FirstOut::landing_place))]
-pub(crate) fn landing_place(ground: &Ground<'_>, leg: u32) -> u32
+/// How many free landings or departures come before that of a leg where it lands or departs, by minute and leg.
+pub(crate) fn place_of(ground: &Ground<'_>, movement: Movement, leg: u32) -> u32
     requires ground { IsGround ground.now }
     requires leg { leg < legs_in ground.now.tables.now }
-    ensures value { result ≡ place_of_landing ground.now leg }
+    ensures value { result ≡ place_of ground.now movement leg }
     ensures few { result ≤ legs_in ground.now.tables.now }
 {
-    let minute = ready(ground, leg);
+    let minute = minute_of(ground, movement, leg);
     let mut count = 0;
     for other in 0..ground.tables.leg_count() {
-        if lands_before(ground, leg, minute, other) {
-            count += 1;
-        }
-    }
-    count
-}
-
-// Whether another leg's departure is free where a leg departs, and comes before it, whose minute is this.
-fn leaves_before(ground: &Ground<'_>, leg: u32, minute: u16, other: u32) -> bool
-    requires ground { IsGround ground.now }
-    requires leg { leg < legs_in ground.now.tables.now }
-    requires other { other < legs_in ground.now.tables.now }
-    requires minute { minute ≡ departure ground.now.tables.now (leg_on leg ground.now.fleet) }
-    ensures { result ≡ leaves_first ground.now leg other }
-{
-    let station = ground.tables.leg(leg).from;
-    departs_free(ground, station, other) && is_before(departure(ground, other), other, minute, leg)
-}
-
-/// How many free departures come before that of a leg where it departs, by minute and leg.
-#[tactic(auto, unfolding(ground_turns::specs::FirstOut::departure_place))]
-pub(crate) fn departure_place(ground: &Ground<'_>, leg: u32) -> u32
-    requires ground { IsGround ground.now }
-    requires leg { leg < legs_in ground.now.tables.now }
-    ensures value { result ≡ place_of_departure ground.now leg }
-    ensures few { result ≤ legs_in ground.now.tables.now }
-{
-    let minute = departure(ground, leg);
-    let mut count = 0;
-    for other in 0..ground.tables.leg_count() {
-        if leaves_before(ground, leg, minute, other) {
+        if is_ahead(ground, movement, leg, minute, other) {
             count += 1;
         }
     }

@@ -1,15 +1,22 @@
 //! What is known of a fleet's aircraft on the ground beside given pairs.
-ghost use Rattle.std.specs.Prelude.{◌≡◌, ◌<◌, ◌≤◌, IfOk};
+ghost use Rattle.std.specs.Prelude.{◌≡◌, ◌<◌, ◌≤◌, ◌==◌, IfOk};
 ghost use Rattle.fleet_model.specs.Legal.{IsAssignment};
-ghost use Rattle.fleet_model.specs.Schedule.{fleets_in, leg_on, legs_in};
-ghost use Rattle.fleet_model.specs.Times.{departure, ready_minute};
+ghost use Rattle.fleet_model.specs.Schedule.{fleets_in, legs_in};
 ghost use Rattle.ground_turns.specs.Maps.{arrivals_of, departures_of};
 ghost use Rattle.lines_of_flying.specs.Grounds.{AreMarks, IsGround};
+ghost use Rattle.lines_of_flying.specs.Moves.{minute_of, pairs_with, moves_at};
 
 use entries::NoMemory;
 use fleet_model::{Assignment, Connection, Tables};
 use ground_turns::flight;
 use std::alloc::Global;
+
+/// What an aircraft does at a station.
+#[derive(Clone, Copy)]
+pub(crate) enum Movement {
+    Landing,
+    Departure,
+}
 
 /// A fleet by an assignment, given pairs, and which legs none of them has.
 #[derive(Drop)]
@@ -53,26 +60,41 @@ pub(crate) fn ground_of<'a>(
     })
 }
 
-/// The minute at which the fleet's aircraft can depart again after a leg.
-pub(crate) fn ready(ground: &Ground<'_>, leg: u32) -> u16
+/// The station where a leg lands, or from which it departs.
+pub(crate) fn moves_at(ground: &Ground<'_>, movement: Movement, leg: u32) -> u32
     requires ground { IsGround ground.now }
     requires leg { leg < legs_in ground.now.tables.now }
-    ensures { result ≡ ready_minute ground.now.tables.now (leg_on leg ground.now.fleet) }
+    ensures { result ≡ moves_at ground.now movement leg }
 {
-    ground
-        .tables
-        .ready(flight(ground.tables, leg, ground.fleet))
+    match movement {
+        Movement::Landing => ground.tables.leg(leg).to,
+        Movement::Departure => ground.tables.leg(leg).from,
+    }
 }
 
-/// The minute at which the fleet departs on a leg.
-pub(crate) fn departure(ground: &Ground<'_>, leg: u32) -> u16
+/// The minute at which the fleet's aircraft can depart again after a leg, or at which it departs on it.
+pub(crate) fn minute_of(ground: &Ground<'_>, movement: Movement, leg: u32) -> u16
     requires ground { IsGround ground.now }
     requires leg { leg < legs_in ground.now.tables.now }
-    ensures { result ≡ departure ground.now.tables.now (leg_on leg ground.now.fleet) }
+    ensures { result ≡ minute_of ground.now movement leg }
 {
-    ground
-        .tables
-        .departure(flight(ground.tables, leg, ground.fleet))
+    let pair = flight(ground.tables, leg, ground.fleet);
+    match movement {
+        Movement::Landing => ground.tables.ready(pair),
+        Movement::Departure => ground.tables.departure(pair),
+    }
+}
+
+/// Whether no given pair says what follows a leg, or what comes before it.
+pub(crate) fn is_unpaired(ground: &Ground<'_>, movement: Movement, leg: u32) -> bool
+    requires ground { IsGround ground.now }
+    requires leg { leg < legs_in ground.now.tables.now }
+    ensures { result ≡ (pairs_with ground.now movement leg == 0) }
+{
+    match movement {
+        Movement::Landing => ground.lands[leg as usize],
+        Movement::Departure => ground.departs[leg as usize],
+    }
 }
 
 /// By leg, whether no given pair says what follows it.

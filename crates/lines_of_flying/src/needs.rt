@@ -1,11 +1,11 @@
 //! The aircraft that must be at a station at the period's start for its free departures.
-ghost use Rattle.std.specs.Prelude.{◌≡◌, ◌-◌, ◌<◌, ◌≤◌, ◌&&◌, nat_le};
-ghost use Rattle.fleet_model.specs.Schedule.{leg_on, legs_in};
-ghost use Rattle.fleet_model.specs.Times.{departure, ready_minute};
-ghost use Rattle.lines_of_flying.specs.Grounds.{IsGround, departs_free, free_departed_by, landed_by, lands_free, need_at};
+ghost use Rattle.std.specs.Prelude.{◌≡◌, ◌-◌, ◌<◌, ◌≤◌};
+ghost use Rattle.fleet_model.specs.Schedule.{legs_in};
+ghost use Rattle.lines_of_flying.specs.Grounds.{IsGround, free_departed_by, landed_by, need_at};
+ghost use Rattle.lines_of_flying.specs.Moves.{has_moved, moved_by};
 
-use crate::free::{departs_free, lands_free};
-use crate::ground::{Ground, departure, ready};
+use crate::free::moves_free;
+use crate::ground::{Ground, Movement, minute_of};
 
 /// The aircraft that must be at a station at the period's start, so that none of its free departures ever lacks one.
 ///
@@ -18,8 +18,8 @@ pub(crate) fn need(ground: &Ground<'_>, station: u32) -> u32
 {
     let mut most = 0;
     for leg in 0..ground.tables.leg_count() {
-        if departs_free(ground, station, leg) {
-            most = most.max(excess(ground, station, departure(ground, leg)));
+        if moves_free(ground, Movement::Departure, station, leg) {
+            most = most.max(excess(ground, station, minute_of(ground, Movement::Departure, leg)));
         }
     }
     most
@@ -31,55 +31,30 @@ fn excess(ground: &Ground<'_>, station: u32, minute: u16) -> u32
     ensures value { result ≡ free_departed_by ground.now station minute - landed_by ground.now station minute }
     ensures few { result ≤ legs_in ground.now.tables.now }
 {
-    departed(ground, station, minute).saturating_sub(landed(ground, station, minute))
+    let departed = moved(ground, Movement::Departure, station, minute);
+    departed.saturating_sub(moved(ground, Movement::Landing, station, minute))
 }
 
-// How many free departures there are by the end of a minute.
-#[tactic(auto, unfolding(ground_turns::specs::FirstOut::free_departed))]
-fn departed(ground: &Ground<'_>, station: u32, minute: u16) -> u32
+// How many free landings or departures there are by the end of a minute.
+fn moved(ground: &Ground<'_>, movement: Movement, station: u32, minute: u16) -> u32
     requires { IsGround ground.now }
-    ensures value { result ≡ free_departed_by ground.now station minute }
+    ensures value { result ≡ moved_by ground.now movement station minute }
     ensures few { result ≤ legs_in ground.now.tables.now }
 {
     let mut count = 0;
     for leg in 0..ground.tables.leg_count() {
-        if departs_by(ground, station, minute, leg) {
+        if has_moved(ground, movement, station, minute, leg) {
             count += 1;
         }
     }
     count
 }
 
-// Whether a leg's departure is free at a station, and gone by the end of a minute.
-fn departs_by(ground: &Ground<'_>, station: u32, minute: u16, leg: u32) -> bool
+// Whether a leg's landing or departure is free at a station, and its aircraft ready or gone by the end of a minute.
+fn has_moved(ground: &Ground<'_>, movement: Movement, station: u32, minute: u16, leg: u32) -> bool
     requires ground { IsGround ground.now }
     requires leg { leg < legs_in ground.now.tables.now }
-    ensures { result ≡ (departs_free ground.now station leg && nat_le (departure ground.now.tables.now (leg_on leg ground.now.fleet)) minute) }
+    ensures { result ≡ has_moved ground.now movement station minute leg }
 {
-    departs_free(ground, station, leg) && departure(ground, leg) <= minute
-}
-
-// How many free landings there are by the end of a minute.
-#[tactic(auto, unfolding(ground_turns::specs::FirstOut::free_landed))]
-fn landed(ground: &Ground<'_>, station: u32, minute: u16) -> u32
-    requires { IsGround ground.now }
-    ensures value { result ≡ landed_by ground.now station minute }
-    ensures few { result ≤ legs_in ground.now.tables.now }
-{
-    let mut count = 0;
-    for leg in 0..ground.tables.leg_count() {
-        if lands_by(ground, station, minute, leg) {
-            count += 1;
-        }
-    }
-    count
-}
-
-// Whether a leg's landing is free at a station, and its aircraft ready by the end of a minute.
-fn lands_by(ground: &Ground<'_>, station: u32, minute: u16, leg: u32) -> bool
-    requires ground { IsGround ground.now }
-    requires leg { leg < legs_in ground.now.tables.now }
-    ensures { result ≡ (lands_free ground.now station leg && nat_le (ready_minute ground.now.tables.now (leg_on leg ground.now.fleet)) minute) }
-{
-    lands_free(ground, station, leg) && ready(ground, leg) <= minute
+    moves_free(ground, movement, station, leg) && minute_of(ground, movement, leg) <= minute
 }

@@ -3,8 +3,8 @@ ghost use Rattle.std.specs.Prelude.{◌≡◌, ◌<◌, ◌≤◌, ℕ, IfOk, le
 ghost use Rattle.fleet_model.specs.Schedule.{legs_in, stations_in};
 ghost use Rattle.lines_of_flying.specs.Grounds.{ArePlaces, IsGround, need_at, place_of_departure};
 
-use crate::free::departure_place;
-use crate::ground::Ground;
+use crate::free::place_of;
+use crate::ground::{Ground, Movement};
 use crate::needs::need;
 use entries::NoMemory;
 use std::alloc::Global;
@@ -36,7 +36,7 @@ fn departure_places(alloc: Global, ground: &Ground<'_>) -> Result<Vec<u32>, NoMe
 {
     let mut places = Vec::new(alloc);
     for leg in 0..ground.tables.leg_count() {
-        places.push(departure_place(ground, leg))?;
+        places.push(place_of(ground, Movement::Departure, leg))?;
     }
     Ok(places)
 }

@@ -14,7 +14,7 @@ overflow_add-result c =
     let there = c.leg.ensures.fits.to in
     let low : c.leg.result.now.to < length c.args.places.now.needs.items = omega (arith, there, c.requires.places.each_station) in
     let need = get_or_read c.args.places.now.needs.items c.leg.result.now.to c.index.result.now low c.index.ensures 0 ∙ c.requires.places.needs c.leg.result.now.to there in
-    omega (arith, need, c.requires.places.few c.leg.result.now.to there, c.landing_place.ensures.few, g.tables.now.in_range.legs_fit.few)
+    omega (arith, need, c.requires.places.few c.leg.result.now.to there, c.place_of.ensures.few, g.tables.now.in_range.legs_fit.few)
 
 pub returns : goal.returns
 unfolding next_place
@@ -23,7 +23,7 @@ returns c =
     let there = c.leg.ensures.fits.to in
     let low : c.leg.result.now.to < length c.args.places.now.needs.items = omega (arith, there, c.requires.places.each_station) in
     let same = ap (λ leg. leg.to) c.leg.ensures.value in
-    both_same _ _ _ _ _ _ c.landing_place.ensures.value
+    both_same _ _ _ _ _ _ c.place_of.ensures.value
     (get_or_read c.args.places.now.needs.items c.leg.result.now.to c.index.result.now low c.index.ensures 0 ∙ c.requires.places.needs c.leg.result.now.to there ∙ ap (need_at g) same)
     (c.landings.ensures.value ∙ ap (landings_at g) same)
 

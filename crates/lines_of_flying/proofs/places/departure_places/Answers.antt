@@ -6,7 +6,7 @@ use Rattle.lines_of_flying.proofs.places.departure_places.Goals as goal
 
 pub loop-leg-preserved : goal.loop-leg-preserved
 loop-leg-preserved c =
-    c.in_ok-push.ensures.items ∙ list_below-push (place_of_departure c.args.ground.now) c.loop-leg.leg c.loop-leg.places.items c.departure_place.result c.loop-leg.invariant c.departure_place.ensures.value
+    c.in_ok-push.ensures.items ∙ list_below-push (place_of_departure c.args.ground.now) c.loop-leg.leg c.loop-leg.places.items c.place_of.result c.loop-leg.invariant c.place_of.ensures.value
 
 pub returns-clause-each_leg : goal.returns-clause-each_leg
 returns-clause-each_leg c =
