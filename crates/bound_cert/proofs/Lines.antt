@@ -45,12 +45,12 @@ appended t first more start text grown begun added =
 line_alone : (t : Tables) (line : Line) (text grown : List ℕ) → grown ≡ text ++ text_of t line → grown ≡ text ++ text_of_lines t (line ∷ [])
 line_alone t line text grown added = added ∙ ap (λ bytes. text ++ bytes) (sym (append-nil (text_of t line)))
 
-pub entry_more : {A : Type 0} (t : Tables) (line_of : A → Line) (entries : List A) (n : ℕ) (d : A) (start text grown : List ℕ) → n < length entries → text ≡ start ++ text_of_lines t (map line_of (take n entries))
-    → grown ≡ text ++ text_of t (line_of (get_or entries n d)) → grown ≡ start ++ text_of_lines t (map line_of (take (n + 1) entries))
-entry_more t line_of entries n d start text grown within so_far added =
-    let one = line_of (get_or entries n d) in
-    appended t (map line_of (take n entries)) (one ∷ []) start text grown so_far (line_alone t one text grown added)
-    ∙ ap (λ lines. start ++ text_of_lines t lines) (sym (ap (map line_of) (take_more entries n d within) ∙ map-append line_of (take n entries) (get_or entries n d ∷ [])))
+pub entry_more : {A : Type 0} (t : Tables) (line_of : A → Line) (entries : List A) (n : ℕ) (entry : A) (start text grown : List ℕ) → n < length entries → entry ≡ get_or entries n entry → text ≡ start ++ text_of_lines t (map line_of (take n entries))
+    → grown ≡ text ++ text_of t (line_of entry) → grown ≡ start ++ text_of_lines t (map line_of (take (n + 1) entries))
+entry_more t line_of entries n entry start text grown within is so_far added =
+    appended t (map line_of (take n entries)) (line_of entry ∷ []) start text grown so_far (line_alone t (line_of entry) text grown added)
+    ∙ ap (λ lines. start ++ text_of_lines t lines)
+    (sym (ap (map line_of) (take_more entries n entry within ∙ ap (λ one. take n entries ++ one ∷ []) (sym is)) ∙ map-append line_of (take n entries) (entry ∷ [])))
 
 -- what follows from what a last call gives
 pub done : {A E P Q : Type 0} (result : Result A E) → (P → Q) → OnOk result P → OnOk result Q

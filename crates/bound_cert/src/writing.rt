@@ -1,8 +1,9 @@
 //! The text of a proof, written.
 ghost use Rattle.std.specs.Prelude.{◌≡◌, ◌++◌, ◌<◌, All, IfOk, OnOk, drop, map};
 ghost use Rattle.fleet_model.specs.Schedule.{fleets_in};
-ghost use Rattle.dual_bound.specs.OfTables.{ArePricesOf, IsCauseOf, IsChargeOf, IsMixedOf, IsOfTables, IsStepOf, IsWeightOf};
-ghost use Rattle.proof_lines.specs.LineText.{text_of};
+ghost use Rattle.dual_bound.specs.OfTables.{ArePricesOf, IsCauseOf, IsMixedOf, IsOfTables};
+ghost use Rattle.proof_lines.specs.LineText.{IsNamed};
+ghost use Rattle.proof_lines.specs.declared.line.Line.{Line};
 ghost use Rattle.bound_cert.specs.ProofText.{at_line, cause_lines, charge_line, first_line, mixed_lines, node_lines, open_line, price_lines, proof_text, rent_lines, rent_lines_at, root_of, text_of_lines, tree_lines, weight_line, written_version};
 
 use dual_bound::{Cause, Charge, Mixed, PriceStep, Prices, Tree, Weight};
@@ -188,41 +189,45 @@ fn push_mixed(
     ensures { OnOk result (text.new.items ≡ text.old.items ++ text_of_lines tables.now (mixed_lines mixed.now)) }
 {
     push_line(alloc, text, tables, &Line::Mixed { scale: mixed.scale })?;
-    push_weights(alloc, text, tables, mixed.weights.as_slice())
+    push_entries(alloc, text, tables, mixed.weights.as_slice())
 }
 
-/// Appends the lines of weights.
-fn push_weights(
+/// An entry of prices or of a fractional assignment, which is written as a line of its own.
+trait Written {
+    // The line of an entry.
+    ghost written: { Self → Line };
+
+    /// The line of this entry.
+    fn line(&self) -> Line
+        ensures { result ≡ written self.now };
+}
+
+/// Appends the lines of entries.
+fn push_entries<T: Written>(
     alloc: Global,
     text: &mut Vec<u8>,
     tables: &Tables,
-    weights: &[Weight],
+    entries: &[T],
 ) -> Result<(), NoMemory>
-    requires { All (IsWeightOf tables.now) weights.now }
-    ensures { OnOk result (text.new.items ≡ text.old.items ++ text_of_lines tables.now (map weight_line weights.now)) }
+    requires { All (λ entry. IsNamed tables.now (T.written entry)) entries.now }
+    ensures { OnOk result (text.new.items ≡ text.old.items ++ text_of_lines tables.now (map T.written entries.now)) }
 {
-    for weight in weights {
-        push_weight(alloc, text, tables, weight)?;
+    for entry in entries {
+        push_line(alloc, text, tables, &entry.line())?;
     }
     Ok(())
 }
 
-/// Appends the line of a weight.
-fn push_weight(
-    alloc: Global,
-    text: &mut Vec<u8>,
-    tables: &Tables,
-    weight: &Weight,
-) -> Result<(), NoMemory>
-    requires { IsWeightOf tables.now weight.now }
-    ensures { OnOk result (text.new.items ≡ text.old.items ++ text_of tables.now (weight_line weight.now)) }
-{
-    let line = Line::Weight {
-        leg: weight.leg,
-        choice: weight.choice,
-        weight: weight.weight,
-    };
-    push_line(alloc, text, tables, &line)
+impl Written for Weight {
+    ghost written = { weight_line };
+
+    fn line(&self) -> Line {
+        Line::Weight {
+            leg: self.leg,
+            choice: self.choice,
+            weight: self.weight,
+        }
+    }
 }
 
 /// Appends the lines of prices.
@@ -244,8 +249,8 @@ fn push_prices(
         },
     )?;
     push_rents(alloc, text, tables, prices)?;
-    push_charges(alloc, text, tables, prices.charges.as_slice())?;
-    push_steps(alloc, text, tables, prices.steps.as_slice())
+    push_entries(alloc, text, tables, prices.charges.as_slice())?;
+    push_entries(alloc, text, tables, prices.steps.as_slice())
 }
 
 /// Appends the lines of the rents that aren't 0.
@@ -281,71 +286,27 @@ fn push_rent(
     push_line(alloc, text, tables, &Line::Rent { fleet, rent })
 }
 
-/// Appends the lines of charges.
-fn push_charges(
-    alloc: Global,
-    text: &mut Vec<u8>,
-    tables: &Tables,
-    charges: &[Charge],
-) -> Result<(), NoMemory>
-    requires { All (IsChargeOf tables.now) charges.now }
-    ensures { OnOk result (text.new.items ≡ text.old.items ++ text_of_lines tables.now (map charge_line charges.now)) }
-{
-    for charge in charges {
-        push_charge(alloc, text, tables, charge)?;
+impl Written for Charge {
+    ghost written = { charge_line };
+
+    fn line(&self) -> Line {
+        Line::Charge {
+            station: self.station,
+            day: self.day,
+            charge: self.charge,
+        }
     }
-    Ok(())
 }
 
-/// Appends the line of a charge.
-fn push_charge(
-    alloc: Global,
-    text: &mut Vec<u8>,
-    tables: &Tables,
-    charge: &Charge,
-) -> Result<(), NoMemory>
-    requires { IsChargeOf tables.now charge.now }
-    ensures { OnOk result (text.new.items ≡ text.old.items ++ text_of tables.now (charge_line charge.now)) }
-{
-    let line = Line::Charge {
-        station: charge.station,
-        day: charge.day,
-        charge: charge.charge,
-    };
-    push_line(alloc, text, tables, &line)
-}
+impl Written for PriceStep {
+    ghost written = { at_line };
 
-/// Appends the lines of steps.
-fn push_steps(
-    alloc: Global,
-    text: &mut Vec<u8>,
-    tables: &Tables,
-    steps: &[PriceStep],
-) -> Result<(), NoMemory>
-    requires { All (IsStepOf tables.now) steps.now }
-    ensures { OnOk result (text.new.items ≡ text.old.items ++ text_of_lines tables.now (map at_line steps.now)) }
-{
-    for step in steps {
-        push_step(alloc, text, tables, step)?;
+    fn line(&self) -> Line {
+        Line::At {
+            fleet: self.fleet,
+            station: self.station,
+            minute: self.minute,
+            value: self.value,
+        }
     }
-    Ok(())
-}
-
-/// Appends the line of a step.
-fn push_step(
-    alloc: Global,
-    text: &mut Vec<u8>,
-    tables: &Tables,
-    step: &PriceStep,
-) -> Result<(), NoMemory>
-    requires { IsStepOf tables.now step.now }
-    ensures { OnOk result (text.new.items ≡ text.old.items ++ text_of tables.now (at_line step.now)) }
-{
-    let line = Line::At {
-        fleet: step.fleet,
-        station: step.station,
-        minute: step.minute,
-        value: step.value,
-    };
-    push_line(alloc, text, tables, &line)
 }
