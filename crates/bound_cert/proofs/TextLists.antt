@@ -5,9 +5,10 @@ use Rattle.bound_cert.proofs.TextLines.{LineIs}
 use Rattle.bound_cert.proofs.TextPrices.{charge_was, mixed_scale_was, rent_was, scale_was, step_was, weight_was}
 use Rattle.bound_cert.proofs.WrittenLines.{names, other_words, texts, texts_append}
 use Rattle.bound_cert.proofs.WrittenPrices.{fleet_count, lines_from, lines_with, lines_without, needed_by, of_step}
-use Rattle.bound_cert.specs.Lines.{Left, fits}
+use Rattle.bound_cert.specs.Lines.{Left, Reading, fits}
 use Rattle.bound_cert.specs.ProofText.{ArePricesIn, at_line, charge_line, mixed_lines, price_lines, rent_lines, weight_line}
-use Rattle.bound_cert.specs.Reading.{charge_at, charges_from, entries_from, first_words, mixed_said, mixed_scale_at, padded, prices_said, rent_at, rents_from, scale_at, step_said, steps_from, weight_at, weights_from}
+use Rattle.bound_cert.specs.Reading.{charge_in_line, charges_from, entries_from, first_words, listed, mixed_said, mixed_scale_at, padded, prices_said, rent_at, rents_from, said_at, scale_at, step_in_line, steps_from, weight_of, weights_from}
+use Rattle.bound_cert.specs.declared.reading_lines.Due.{Due}
 use Rattle.dual_bound.proofs.StepOrder.{same_place_by, zero_figure}
 use Rattle.dual_bound.specs.Prices.{rent_of}
 use Rattle.dual_bound.specs.WrittenOrder.{ArePricesInOrder, ChargesFollow, IsChargeInOrder, IsFigure, IsMixedInOrder, IsStepInOrder, IsWeightInOrder, NoLoneZero, StepsFollow, WeightsFollow, goes_on}
@@ -18,6 +19,7 @@ use Rattle.dual_bound.specs.declared.prices.PriceStep.{PriceStep}
 use Rattle.dual_bound.specs.declared.prices.Prices.{Prices}
 use Rattle.fleet_model.specs.Schedule.{fleets_in}
 use Rattle.fleet_model.specs.declared.tables.Tables.{Tables}
+use Rattle.proof_lines.specs.declared.line.Line.{Line}
 use Rattle.proof_lines.specs.declared.line.Version.{Version}
 use Rattle.proof_lines.proofs.LineWords.{of_words}
 use Rattle.proof_lines.proofs.Naming.{fleet_written, station_written}
@@ -37,16 +39,47 @@ use Rattle.bound_cert.specs.declared.reading_lines.Due.TheVariants as due
 use Rattle.proof_lines.specs.declared.line.Line.TheVariants as says
 
 module _ (v : Version) (t : Tables) where
-  -- steps
+  -- entries of a kind: how a line says one behind the entry before, the line of one, and what a list of them keeps
+  module _ {A : Type 0} (kind : Due) (say : Option A → Line → Left → Reading A) (line_of : A → Line) (Keeps : Option A → List A → Type 0) (no_entry : (before : Option A) → Keeps before [])
+      (one_more : (before : Option A) (line : List ℕ) (rest behind : Left) (entry : A) (new : List A) → said_at (names v t) kind (say before) (line ∷ rest) ≡ Ok entry → rest ≡ texts t (map line_of new) ++ behind
+          → (new ≡ [] → begins v rest kind ≡ false) → Keeps (Some entry) new → (line ∷ rest ≡ line_bytes t (line_of entry) ∷ rest) × Keeps before (entry ∷ new)) where
+    -- what is read behind entries that are known
+    record MoreWere (done : List A) (before : Option A) (left : Left) (read : List A × Left) : Type 0 where
+      new : List A
+      list : read.0 ≡ done ++ new
+      text : left ≡ texts t (map line_of new) ++ read.1
+      ends : new ≡ [] → begins v left kind ≡ false
+      keeps : Keeps before new
 
-  pub record StepsWere (done : List PriceStep) (before : Option PriceStep) (left : Left) (read : List PriceStep × Left) : Type 0 where
-    pub new : List PriceStep
-    pub list : read.0 ≡ done ++ new
-    pub text : left ≡ texts t (map at_line new) ++ read.1
-    pub each : All (IsStepInOrder t) new
-    pub follow : StepsFollow before new
-    pub no_lone_zero : NoLoneZero new
-    pub ends : new ≡ [] → begins v left due.Step ≡ false
+    no_more : (done : List A) (before : Option A) (left : Left) (read : List A × Left) → begins v left kind ≡ false → ◌≡◌ {A = Reading (List A × Left)} (Ok (done, left)) (Ok read) → MoreWere done before left read
+    no_more done before left read off e =
+        subst (λ r. MoreWere done before left r) (ok_same (done, left) read e) (record { new = []; list = sym (append-nil done); text = refl; ends = λ none. off; keeps = no_entry before })
+
+    more_were : (left : Left) (done : List A) (before : Option A) (read : List A × Left) → entries_from (listed (names v t) kind say) (done, before) left ≡ Ok read → MoreWere done before left read
+    unfolding entries_from
+    more_were [] done before read e = no_more done before [] read refl e
+    more_were (line ∷ rest) done before read e =
+        either_way (fits kind (form_in v (words_of line))) _ _ read e
+        (λ at e.
+        let entry = goes (said_at (names v t) kind (say before) (line ∷ rest)) _ read e in
+        let more = more_were rest (done ++ entry.value ∷ []) (Some entry.value) read entry.on in
+        let with_it = one_more before line rest read.1 entry.value more.new entry.is more.text more.ends more.keeps in
+        record {
+          new = entry.value ∷ more.new;
+          list = more.list ∙ append_assoc done (entry.value ∷ []) more.new;
+          text = with_it.0 ∙ ap (λ rest. line_bytes t (line_of entry.value) ∷ rest) more.text;
+          ends = λ none. absurd (cc none);
+          keeps = with_it.1;
+        })
+        (λ off e. no_more done before (line ∷ rest) read off e)
+
+    -- all that are read
+    entries_were : (left : Left) (read : List A × Left) → entries_from (listed (names v t) kind say) ([], None) left ≡ Ok read → (left ≡ texts t (map line_of read.0) ++ read.1) × Keeps None read.0
+    entries_were left read e =
+        let are = more_were left [] None read e in
+        subst (λ entries. (left ≡ texts t (map line_of entries) ++ read.1) × Keeps None entries) (sym are.list) (are.text, are.keeps)
+
+  -- steps
 
   three_tests : (a b c : Bool) → (a && b && c) ≡ true → (b ≡ true) × (c ≡ true)
   three_tests true true true e = (refl, refl)
@@ -71,97 +104,46 @@ module _ (v : Version) (t : Tables) where
       let station : (next.station == step.station) ≡ true = ap (λ r. is_number r step.station) (sym (station_written v t next.station of.station)) ∙ tests.1 in
       same_place_by step next (grind (arith, nat_tests, fleet)) (grind (arith, nat_tests, station))
 
-  pub steps_were : (left : Left) (done : List PriceStep) (before : Option PriceStep) (read : List PriceStep × Left) → steps_from (names v t) done before left ≡ Ok read → StepsWere done before left read
-  unfolding entries_from
-  steps_were [] done before read e =
-      subst (λ r. StepsWere done before [] r) (ok_same (done, []) read e)
-      (record { new = []; list = sym (append-nil done); text = refl; each = All-nil (IsStepInOrder t); follow = tt; no_lone_zero = tt; ends = λ none. refl })
-  steps_were (line ∷ rest) done before read e =
-      either_way (fits due.Step (form_in v (words_of line))) _ _ read e
-      (λ at e.
-      let step = goes (step_said (names v t) before (line ∷ rest)) _ read e in
-      let was = step_was v t before (line ∷ rest) step.value step.is in
-      let more = steps_were rest (done ++ step.value ∷ []) (Some step.value) read step.on in
-      record {
-        new = step.value ∷ more.new;
-        list = more.list ∙ append_assoc done (step.value ∷ []) more.new;
-        text = was.line_is.is ∙ ap (λ rest. line_bytes t (at_line step.value) ∷ rest) more.text;
-        each = All-cons (IsStepInOrder t) step.value more.new was.order more.each;
-        follow = (was.follows, more.follow);
-        no_lone_zero = (
-          needed_by v t (step.value.minute == 0) (int_eq step.value.value (pos 0)) (is_step_of (names v t) step.value.fleet step.value.station (first_words rest)) (goes_on step.value more.new) was.needed
-              (goes_on_by step.value more.new rest read.1 was.order more.each more.text more.ends),
-          more.no_lone_zero,
-        );
-        ends = λ none. absurd (cc none);
-      })
-      (λ at e.
-      subst (λ r. StepsWere done before (line ∷ rest) r) (ok_same (done, line ∷ rest) read e)
-      (record { new = []; list = sym (append-nil done); text = refl; each = All-nil (IsStepInOrder t); follow = tt; no_lone_zero = tt; ends = λ none. at }))
+  record StepsKeep (before : Option PriceStep) (steps : List PriceStep) : Type 0 where
+    each : All (IsStepInOrder t) steps
+    follow : StepsFollow before steps
+    no_lone_zero : NoLoneZero steps
+
+  steps_were : (left : Left) (read : List PriceStep × Left) → steps_from (names v t) [] None left ≡ Ok read → (left ≡ texts t (map at_line read.0) ++ read.1) × StepsKeep None read.0
+  steps_were = entries_were due.Step (step_in_line (names v t)) at_line StepsKeep (λ before. record { each = All-nil (IsStepInOrder t); follow = tt; no_lone_zero = tt })
+      (λ before line rest behind step new is text ends keep.
+      let was = step_was v t before (line ∷ rest) step is in
+      let needed = needed_by v t (step.minute == 0) (int_eq step.value (pos 0)) (is_step_of (names v t) step.fleet step.station (first_words rest)) (goes_on step new) was.needed
+      (goes_on_by step new rest behind was.order keep.each text ends) in
+      (was.line_is.is, record { each = All-cons (IsStepInOrder t) step new was.order keep.each; follow = (was.follows, keep.follow); no_lone_zero = (needed, keep.no_lone_zero) }))
 
   -- charges, of which there are none in a version without lines for them
 
-  pub record ChargesWere (done : List Charge) (before : Option Charge) (left : Left) (read : List Charge × Left) : Type 0 where
-    pub new : List Charge
-    pub list : read.0 ≡ done ++ new
-    pub text : left ≡ texts t (map charge_line new) ++ read.1
-    pub each : All (IsChargeInOrder t) new
-    pub follow : ChargesFollow before new
-    pub tells : has_charges v ≡ false → new ≡ []
+  record ChargesKeep (before : Option Charge) (charges : List Charge) : Type 0 where
+    each : All (IsChargeInOrder t) charges
+    follow : ChargesFollow before charges
+    tells : has_charges v ≡ false → charges ≡ []
 
-  pub charges_were : (left : Left) (done : List Charge) (before : Option Charge) (read : List Charge × Left) → charges_from (names v t) done before left ≡ Ok read → ChargesWere done before left read
-  unfolding entries_from
-  charges_were [] done before read e =
-      subst (λ r. ChargesWere done before [] r) (ok_same (done, []) read e)
-      (record { new = []; list = sym (append-nil done); text = refl; each = All-nil (IsChargeInOrder t); follow = tt; tells = λ off. refl })
-  charges_were (line ∷ rest) done before read e =
-      either_way (fits due.Charge (form_in v (words_of line))) _ _ read e
-      (λ at e.
-      let entry = goes (charge_at (names v t) before (line ∷ rest)) _ read e in
-      let was = charge_was v t before (line ∷ rest) entry.value entry.is in
-      let more = charges_were rest (done ++ entry.value ∷ []) (Some entry.value) read entry.on in
-      record {
-        new = entry.value ∷ more.new;
-        list = more.list ∙ append_assoc done (entry.value ∷ []) more.new;
-        text = was.line_is.is ∙ ap (λ rest. line_bytes t (charge_line entry.value) ∷ rest) more.text;
-        each = All-cons (IsChargeInOrder t) entry.value more.new was.order more.each;
-        follow = (was.follows, more.follow);
-        tells = λ off. absurd (false≢true (sym off ∙ was.line_is.of_version));
-      })
-      (λ at e.
-      subst (λ r. ChargesWere done before (line ∷ rest) r) (ok_same (done, line ∷ rest) read e)
-      (record { new = []; list = sym (append-nil done); text = refl; each = All-nil (IsChargeInOrder t); follow = tt; tells = λ off. refl }))
+  charges_were : (left : Left) (read : List Charge × Left) → charges_from (names v t) [] None left ≡ Ok read → (left ≡ texts t (map charge_line read.0) ++ read.1) × ChargesKeep None read.0
+  charges_were = entries_were due.Charge charge_in_line charge_line ChargesKeep (λ before. record { each = All-nil (IsChargeInOrder t); follow = tt; tells = λ off. refl })
+      (λ before line rest behind entry new is text ends keep.
+      let was = charge_was v t before (line ∷ rest) entry is in
+      let of = was.line_is.of_tables in
+      let order : IsChargeInOrder t entry = record { station = of.named; some = of.figures.0; day = of.figures.1; charge = of.figures.2 } in
+      (was.line_is.is, record { each = All-cons (IsChargeInOrder t) entry new order keep.each; follow = (was.holds, keep.follow); tells = λ off. absurd (false≢true (sym off ∙ was.line_is.of_version)) }))
 
   -- weights
 
-  pub record WeightsWere (done : List Weight) (before : Option Weight) (left : Left) (read : List Weight × Left) : Type 0 where
-    pub new : List Weight
-    pub list : read.0 ≡ done ++ new
-    pub text : left ≡ texts t (map weight_line new) ++ read.1
-    pub each : All (IsWeightInOrder t) new
-    pub follow : WeightsFollow before new
+  record WeightsKeep (before : Option Weight) (weights : List Weight) : Type 0 where
+    each : All (IsWeightInOrder t) weights
+    follow : WeightsFollow before weights
 
-  pub weights_were : (left : Left) (done : List Weight) (before : Option Weight) (read : List Weight × Left) → weights_from (names v t) done before left ≡ Ok read → WeightsWere done before left read
-  unfolding entries_from
-  weights_were [] done before read e =
-      subst (λ r. WeightsWere done before [] r) (ok_same (done, []) read e)
-      (record { new = []; list = sym (append-nil done); text = refl; each = All-nil (IsWeightInOrder t); follow = tt })
-  weights_were (line ∷ rest) done before read e =
-      either_way (fits due.Weight (form_in v (words_of line))) _ _ read e
-      (λ at e.
-      let entry = goes (weight_at (names v t) before (line ∷ rest)) _ read e in
-      let was = weight_was v t before (line ∷ rest) entry.value entry.is in
-      let more = weights_were rest (done ++ entry.value ∷ []) (Some entry.value) read entry.on in
-      record {
-        new = entry.value ∷ more.new;
-        list = more.list ∙ append_assoc done (entry.value ∷ []) more.new;
-        text = was.line_is.is ∙ ap (λ rest. line_bytes t (weight_line entry.value) ∷ rest) more.text;
-        each = All-cons (IsWeightInOrder t) entry.value more.new was.order more.each;
-        follow = (was.follows, more.follow);
-      })
-      (λ at e.
-      subst (λ r. WeightsWere done before (line ∷ rest) r) (ok_same (done, line ∷ rest) read e)
-      (record { new = []; list = sym (append-nil done); text = refl; each = All-nil (IsWeightInOrder t); follow = tt }))
+  weights_were : (left : Left) (read : List Weight × Left) → weights_from (names v t) [] None left ≡ Ok read → (left ≡ texts t (map weight_line read.0) ++ read.1) × WeightsKeep None read.0
+  weights_were = entries_were due.Weight weight_of weight_line WeightsKeep (λ before. record { each = All-nil (IsWeightInOrder t); follow = tt })
+      (λ before line rest behind entry new is text ends keep.
+      let was = weight_was v t before (line ∷ rest) entry is in
+      let order : IsWeightInOrder t entry = record { pair = was.line_is.of_tables.named; weight = was.line_is.of_tables.figures } in
+      (was.line_is.is, record { each = All-cons (IsWeightInOrder t) entry new order keep.each; follow = (was.holds, keep.follow) }))
 
   -- rents
 
@@ -317,32 +299,22 @@ module _ (v : Version) (t : Tables) where
       let rents = goes (rents_from (names v t) [] (drop 1 left)) _ read scale.on in
       let charges = goes (charges_from (names v t) [] None rents.value.1) _ read rents.on in
       let steps = goes (steps_from (names v t) [] None charges.value.1) _ read charges.on in
-      let scale_is = scale_was v t left scale.value scale.is in
+      let scale_is = (scale_was v t left scale.value scale.is).line_is in
       let rents_are = rents_were (drop 1 left) [] rents.value rents.is (All-nil IsFigure) (omega arith) in
-      let charges_are = charges_were rents.value.1 [] None charges.value charges.is in
-      let steps_are = steps_were charges.value.1 [] None steps.value steps.is in
+      let charges_are = charges_were rents.value.1 charges.value charges.is in
+      let steps_are = steps_were charges.value.1 steps.value steps.is in
       let prices : Prices = record { scale = scale.value; rents = rents.value.0; steps = steps.value.0; charges = charges.value.0 } in
-      let charges_same : charges_are.new ≡ charges.value.0 = sym charges_are.list in
-      let same : steps_are.new ≡ steps.value.0 = sym steps_are.list in
       subst (λ r. PricesWere left r) (ok_same (prices, steps.value.1) read steps.on)
       (record {
         order = record {
           scale = scale_is.of_tables.figures;
           one_each = rents_are.one_each;
           rents = rents_are.figures;
-          charges = record {
-            each = subst (λ charges. All (IsChargeInOrder t) charges) charges_same charges_are.each;
-            follow = subst (λ charges. ChargesFollow None charges) charges_same charges_are.follow;
-          };
-          steps = record {
-            each = subst (λ steps. All (IsStepInOrder t) steps) same steps_are.each;
-            follow = subst (λ steps. StepsFollow None steps) same steps_are.follow;
-            no_lone_zero = subst (λ steps. NoLoneZero steps) same steps_are.no_lone_zero;
-          };
+          charges = record { each = charges_are.1.each; follow = charges_are.1.follow };
+          steps = record { each = steps_are.1.each; follow = steps_are.1.follow; no_lone_zero = steps_are.1.no_lone_zero };
         };
-        tells = λ off. sym charges_same ∙ charges_are.tells off;
-        text = prices_text prices left rents.value.1 charges.value.1 steps.value.1 scale_is (rents_are.text prices refl)
-            (charges_are.text ∙ ap (λ list. texts t (map charge_line list) ++ charges.value.1) charges_same) (steps_are.text ∙ ap (λ list. texts t (map at_line list) ++ steps.value.1) same);
+        tells = charges_are.1.tells;
+        text = prices_text prices left rents.value.1 charges.value.1 steps.value.1 scale_is (rents_are.text prices refl) charges_are.0 steps_are.0;
       })
 
   pub record MixedWas (left : Left) (read : Mixed × Left) : Type 0 where
@@ -354,18 +326,11 @@ module _ (v : Version) (t : Tables) where
   mixed_was left read e =
       let scale = goes (mixed_scale_at (names v t) left) _ read e in
       let weights = goes (weights_from (names v t) [] None (drop 1 left)) _ read scale.on in
-      let scale_is = mixed_scale_was v t left scale.value scale.is in
-      let weights_are = weights_were (drop 1 left) [] None weights.value weights.is in
+      let scale_is = (mixed_scale_was v t left scale.value scale.is).line_is in
+      let weights_are = weights_were (drop 1 left) weights.value weights.is in
       let mixed : Mixed = record { scale = scale.value; weights = weights.value.0 } in
-      let same : weights_are.new ≡ weights.value.0 = sym weights_are.list in
       subst (λ r. MixedWas left r) (ok_same (mixed, weights.value.1) read weights.on)
       (record {
-        order = record {
-          scale = scale_is.of_tables.figures;
-          each = subst (λ entries. All (IsWeightInOrder t) entries) same weights_are.each;
-          follow = subst (λ entries. WeightsFollow None entries) same weights_are.follow;
-        };
-        text =
-            scale_is.is
-            ∙ ap (λ rest. line_bytes t (says.Mixed scale.value) ∷ rest) (weights_are.text ∙ ap (λ entries. texts t (map weight_line entries) ++ weights.value.1) same);
+        order = record { scale = scale_is.of_tables.figures; each = weights_are.1.each; follow = weights_are.1.follow };
+        text = scale_is.is ∙ ap (λ rest. line_bytes t (says.Mixed scale.value) ∷ rest) weights_are.0;
       })
