@@ -160,7 +160,7 @@ module _ (v : Version) (t : Tables) (line : List ℕ) (after : Left) where
                   onward (line_bytes t (at_line next) ∷ z) (omega arith)
                   (needed_by v t (step.minute == 0) (int_eq step.value (pos 0)) (goes_on step (next ∷ [])) (is_step_of (names v t) step.fleet step.station (first_words (line_bytes t (at_line next) ∷ z))) (rw (place, minute, value) refl)
                   (next_begins v t step (next ∷ []) z of))
-                  ∙ steps_read v t (next ∷ []) (steps ++ step ∷ []) (Some step) z each of (rw follows refl, tt) (refl, tt) ends.some (ends.no_step v);
+                  ∙ steps_read v t (next ∷ []) (steps ++ step ∷ []) (Some step) z (record { each = each; follow = (rw follows refl, tt); no_lone_zero = (refl, tt) }) ends.some (ends.no_step v);
               need = λ z ends. tt;
             }
 

@@ -4,14 +4,14 @@ use Rattle.bound_cert.proofs.ReadOn.{begins}
 use Rattle.bound_cert.proofs.TextLines.{LineIs}
 use Rattle.bound_cert.proofs.TextPrices.{charge_was, mixed_scale_was, rent_was, scale_was, step_was, weight_was}
 use Rattle.bound_cert.proofs.WrittenLines.{names, other_words, texts, texts_append}
-use Rattle.bound_cert.proofs.WrittenPrices.{fleet_count, lines_from, lines_with, lines_without, needed_by, of_step}
+use Rattle.bound_cert.proofs.WrittenPrices.{ChargesKeep, StepsKeep, WeightsKeep, fleet_count, lines_from, lines_with, lines_without, needed_by, of_step}
 use Rattle.bound_cert.specs.Lines.{Left, Reading, fits}
 use Rattle.bound_cert.specs.ProofText.{ArePricesIn, at_line, charge_line, mixed_lines, price_lines, rent_lines, weight_line}
 use Rattle.bound_cert.specs.Reading.{charge_in_line, charges_from, entries_from, first_words, listed, mixed_said, mixed_scale_at, padded, prices_said, rent_at, rents_from, said_at, scale_at, step_in_line, steps_from, weight_of, weights_from}
 use Rattle.bound_cert.specs.declared.reading_lines.Due.{Due}
 use Rattle.dual_bound.proofs.StepOrder.{same_place_by, zero_figure}
 use Rattle.dual_bound.specs.Prices.{rent_of}
-use Rattle.dual_bound.specs.WrittenOrder.{ArePricesInOrder, ChargesFollow, IsChargeInOrder, IsFigure, IsMixedInOrder, IsStepInOrder, IsWeightInOrder, NoLoneZero, StepsFollow, WeightsFollow, goes_on}
+use Rattle.dual_bound.specs.WrittenOrder.{ArePricesInOrder, IsChargeInOrder, IsFigure, IsMixedInOrder, IsStepInOrder, IsWeightInOrder, goes_on}
 use Rattle.dual_bound.specs.declared.mixed.Mixed.{Mixed}
 use Rattle.dual_bound.specs.declared.mixed.Weight.{Weight}
 use Rattle.dual_bound.specs.declared.prices.Charge.{Charge}
@@ -24,7 +24,7 @@ use Rattle.proof_lines.specs.declared.line.Version.{Version}
 use Rattle.proof_lines.proofs.LineWords.{of_words}
 use Rattle.proof_lines.proofs.Naming.{fleet_written, station_written}
 use Rattle.proof_lines.proofs.Spaces.{words_back}
-use Rattle.proof_lines.specs.Forms.{form_in, has_charges}
+use Rattle.proof_lines.specs.Forms.{form_in}
 use Rattle.proof_lines.specs.LineText.{line_bytes, line_words}
 use Rattle.proof_lines.specs.Reading.{is_number, is_step_of}
 use Rattle.proof_lines.specs.Words.{stands, words_of}
@@ -42,7 +42,7 @@ module _ (v : Version) (t : Tables) where
   -- entries of a kind: how a line says one behind the entry before, the line of one, and what a list of them keeps
   module _ {A : Type 0} (kind : Due) (say : Option A → Line → Left → Reading A) (line_of : A → Line) (Keeps : Option A → List A → Type 0) (no_entry : (before : Option A) → Keeps before [])
       (one_more : (before : Option A) (line : List ℕ) (rest behind : Left) (entry : A) (new : List A) → said_at (names v t) kind (say before) (line ∷ rest) ≡ Ok entry → rest ≡ texts t (map line_of new) ++ behind
-          → (new ≡ [] → begins v rest kind ≡ false) → Keeps (Some entry) new → (line ∷ rest ≡ line_bytes t (line_of entry) ∷ rest) × Keeps before (entry ∷ new)) where
+      → (new ≡ [] → begins v rest kind ≡ false) → Keeps (Some entry) new → (line ∷ rest ≡ line_bytes t (line_of entry) ∷ rest) × Keeps before (entry ∷ new)) where
     -- what is read behind entries that are known
     record MoreWere (done : List A) (before : Option A) (left : Left) (read : List A × Left) : Type 0 where
       new : List A
@@ -104,13 +104,8 @@ module _ (v : Version) (t : Tables) where
       let station : (next.station == step.station) ≡ true = ap (λ r. is_number r step.station) (sym (station_written v t next.station of.station)) ∙ tests.1 in
       same_place_by step next (grind (arith, nat_tests, fleet)) (grind (arith, nat_tests, station))
 
-  record StepsKeep (before : Option PriceStep) (steps : List PriceStep) : Type 0 where
-    each : All (IsStepInOrder t) steps
-    follow : StepsFollow before steps
-    no_lone_zero : NoLoneZero steps
-
-  steps_were : (left : Left) (read : List PriceStep × Left) → steps_from (names v t) [] None left ≡ Ok read → (left ≡ texts t (map at_line read.0) ++ read.1) × StepsKeep None read.0
-  steps_were = entries_were due.Step (step_in_line (names v t)) at_line StepsKeep (λ before. record { each = All-nil (IsStepInOrder t); follow = tt; no_lone_zero = tt })
+  steps_were : (left : Left) (read : List PriceStep × Left) → steps_from (names v t) [] None left ≡ Ok read → (left ≡ texts t (map at_line read.0) ++ read.1) × StepsKeep v t None read.0
+  steps_were = entries_were due.Step (step_in_line (names v t)) at_line (StepsKeep v t) (λ before. record { each = All-nil (IsStepInOrder t); follow = tt; no_lone_zero = tt })
       (λ before line rest behind step new is text ends keep.
       let was = step_was v t before (line ∷ rest) step is in
       let needed = needed_by v t (step.minute == 0) (int_eq step.value (pos 0)) (is_step_of (names v t) step.fleet step.station (first_words rest)) (goes_on step new) was.needed
@@ -119,13 +114,8 @@ module _ (v : Version) (t : Tables) where
 
   -- charges, of which there are none in a version without lines for them
 
-  record ChargesKeep (before : Option Charge) (charges : List Charge) : Type 0 where
-    each : All (IsChargeInOrder t) charges
-    follow : ChargesFollow before charges
-    tells : has_charges v ≡ false → charges ≡ []
-
-  charges_were : (left : Left) (read : List Charge × Left) → charges_from (names v t) [] None left ≡ Ok read → (left ≡ texts t (map charge_line read.0) ++ read.1) × ChargesKeep None read.0
-  charges_were = entries_were due.Charge charge_in_line charge_line ChargesKeep (λ before. record { each = All-nil (IsChargeInOrder t); follow = tt; tells = λ off. refl })
+  charges_were : (left : Left) (read : List Charge × Left) → charges_from (names v t) [] None left ≡ Ok read → (left ≡ texts t (map charge_line read.0) ++ read.1) × ChargesKeep v t None read.0
+  charges_were = entries_were due.Charge charge_in_line charge_line (ChargesKeep v t) (λ before. record { each = All-nil (IsChargeInOrder t); follow = tt; tells = λ off. refl })
       (λ before line rest behind entry new is text ends keep.
       let was = charge_was v t before (line ∷ rest) entry is in
       let of = was.line_is.of_tables in
@@ -134,12 +124,8 @@ module _ (v : Version) (t : Tables) where
 
   -- weights
 
-  record WeightsKeep (before : Option Weight) (weights : List Weight) : Type 0 where
-    each : All (IsWeightInOrder t) weights
-    follow : WeightsFollow before weights
-
-  weights_were : (left : Left) (read : List Weight × Left) → weights_from (names v t) [] None left ≡ Ok read → (left ≡ texts t (map weight_line read.0) ++ read.1) × WeightsKeep None read.0
-  weights_were = entries_were due.Weight weight_of weight_line WeightsKeep (λ before. record { each = All-nil (IsWeightInOrder t); follow = tt })
+  weights_were : (left : Left) (read : List Weight × Left) → weights_from (names v t) [] None left ≡ Ok read → (left ≡ texts t (map weight_line read.0) ++ read.1) × WeightsKeep v t None read.0
+  weights_were = entries_were due.Weight weight_of weight_line (WeightsKeep v t) (λ before. record { each = All-nil (IsWeightInOrder t); follow = tt })
       (λ before line rest behind entry new is text ends keep.
       let was = weight_was v t before (line ∷ rest) entry is in
       let order : IsWeightInOrder t entry = record { pair = was.line_is.of_tables.named; weight = was.line_is.of_tables.figures } in

@@ -2,9 +2,9 @@
 use Rattle.bound_cert.proofs.ReadOn.{begins, bound, entries_end, entries_more, padded_more}
 use Rattle.proof_lines.proofs.Choosing.{chosen, refused}
 use Rattle.bound_cert.proofs.WrittenLines.{begins_as, begins_else, line_read, names, texts, texts_append}
-use Rattle.bound_cert.specs.Lines.{Left, line_due, may_stand}
+use Rattle.bound_cert.specs.Lines.{◌>>=◌, Left, Reading, line_due, may_stand}
 use Rattle.bound_cert.specs.ProofText.{ArePricesIn, at_line, charge_line, mixed_lines, price_lines, rent_lines, rent_lines_at, weight_line}
-use Rattle.bound_cert.specs.Reading.{charge_at, charge_series, charges_from, first_words, in_order, is_needless, mixed_said, mixed_scale_at, padded, prices_said, rent_at, rent_follows, rent_series, rents_from, said_at, scale_at, step_said, step_series, steps_from, weight_at, weight_series, weights_from}
+use Rattle.bound_cert.specs.Reading.{charge_in_line, charges_from, entries_from, first_words, in_order, is_needless, listed, mixed_said, mixed_scale_at, mixed_scale_of, padded, prices_said, rent_at, rent_follows, rent_in_line, rent_series, rents_from, said_at, scale_at, scale_of, step_in_line, step_said, steps_from, weight_of, weights_from}
 use Rattle.bound_cert.specs.declared.reading_lines.Due.{Due}
 use Rattle.dual_bound.specs.OfTables.{IsStepOf}
 use Rattle.dual_bound.specs.Order.{charge_follows, same_place, step_follows, weight_follows}
@@ -22,13 +22,13 @@ use Rattle.proof_lines.proofs.LineWords.{of_words}
 use Rattle.proof_lines.proofs.Naming.{fleet_written, station_written}
 use Rattle.proof_lines.proofs.Spaces.{words_back}
 use Rattle.proof_lines.specs.Flaws.{least}
-use Rattle.proof_lines.specs.Forms.{has_charges}
-use Rattle.proof_lines.specs.Laws.{IsLineOf}
+use Rattle.proof_lines.specs.Forms.{form_of, has_charges}
+use Rattle.proof_lines.specs.Laws.{IsLineOf, IsOfVersion}
 use Rattle.proof_lines.specs.LineText.{IsNamed, line_bytes, line_words}
 use Rattle.proof_lines.specs.Reading.{is_step_of}
 use Rattle.proof_lines.specs.Words.{words_of}
 use Rattle.proof_lines.specs.declared.line.Line.{Line}
-use Rattle.std.proofs.Common.{[], ◌&&◌, ◌++◌, ◌+◌, ◌-◌, ◌<◌, ◌==◌, ◌∙◌, ◌∷◌, ◌≡◌, ◌≤◌, Bool, List, None, Ok, Option, Some, ap, append-nil, append_assoc, arith, false, length, map, nat_le, not, pos, refl, replicate, suc, sym, take, true, zero, ℕ, ℤ}
+use Rattle.std.proofs.Common.{[], ◌&&◌, ◌++◌, ◌+◌, ◌-◌, ◌<◌, ◌==◌, ◌∙◌, ◌∷◌, ◌≡◌, ◌≤◌, Bool, List, None, Ok, Option, Some, ap, append-nil, append_assoc, arith, drop, false, length, map, nat_le, not, pos, refl, replicate, suc, sym, take, true, zero, ℕ, ℤ}
 use Rattle.std.proofs.lemmas.Bool.Decides.{Decides-int_eq, nat_tests}
 use Rattle.std.proofs.lemmas.List.Elements.{All-head, All-tail, All-weaker}
 use Rattle.std.proofs.lemmas.List.{length-map, length-take-le, take_all, take_more}
@@ -68,31 +68,31 @@ pub steps_of : (t : Tables) (steps : List PriceStep) → All (IsStepInOrder t) s
 steps_of t steps are = All-weaker (IsStepInOrder t) (IsStepOf t) (of_step t) steps are
 
 module _ (v : Version) (t : Tables) where
+  -- a line that is due is read as what it says, where that is in its order
+  said_read : {A : Type 0} (kind : Due) (say : Line → Left → Reading A) (line : Line) (entry : A) (rest : Left) → IsOfVersion v line → IsLineOf t line → may_stand kind (form_of line) ≡ true → 0 < length rest
+      → say line (line_bytes t line ∷ rest) ≡ Ok entry → said_at (names v t) kind say (line_bytes t line ∷ rest) ≡ Ok entry
+  unfolding said_at
+  said_read kind say line entry rest of is may some says_it = bound (line_due (names v t) kind (line_bytes t line ∷ rest)) line _ (line_read v t kind line rest of is may some) ∙ says_it
+
+  ordered_read : {A : Type 0} (test : Bool) (entry : A) (left : Left) → test ≡ true → (in_order test left >>= λ order. Ok entry) ≡ Ok entry
+  ordered_read test entry left is = ap (λ b. in_order b left >>= λ order. Ok entry) is
+
   -- scales
 
   pub scale_read : (z : ℤ) (rest : Left) → IsFigure z → 0 < length rest → scale_at (names v t) (line_bytes t (says.Scale z) ∷ rest) ≡ Ok z
-  unfolding said_at
-  scale_read z rest is some =
-      bound (line_due (names v t) due.Scale (line_bytes t (says.Scale z) ∷ rest)) (says.Scale z) _ (line_read v t due.Scale (says.Scale z) rest refl (record { named = tt; figures = is }) refl some)
+  scale_read z rest is some = said_read due.Scale scale_of (says.Scale z) z rest refl (record { named = tt; figures = is }) refl some refl
 
   pub mixed_scale_read : (z : ℤ) (rest : Left) → IsFigure z → 0 < length rest → mixed_scale_at (names v t) (line_bytes t (says.Mixed z) ∷ rest) ≡ Ok z
-  unfolding said_at
-  mixed_scale_read z rest is some =
-      bound (line_due (names v t) due.Mixed (line_bytes t (says.Mixed z) ∷ rest)) (says.Mixed z) _ (line_read v t due.Mixed (says.Mixed z) rest refl (record { named = tt; figures = is }) refl some)
+  mixed_scale_read z rest is some = said_read due.Mixed mixed_scale_of (says.Mixed z) z rest refl (record { named = tt; figures = is }) refl some refl
 
   -- rents
 
   rent_read : (least f : ℕ) (z : ℤ) (rest : Left) → f < fleets_in t → least ≤ f → IsFigure z → int_eq z (pos 0) ≡ false → 0 < length rest
       → rent_at (names v t) least (line_bytes t (says.Rent f z) ∷ rest) ≡ Ok (f, z)
-  unfolding said_at
   rent_read least f z rest fleet later is not_0 some =
-      let left : Left = line_bytes t (says.Rent f z) ∷ rest in
-      let follows : rent_follows least f z ≡ true = rw not_0 (rw (in_range later) refl) in
-      bound (line_due (names v t) due.Rent left) (says.Rent f z) _ (line_read v t due.Rent (says.Rent f z) rest refl (record { named = fleet; figures = is }) refl some)
-      ∙ bound (in_order (rent_follows least f z) left) tt _ (ap (λ b. in_order b left) follows)
-    where
-      in_range : least ≤ f → nat_le least f ≡ true
-      in_range le = grind (arith, nat_tests, le)
+      let least_is : nat_le least f ≡ true = grind (arith, nat_tests, later) in
+      said_read due.Rent (rent_in_line least) (says.Rent f z) (f, z) rest refl (record { named = fleet; figures = is }) refl some
+      (ordered_read (rent_follows least f z) (f, z) (line_bytes t (says.Rent f z) ∷ rest) (rw not_0 (rw least_is refl)))
 
   -- one fleet more, with a rent of 0 and with another
   pad_one : (done : List ℤ) (first : ℕ) → length done ≤ first → padded done (first + 1) ≡ padded done first ++ pos 0 ∷ []
@@ -159,60 +159,53 @@ module _ (v : Version) (t : Tables) where
   unfolding lines_from
   rents_read prices behind figures one_each some ends = rents_so_far prices (fleets_in t) 0 [] behind figures one_each (omega arith) (omega arith) refl some ends
 
-  -- charges
+  -- entries of a kind: how a line says one behind the entry before, the line of one, and what a list of them keeps
+  module _ {A : Type 0} (kind : Due) (say : Option A → Line → Left → Reading A) (line_of : A → Line) (Keeps : Option A → List A → Type 0)
+      (one : (before : Option A) (entry : A) (entries : List A) (behind : Left) → Keeps before (entry ∷ entries) → 0 < length (texts t (map line_of entries) ++ behind)
+      → (begins v (line_bytes t (line_of entry) ∷ texts t (map line_of entries) ++ behind) kind ≡ true) × (said_at (names v t) kind (say before) (line_bytes t (line_of entry) ∷ texts t (map line_of entries) ++ behind) ≡ Ok entry) × Keeps (Some entry) entries) where
+    entries_read : (entries done : List A) (before : Option A) (behind : Left) → Keeps before entries → 0 < length behind → begins v behind kind ≡ false
+        → entries_from (listed (names v t) kind say) (done, before) (texts t (map line_of entries) ++ behind) ≡ Ok (done ++ entries, behind)
+    entries_read [] done before behind keep some ends = entries_end (listed (names v t) kind say) (done, before) behind ends ∙ ap (λ entries. Ok (entries, behind)) (sym (append-nil done))
+    entries_read (entry ∷ entries) done before behind keep some ends =
+        let first = one before entry entries behind keep (some_behind t (map line_of entries) behind some) in
+        entries_more (listed (names v t) kind say) (done, before) (line_bytes t (line_of entry) ∷ texts t (map line_of entries) ++ behind) entry first.0 first.1
+        ∙ entries_read entries (done ++ entry ∷ []) (Some entry) behind first.2 some ends
+        ∙ ap (λ entries. Ok (entries, behind)) (append_assoc done (entry ∷ []) entries)
 
-  charge_named : (entry : Charge) → IsChargeInOrder t entry → IsLineOf t (charge_line entry)
-  charge_named entry is = record { named = is.station; figures = (is.some, is.day, is.charge) }
+  -- lines of another kind than is due, and behind them what is another too
+  entries_begin : {A : Type 0} (line_of : A → Line) (kind : Due) (entries : List A) (behind : Left) → All (λ entry. IsNamed t (line_of entry)) entries → ((entry : A) → may_stand kind (form_of (line_of entry)) ≡ false)
+      → begins v behind kind ≡ false → begins v (texts t (map line_of entries) ++ behind) kind ≡ false
+  entries_begin line_of kind [] behind named other ends = ends
+  entries_begin line_of kind (entry ∷ entries) behind named other ends =
+      begins_else v t (line_of entry) (texts t (map line_of entries) ++ behind) kind (All-head (λ entry. IsNamed t (line_of entry)) entry entries named) (other entry)
 
-  charge_read : (before : Option Charge) (entry : Charge) (rest : Left) → has_charges v ≡ true → IsChargeInOrder t entry → charge_follows before entry ≡ true → 0 < length rest
-      → charge_at (names v t) before (line_bytes t (charge_line entry) ∷ rest) ≡ Ok entry
-  unfolding said_at
-  charge_read before entry rest may is follows some =
-      let left : Left = line_bytes t (charge_line entry) ∷ rest in
-      bound (line_due (names v t) due.Charge left) (charge_line entry) _ (line_read v t due.Charge (charge_line entry) rest may (charge_named entry is) refl some)
-      ∙ bound (in_order (charge_follows before entry) left) tt _ (ap (λ b. in_order b left) follows)
+  -- charges, of which there are none in a version that has no lines for them
 
-  -- in a version that has lines for them
-  charges_read : (charges done : List Charge) (before : Option Charge) (behind : Left) → has_charges v ≡ true → All (IsChargeInOrder t) charges → ChargesFollow before charges → 0 < length behind
+  pub record ChargesKeep (before : Option Charge) (charges : List Charge) : Type 0 where
+    pub each : All (IsChargeInOrder t) charges
+    pub follow : ChargesFollow before charges
+    pub tells : has_charges v ≡ false → charges ≡ []
+
+  charges_read : (charges done : List Charge) (before : Option Charge) (behind : Left) → ChargesKeep before charges → 0 < length behind
       → begins v behind due.Charge ≡ false → charges_from (names v t) done before (texts t (map charge_line charges) ++ behind) ≡ Ok (done ++ charges, behind)
-  charges_read [] done before behind may are follow some ends =
-      entries_end (charge_series (names v t)) (done, before) behind ends ∙ ap (λ charges. Ok (charges, behind)) (sym (append-nil done))
-  charges_read (entry ∷ charges) done before behind may are follow some ends =
-      let rest : Left = texts t (map charge_line charges) ++ behind in
-      let is = All-head (IsChargeInOrder t) entry charges are in
-      entries_more (charge_series (names v t)) (done, before) (line_bytes t (charge_line entry) ∷ rest) entry (begins_as v t (charge_line entry) rest due.Charge may (charge_named entry is).named refl)
-      (charge_read before entry rest may is (true_is (charge_follows before entry) follow.0) (some_behind t (map charge_line charges) behind some))
-      ∙ charges_read charges (done ++ entry ∷ []) (Some entry) behind may (All-tail (IsChargeInOrder t) entry charges are) follow.1 some ends
-      ∙ ap (λ charges. Ok (charges, behind)) (append_assoc done (entry ∷ []) charges)
-
-  -- .. and in any, where there are none in one that hasn't
-  all_charges_read : (charges : List Charge) (behind : Left) → (has_charges v ≡ false → charges ≡ []) → All (IsChargeInOrder t) charges → ChargesFollow None charges → 0 < length behind
-      → begins v behind due.Charge ≡ false → charges_from (names v t) [] None (texts t (map charge_line charges) ++ behind) ≡ Ok (charges, behind)
-  all_charges_read charges behind none are follow some ends = by_test (has_charges v)
-      (λ may. charges_read charges [] None behind may are follow some ends)
-      (λ off.
-      let empty = none off in
-      ap (λ charges. charges_from (names v t) [] None (texts t (map charge_line charges) ++ behind)) empty ∙ entries_end (charge_series (names v t)) ([], None) behind ends ∙ ap (λ charges. Ok (charges, behind)) (sym empty))
-
-  charges_begin : (charges : List Charge) (behind : Left) (kind : Due) → All (IsChargeInOrder t) charges → may_stand kind form.Charge ≡ false → begins v behind kind ≡ false
-      → begins v (texts t (map charge_line charges) ++ behind) kind ≡ false
-  charges_begin [] behind kind are other ends = ends
-  charges_begin (entry ∷ charges) behind kind are other ends =
-      begins_else v t (charge_line entry) (texts t (map charge_line charges) ++ behind) kind (All-head (IsChargeInOrder t) entry charges are).station other
+  charges_read = entries_read due.Charge charge_in_line charge_line ChargesKeep
+      (λ before entry charges behind keep some.
+      let left : Left = line_bytes t (charge_line entry) ∷ texts t (map charge_line charges) ++ behind in
+      let is = All-head (IsChargeInOrder t) entry charges keep.each in
+      let may : has_charges v ≡ true = by_test (has_charges v) (λ may. may) (λ off. absurd (cc (keep.tells off))) in (
+        begins_as v t (charge_line entry) (drop 1 left) due.Charge may is.station refl,
+        said_read due.Charge (charge_in_line before) (charge_line entry) entry (drop 1 left) may (record { named = is.station; figures = (is.some, is.day, is.charge) }) refl some
+            (ordered_read (charge_follows before entry) entry left (true_is (charge_follows before entry) keep.follow.0)),
+        record { each = All-tail (IsChargeInOrder t) entry charges keep.each; follow = keep.follow.1; tells = λ off. absurd (cc (keep.tells off)) },
+      ))
 
   -- steps
 
-  pub step_line : (step : PriceStep) → IsStepInOrder t step → IsLineOf t (at_line step)
-  step_line step is = record { named = (is.fleet, is.station); figures = (is.minute, is.value) }
-
   pub step_read : (before : Option PriceStep) (step : PriceStep) (rest : Left) → IsStepInOrder t step → step_follows before step ≡ true → is_needless (names v t) step rest ≡ false → 0 < length rest
       → step_said (names v t) before (line_bytes t (at_line step) ∷ rest) ≡ Ok step
-  unfolding said_at
   step_read before step rest is follows needed some =
-      let left : Left = line_bytes t (at_line step) ∷ rest in
-      let fit : (step_follows before step && not (is_needless (names v t) step rest)) ≡ true = rw (follows, needed) refl in
-      bound (line_due (names v t) due.Step left) (at_line step) _ (line_read v t due.Step (at_line step) rest refl (step_line step is) refl some)
-      ∙ bound (in_order (step_follows before step && not (is_needless (names v t) step rest)) left) tt _ (ap (λ b. in_order b left) fit)
+      said_read due.Step (step_in_line (names v t) before) (at_line step) step rest refl (record { named = (is.fleet, is.station); figures = (is.minute, is.value) }) refl some
+      (ordered_read (step_follows before step && not (is_needless (names v t) step rest)) step (line_bytes t (at_line step) ∷ rest) (rw (follows, needed) refl))
 
   -- a step that isn't the one step of its place has another behind it, in the text too
   pub needed_by : (a b c d : Bool) → (a && b && not c) ≡ false → (c ≡ true → d ≡ true) → (a && b && not d) ≡ false
@@ -235,27 +228,23 @@ module _ (v : Version) (t : Tables) where
   next_begins step [] behind are e = absurd (cc e)
   next_begins step (next ∷ steps) behind are e = next_is step next e (All-head (IsStepOf t) next steps are)
 
-  pub steps_read : (steps done : List PriceStep) (before : Option PriceStep) (behind : Left) → All (IsStepInOrder t) steps → All (IsStepOf t) steps → StepsFollow before steps → NoLoneZero steps
-      → 0 < length behind → begins v behind due.Step ≡ false → steps_from (names v t) done before (texts t (map at_line steps) ++ behind) ≡ Ok (done ++ steps, behind)
-  steps_read [] done before behind are of follow no_lone some ends =
-      entries_end (step_series (names v t)) (done, before) behind ends ∙ ap (λ steps. Ok (steps, behind)) (sym (append-nil done))
-  steps_read (step ∷ steps) done before behind are of follow no_lone some ends =
+  pub record StepsKeep (before : Option PriceStep) (steps : List PriceStep) : Type 0 where
+    pub each : All (IsStepInOrder t) steps
+    pub follow : StepsFollow before steps
+    pub no_lone_zero : NoLoneZero steps
+
+  pub steps_read : (steps done : List PriceStep) (before : Option PriceStep) (behind : Left) → StepsKeep before steps → 0 < length behind
+      → begins v behind due.Step ≡ false → steps_from (names v t) done before (texts t (map at_line steps) ++ behind) ≡ Ok (done ++ steps, behind)
+  steps_read = entries_read due.Step (step_in_line (names v t)) at_line StepsKeep
+      (λ before step steps behind keep some.
       let rest : Left = texts t (map at_line steps) ++ behind in
-      let needed = needed_by (step.minute == 0) (int_eq step.value (pos 0)) (goes_on step steps) (is_step_of (names v t) step.fleet step.station (first_words rest)) no_lone.0
-      (next_begins step steps behind (All-tail (IsStepOf t) step steps of)) in
-      entries_more (step_series (names v t)) (done, before) (line_bytes t (at_line step) ∷ rest) step (begins_as v t (at_line step) rest due.Step refl (step_line step (All-head (IsStepInOrder t) step steps are)).named refl)
-      (step_read before step rest (All-head (IsStepInOrder t) step steps are) (true_is (step_follows before step) follow.0) needed (some_behind t (map at_line steps) behind some))
-      ∙ steps_read steps (done ++ step ∷ []) (Some step) behind (All-tail (IsStepInOrder t) step steps are) (All-tail (IsStepOf t) step steps of) follow.1 no_lone.1 some ends
-      ∙ ap (λ steps. Ok (steps, behind)) (append_assoc done (step ∷ []) steps)
-
-  step_named : (step : PriceStep) → IsStepOf t step → IsNamed t (at_line step)
-  step_named step is = (is.fleet, is.station)
-
-  steps_begin : (steps : List PriceStep) (behind : Left) (kind : Due) → All (IsStepOf t) steps → may_stand kind form.At ≡ false → begins v behind kind ≡ false
-      → begins v (texts t (map at_line steps) ++ behind) kind ≡ false
-  steps_begin [] behind kind of other ends = ends
-  steps_begin (step ∷ steps) behind kind of other ends =
-      begins_else v t (at_line step) (texts t (map at_line steps) ++ behind) kind (step_named step (All-head (IsStepOf t) step steps of)) other
+      let is = All-head (IsStepInOrder t) step steps keep.each in
+      let others = All-tail (IsStepInOrder t) step steps keep.each in
+      let needed = needed_by (step.minute == 0) (int_eq step.value (pos 0)) (goes_on step steps) (is_step_of (names v t) step.fleet step.station (first_words rest)) keep.no_lone_zero.0 (next_begins step steps behind (steps_of t steps others)) in (
+        begins_as v t (at_line step) rest due.Step refl (is.fleet, is.station) refl,
+        step_read before step rest is (true_is (step_follows before step) keep.follow.0) needed some,
+        record { each = others; follow = keep.follow.1; no_lone_zero = keep.no_lone_zero.1 },
+      ))
 
   -- prices
   pub prices_read : (prices : Prices) (behind : Left) → ArePricesInOrder t prices → ArePricesIn v prices → IsBehind behind → prices_said (names v t) (texts t (price_lines t prices) ++ behind) ≡ Ok (prices, behind)
@@ -266,43 +255,39 @@ module _ (v : Version) (t : Tables) where
       let steps = map at_line prices.steps in
       let last : Left = texts t steps ++ behind in
       let tail : Left = texts t charges ++ last in
-      let of = steps_of t prices.steps are.steps.each in
       let parts : texts t (rents ++ (charges ++ steps)) ++ behind ≡ texts t rents ++ tail = texts_append t rents (charges ++ steps) behind ∙ ap (λ lines. texts t rents ++ lines) (texts_append t charges steps behind) in
       let some_last : 0 < length last = some_behind t steps behind ends.some in
       let some : 0 < length tail = some_behind t charges last some_last in
       ap (λ rest. prices_said (names v t) (line_bytes t (says.Scale prices.scale) ∷ rest)) parts
       ∙ bound (scale_at (names v t) (line_bytes t (says.Scale prices.scale) ∷ texts t rents ++ tail)) prices.scale _ (scale_read prices.scale (texts t rents ++ tail) are.scale (some_behind t rents tail some))
       ∙ bound (rents_from (names v t) [] (texts t rents ++ tail)) (prices.rents, tail) _
-      (rents_read prices tail are.rents are.one_each some (charges_begin prices.charges last due.Rent are.charges.each refl (steps_begin prices.steps behind due.Rent of refl (ends.no_rent v))))
+      (rents_read prices tail are.rents are.one_each some
+      (entries_begin charge_line due.Rent prices.charges last (All-weaker (IsChargeInOrder t) (λ entry. IsNamed t (charge_line entry)) (λ entry is. is.station) prices.charges are.charges.each) (λ entry. refl) (steps_begin due.Rent refl (ends.no_rent v))))
       ∙ bound (charges_from (names v t) [] None tail) (prices.charges, last) _
-      (all_charges_read prices.charges last tells are.charges.each are.charges.follow some_last (steps_begin prices.steps behind due.Charge of refl (ends.no_charge v)))
+      (charges_read prices.charges [] None last (record { each = are.charges.each; follow = are.charges.follow; tells = tells }) some_last (steps_begin due.Charge refl (ends.no_charge v)))
       ∙ bound (steps_from (names v t) [] None last) (prices.steps, behind) _
-      (steps_read prices.steps [] None behind are.steps.each of are.steps.follow are.steps.no_lone_zero ends.some (ends.no_step v))
+      (steps_read prices.steps [] None behind (record { each = are.steps.each; follow = are.steps.follow; no_lone_zero = are.steps.no_lone_zero }) ends.some (ends.no_step v))
+    where
+      steps_begin : (kind : Due) → may_stand kind form.At ≡ false → begins v behind kind ≡ false → begins v (texts t (map at_line prices.steps) ++ behind) kind ≡ false
+      steps_begin kind other =
+          entries_begin at_line kind prices.steps behind (All-weaker (IsStepInOrder t) (λ step. IsNamed t (at_line step)) (λ step is. (is.fleet, is.station)) prices.steps are.steps.each) (λ step. other)
 
   -- weights
 
-  weight_named : (entry : Weight) → IsWeightInOrder t entry → IsLineOf t (weight_line entry)
-  weight_named entry is = record { named = is.pair; figures = is.weight }
+  pub record WeightsKeep (before : Option Weight) (weights : List Weight) : Type 0 where
+    pub each : All (IsWeightInOrder t) weights
+    pub follow : WeightsFollow before weights
 
-  weight_read : (before : Option Weight) (entry : Weight) (rest : Left) → IsWeightInOrder t entry → weight_follows before entry ≡ true → 0 < length rest
-      → weight_at (names v t) before (line_bytes t (weight_line entry) ∷ rest) ≡ Ok entry
-  unfolding said_at
-  weight_read before entry rest is follows some =
-      let left : Left = line_bytes t (weight_line entry) ∷ rest in
-      bound (line_due (names v t) due.Weight left) (weight_line entry) _ (line_read v t due.Weight (weight_line entry) rest refl (weight_named entry is) refl some)
-      ∙ bound (in_order (weight_follows before entry) left) tt _ (ap (λ b. in_order b left) follows)
-
-  weights_read : (weights done : List Weight) (before : Option Weight) (behind : Left) → All (IsWeightInOrder t) weights → WeightsFollow before weights → 0 < length behind
+  weights_read : (weights done : List Weight) (before : Option Weight) (behind : Left) → WeightsKeep before weights → 0 < length behind
       → begins v behind due.Weight ≡ false → weights_from (names v t) done before (texts t (map weight_line weights) ++ behind) ≡ Ok (done ++ weights, behind)
-  weights_read [] done before behind are follow some ends =
-      entries_end (weight_series (names v t)) (done, before) behind ends ∙ ap (λ weights. Ok (weights, behind)) (sym (append-nil done))
-  weights_read (entry ∷ weights) done before behind are follow some ends =
-      let rest : Left = texts t (map weight_line weights) ++ behind in
-      let is = All-head (IsWeightInOrder t) entry weights are in
-      entries_more (weight_series (names v t)) (done, before) (line_bytes t (weight_line entry) ∷ rest) entry (begins_as v t (weight_line entry) rest due.Weight refl (weight_named entry is).named refl)
-      (weight_read before entry rest is (true_is (weight_follows before entry) follow.0) (some_behind t (map weight_line weights) behind some))
-      ∙ weights_read weights (done ++ entry ∷ []) (Some entry) behind (All-tail (IsWeightInOrder t) entry weights are) follow.1 some ends
-      ∙ ap (λ weights. Ok (weights, behind)) (append_assoc done (entry ∷ []) weights)
+  weights_read = entries_read due.Weight weight_of weight_line WeightsKeep
+      (λ before entry weights behind keep some.
+      let left : Left = line_bytes t (weight_line entry) ∷ texts t (map weight_line weights) ++ behind in
+      let is = All-head (IsWeightInOrder t) entry weights keep.each in (
+        begins_as v t (weight_line entry) (drop 1 left) due.Weight refl is.pair refl,
+        said_read due.Weight (weight_of before) (weight_line entry) entry (drop 1 left) refl (record { named = is.pair; figures = is.weight }) refl some (ordered_read (weight_follows before entry) entry left (true_is (weight_follows before entry) keep.follow.0)),
+        record { each = All-tail (IsWeightInOrder t) entry weights keep.each; follow = keep.follow.1 },
+      ))
 
   -- fractional assignments
   pub mixed_read : (mixed : Mixed) (behind : Left) → IsMixedInOrder t mixed → IsBehind behind → mixed_said (names v t) (texts t (mixed_lines mixed) ++ behind) ≡ Ok (mixed, behind)
@@ -311,4 +296,4 @@ module _ (v : Version) (t : Tables) where
       let rest : Left = texts t (map weight_line mixed.weights) ++ behind in
       bound (mixed_scale_at (names v t) (line_bytes t (says.Mixed mixed.scale) ∷ rest)) mixed.scale _
       (mixed_scale_read mixed.scale rest is.scale (some_behind t (map weight_line mixed.weights) behind ends.some))
-      ∙ bound (weights_from (names v t) [] None rest) (mixed.weights, behind) _ (weights_read mixed.weights [] None behind is.each is.follow ends.some (ends.no_weight v))
+      ∙ bound (weights_from (names v t) [] None rest) (mixed.weights, behind) _ (weights_read mixed.weights [] None behind (record { each = is.each; follow = is.follow }) ends.some (ends.no_weight v))
