@@ -64,36 +64,13 @@ takes_each_plainly command shape names entered has name among =
 
 -- ---- the commands
 
-judge_has : HasAll flag_named (built_command judge_app) table_flags
-unfolding our_app clap_on_literals
-judge_has = record { untrailed = refl; once = refl; named = refl; found = (refl, (refl, tt)) }
-
-solve_has : HasAll flag_named (built_command solve_app) solve_flags
-unfolding our_app clap_on_literals
-solve_has = record { untrailed = refl; once = refl; named = refl; found = (refl, (refl, (refl, (refl, tt)))) }
-
-check_has : HasAll flag_named (built_command check_app) table_flags
-unfolding our_app clap_on_literals
-check_has = record { untrailed = refl; once = refl; named = refl; found = (refl, (refl, tt)) }
-
-tails_has : HasAll flag_named (built_command tails_app) table_flags
-unfolding our_app clap_on_literals
-tails_has = record { untrailed = refl; once = refl; named = refl; found = (refl, (refl, tt)) }
-
-due_has : HasAll flag_named (built_command due_app) table_flags
-unfolding our_app clap_on_literals
-due_has = record { untrailed = refl; once = refl; named = refl; found = (refl, (refl, tt)) }
-
-whatif_has : HasAll flag_named (built_command whatif_app) table_flags
-unfolding our_app clap_on_literals
-whatif_has = record { untrailed = refl; once = refl; named = refl; found = (refl, (refl, tt)) }
-
 pub flags_plainly : TakeFlagsPlainly
+unfolding our_app clap_on_literals
 flags_plainly = record {
-  judge = takes_each_plainly (codes "judge") (built_command judge_app) table_flags judge_entered judge_has;
-  solve = takes_each_plainly (codes "solve") (built_command solve_app) solve_flags solve_entered solve_has;
-  check = takes_each_plainly (codes "check") (built_command check_app) table_flags check_entered check_has;
-  tails = takes_each_plainly (codes "tails") (built_command tails_app) table_flags tails_entered tails_has;
-  due = takes_each_plainly (codes "due") (built_command due_app) table_flags due_entered due_has;
-  whatif = takes_each_plainly (codes "whatif") (built_command whatif_app) table_flags whatif_entered whatif_has;
+  judge = takes_each_plainly (codes "judge") (built_command judge_app) table_flags judge_entered (record { untrailed = refl; once = refl; named = refl; found = (refl, (refl, tt)) });
+  solve = takes_each_plainly (codes "solve") (built_command solve_app) solve_flags solve_entered (record { untrailed = refl; once = refl; named = refl; found = (refl, (refl, (refl, (refl, tt)))) });
+  check = takes_each_plainly (codes "check") (built_command check_app) table_flags check_entered (record { untrailed = refl; once = refl; named = refl; found = (refl, (refl, tt)) });
+  tails = takes_each_plainly (codes "tails") (built_command tails_app) table_flags tails_entered (record { untrailed = refl; once = refl; named = refl; found = (refl, (refl, tt)) });
+  due = takes_each_plainly (codes "due") (built_command due_app) table_flags due_entered (record { untrailed = refl; once = refl; named = refl; found = (refl, (refl, tt)) });
+  whatif = takes_each_plainly (codes "whatif") (built_command whatif_app) table_flags whatif_entered (record { untrailed = refl; once = refl; named = refl; found = (refl, (refl, tt)) });
 }

@@ -8,10 +8,7 @@ pub mod Numbers
 pub mod OtherWords
 pub mod OwnOptions
 pub mod Parts
-pub mod PlainDue
 pub mod PlainFolder
-pub mod PlainMake
-pub mod PlainTails
-pub mod PlainWhatIf
+pub mod PlainThree
 pub mod PlainWords
 pub mod Twice

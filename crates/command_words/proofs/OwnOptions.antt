@@ -149,41 +149,14 @@ takes_only command names shape entered has program (first ∷ rest) ending befor
 
 -- ---- the commands
 
-judge_has : HasOptions (table_options ++ table_flags) (built_command judge_app)
-unfolding our_app clap_on_literals
-judge_has = record { own = filled_from 1 judge_app.top.rules; rules = refl; all = refl; untrailed = refl }
-
-solve_has : HasOptions (solve_options ++ solve_flags) (built_command solve_app)
-unfolding our_app clap_on_literals
-solve_has = record { own = filled_from 1 solve_app.top.rules; rules = refl; all = refl; untrailed = refl }
-
-check_has : HasOptions (table_options ++ table_flags) (built_command check_app)
-unfolding our_app clap_on_literals
-check_has = record { own = filled_from 1 check_app.top.rules; rules = refl; all = refl; untrailed = refl }
-
-tails_has : HasOptions (tails_options ++ table_flags) (built_command tails_app)
-unfolding our_app clap_on_literals
-tails_has = record { own = filled_from 1 tails_app.top.rules; rules = refl; all = refl; untrailed = refl }
-
-due_has : HasOptions (tails_options ++ table_flags) (built_command due_app)
-unfolding our_app clap_on_literals
-due_has = record { own = filled_from 1 due_app.top.rules; rules = refl; all = refl; untrailed = refl }
-
-make_has : HasOptions [] (built_command make_app)
-unfolding our_app clap_on_literals
-make_has = record { own = filled_from 1 make_app.top.rules; rules = refl; all = refl; untrailed = refl }
-
-whatif_has : HasOptions (table_options ++ table_flags) (built_command whatif_app)
-unfolding our_app clap_on_literals
-whatif_has = record { own = filled_from 1 whatif_app.top.rules; rules = refl; all = refl; untrailed = refl }
-
 pub own_options : TakeOwnOptions
+unfolding our_app clap_on_literals
 own_options = record {
-  judge = takes_only (codes "judge") (table_options ++ table_flags) (built_command judge_app) judge_entered judge_has;
-  solve = takes_only (codes "solve") (solve_options ++ solve_flags) (built_command solve_app) solve_entered solve_has;
-  check = takes_only (codes "check") (table_options ++ table_flags) (built_command check_app) check_entered check_has;
-  tails = takes_only (codes "tails") (tails_options ++ table_flags) (built_command tails_app) tails_entered tails_has;
-  due = takes_only (codes "due") (tails_options ++ table_flags) (built_command due_app) due_entered due_has;
-  make = takes_only (codes "make") [] (built_command make_app) make_entered make_has;
-  whatif = takes_only (codes "whatif") (table_options ++ table_flags) (built_command whatif_app) whatif_entered whatif_has;
+  judge = takes_only (codes "judge") (table_options ++ table_flags) (built_command judge_app) judge_entered (record { own = filled_from 1 judge_app.top.rules; rules = refl; all = refl; untrailed = refl });
+  solve = takes_only (codes "solve") (solve_options ++ solve_flags) (built_command solve_app) solve_entered (record { own = filled_from 1 solve_app.top.rules; rules = refl; all = refl; untrailed = refl });
+  check = takes_only (codes "check") (table_options ++ table_flags) (built_command check_app) check_entered (record { own = filled_from 1 check_app.top.rules; rules = refl; all = refl; untrailed = refl });
+  tails = takes_only (codes "tails") (tails_options ++ table_flags) (built_command tails_app) tails_entered (record { own = filled_from 1 tails_app.top.rules; rules = refl; all = refl; untrailed = refl });
+  due = takes_only (codes "due") (tails_options ++ table_flags) (built_command due_app) due_entered (record { own = filled_from 1 due_app.top.rules; rules = refl; all = refl; untrailed = refl });
+  make = takes_only (codes "make") [] (built_command make_app) make_entered (record { own = filled_from 1 make_app.top.rules; rules = refl; all = refl; untrailed = refl });
+  whatif = takes_only (codes "whatif") (table_options ++ table_flags) (built_command whatif_app) whatif_entered (record { own = filled_from 1 whatif_app.top.rules; rules = refl; all = refl; untrailed = refl });
 }

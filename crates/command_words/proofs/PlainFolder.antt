@@ -87,81 +87,36 @@ answer fault named = option_and_then command_in (without_fault (or_else fault []
 abbrev pub built_command : App → Shape
 built_command app = built_leaf (inherited (on_top with_leaf_noted (on_top marked_built our_app)).top app.top)
 
--- ---- judge
+-- the command takes one word, and asks for this by it
+record AsksByOne (command : Text) (app : App) (wanted : Text → Option Asked) : Type 0 where
+  stays : step_at (built_command app) (nothing_held, value) ≡ []
+  ends : (word : Text) → after_walk (built_command app) [] (at_end (built_command app) word) ≡ []
+  parts : (program word : Text) → asked (program ∷ command ∷ word ∷ [])
+      ≡ answer (level_fault (built_command app) [] nothing_held (word ∷ []) false []) (rows_by (built_command app) (walked (built_command app).rules [] at_start word))
+  answers : (word : Text) → answer [] (rows_by (built_command app) (at_end (built_command app) word)) ≡ wanted word
 
-judge_stays : step_at (built_command judge_app) (nothing_held, value) ≡ []
-unfolding our_app clap_on_literals
-judge_stays = refl
+asks_plainly_by : (command : Text) (app : App) (wanted : Text → Option Asked) → AsksByOne command app wanted → (program word : Text) → is_plain_name word ≡ true → asked (program ∷ command ∷ word ∷ []) ≡ wanted word
+asks_plainly_by command app wanted asks program word folder =
+    let plain = is_plain word folder in
+    asks.parts program word ∙ ap₂ answer (level (built_command app) word asks.stays (asks.ends word) plain) (ap (rows_by (built_command app)) (walks (built_command app) word plain)) ∙ asks.answers word
 
-judge_ends : (word : Text) → after_walk (built_command judge_app) [] (at_end (built_command judge_app) word) ≡ []
-unfolding our_app clap_on_literals
-judge_ends word = refl
-
-judge_parts : (program word : Text) → asked (program ∷ codes "judge" ∷ word ∷ [])
-    ≡ answer (level_fault (built_command judge_app) [] nothing_held (word ∷ []) false []) (rows_by (built_command judge_app) (walked (built_command judge_app).rules [] at_start word))
+judge_asks : AsksByOne (codes "judge") judge_app (judge_at default_reading)
 unfolding asked found our_app clap_on_literals
-judge_parts program word = refl
-
-judge_answer : (word : Text) → answer [] (rows_by (built_command judge_app) (at_end (built_command judge_app) word)) ≡ judge_at default_reading word
-unfolding our_app clap_on_literals
-judge_answer word = refl
+judge_asks = record { stays = refl; ends = λ word. refl; parts = λ program word. refl; answers = λ word. refl }
 
 pub judges_plainly : JudgesPlainly
-judges_plainly program word folder =
-    let plain = is_plain word folder in
-    judge_parts program word
-    ∙ ap₂ answer (level (built_command judge_app) word judge_stays (judge_ends word) plain) (ap (rows_by (built_command judge_app)) (walks (built_command judge_app) word plain))
-    ∙ judge_answer word
+judges_plainly = asks_plainly_by (codes "judge") judge_app (judge_at default_reading) judge_asks
 
--- ---- solve
-
-solve_stays : step_at (built_command solve_app) (nothing_held, value) ≡ []
-unfolding our_app clap_on_literals
-solve_stays = refl
-
-solve_ends : (word : Text) → after_walk (built_command solve_app) [] (at_end (built_command solve_app) word) ≡ []
-unfolding our_app clap_on_literals
-solve_ends word = refl
-
-solve_parts : (program word : Text) → asked (program ∷ codes "solve" ∷ word ∷ [])
-    ≡ answer (level_fault (built_command solve_app) [] nothing_held (word ∷ []) false []) (rows_by (built_command solve_app) (walked (built_command solve_app).rules [] at_start word))
+solve_asks : AsksByOne (codes "solve") solve_app (solve_at default_reading default_options)
 unfolding asked found our_app clap_on_literals
-solve_parts program word = refl
-
-solve_answer : (word : Text) → answer [] (rows_by (built_command solve_app) (at_end (built_command solve_app) word))
-    ≡ solve_at default_reading default_options word
-unfolding our_app clap_on_literals
-solve_answer word = refl
+solve_asks = record { stays = refl; ends = λ word. refl; parts = λ program word. refl; answers = λ word. refl }
 
 pub solves_plainly : SolvesPlainly
-solves_plainly program word folder =
-    let plain = is_plain word folder in
-    solve_parts program word
-    ∙ ap₂ answer (level (built_command solve_app) word solve_stays (solve_ends word) plain) (ap (rows_by (built_command solve_app)) (walks (built_command solve_app) word plain))
-    ∙ solve_answer word
+solves_plainly = asks_plainly_by (codes "solve") solve_app (solve_at default_reading default_options) solve_asks
 
--- ---- check
-
-check_stays : step_at (built_command check_app) (nothing_held, value) ≡ []
-unfolding our_app clap_on_literals
-check_stays = refl
-
-check_ends : (word : Text) → after_walk (built_command check_app) [] (at_end (built_command check_app) word) ≡ []
-unfolding our_app clap_on_literals
-check_ends word = refl
-
-check_parts : (program word : Text) → asked (program ∷ codes "check" ∷ word ∷ [])
-    ≡ answer (level_fault (built_command check_app) [] nothing_held (word ∷ []) false []) (rows_by (built_command check_app) (walked (built_command check_app).rules [] at_start word))
+check_asks : AsksByOne (codes "check") check_app (check_at default_reading)
 unfolding asked found our_app clap_on_literals
-check_parts program word = refl
-
-check_answer : (word : Text) → answer [] (rows_by (built_command check_app) (at_end (built_command check_app) word)) ≡ check_at default_reading word
-unfolding our_app clap_on_literals
-check_answer word = refl
+check_asks = record { stays = refl; ends = λ word. refl; parts = λ program word. refl; answers = λ word. refl }
 
 pub checks_plainly : ChecksPlainly
-checks_plainly program word folder =
-    let plain = is_plain word folder in
-    check_parts program word
-    ∙ ap₂ answer (level (built_command check_app) word check_stays (check_ends word) plain) (ap (rows_by (built_command check_app)) (walks (built_command check_app) word plain))
-    ∙ check_answer word
+checks_plainly = asks_plainly_by (codes "check") check_app (check_at default_reading) check_asks

@@ -112,36 +112,13 @@ takes_each_once command shape names entered has name among program one two befor
 
 -- ---- the commands
 
-judge_has : HasAll option_named (built_command judge_app) table_options
-unfolding our_app clap_on_literals
-judge_has = record { untrailed = refl; once = refl; named = refl; found = (refl, (refl, tt)) }
-
-solve_has : HasAll option_named (built_command solve_app) solve_options
-unfolding our_app clap_on_literals
-solve_has = record { untrailed = refl; once = refl; named = refl; found = (refl, (refl, (refl, (refl, (refl, (refl, (refl, (refl, (refl, tt))))))))) }
-
-check_has : HasAll option_named (built_command check_app) table_options
-unfolding our_app clap_on_literals
-check_has = record { untrailed = refl; once = refl; named = refl; found = (refl, (refl, tt)) }
-
-tails_has : HasAll option_named (built_command tails_app) tails_options
-unfolding our_app clap_on_literals
-tails_has = record { untrailed = refl; once = refl; named = refl; found = (refl, (refl, (refl, (refl, (refl, (refl, (refl, tt))))))) }
-
-due_has : HasAll option_named (built_command due_app) tails_options
-unfolding our_app clap_on_literals
-due_has = record { untrailed = refl; once = refl; named = refl; found = (refl, (refl, (refl, (refl, (refl, (refl, (refl, tt))))))) }
-
-whatif_has : HasAll option_named (built_command whatif_app) table_options
-unfolding our_app clap_on_literals
-whatif_has = record { untrailed = refl; once = refl; named = refl; found = (refl, (refl, tt)) }
-
 pub options_once : TakeOptionsOnce
+unfolding our_app clap_on_literals
 options_once = record {
-  judge = takes_each_once (codes "judge") (built_command judge_app) table_options judge_entered judge_has;
-  solve = takes_each_once (codes "solve") (built_command solve_app) solve_options solve_entered solve_has;
-  check = takes_each_once (codes "check") (built_command check_app) table_options check_entered check_has;
-  tails = takes_each_once (codes "tails") (built_command tails_app) tails_options tails_entered tails_has;
-  due = takes_each_once (codes "due") (built_command due_app) tails_options due_entered due_has;
-  whatif = takes_each_once (codes "whatif") (built_command whatif_app) table_options whatif_entered whatif_has;
+  judge = takes_each_once (codes "judge") (built_command judge_app) table_options judge_entered (record { untrailed = refl; once = refl; named = refl; found = (refl, (refl, tt)) });
+  solve = takes_each_once (codes "solve") (built_command solve_app) solve_options solve_entered (record { untrailed = refl; once = refl; named = refl; found = (refl, (refl, (refl, (refl, (refl, (refl, (refl, (refl, (refl, tt))))))))) });
+  check = takes_each_once (codes "check") (built_command check_app) table_options check_entered (record { untrailed = refl; once = refl; named = refl; found = (refl, (refl, tt)) });
+  tails = takes_each_once (codes "tails") (built_command tails_app) tails_options tails_entered (record { untrailed = refl; once = refl; named = refl; found = (refl, (refl, (refl, (refl, (refl, (refl, (refl, tt))))))) });
+  due = takes_each_once (codes "due") (built_command due_app) tails_options due_entered (record { untrailed = refl; once = refl; named = refl; found = (refl, (refl, (refl, (refl, (refl, (refl, (refl, tt))))))) });
+  whatif = takes_each_once (codes "whatif") (built_command whatif_app) table_options whatif_entered (record { untrailed = refl; once = refl; named = refl; found = (refl, (refl, tt)) });
 }

@@ -27,9 +27,8 @@ pub(crate) fn reading_of(found: &ArgMatches<'_>) -> Option<TableOptions>
     ensures read { result ≡ reading_in (rows_found found.now) }
     ensures fit { IfSome result (λ reading. AreSettings reading.settings) }
 {
-    let settings = settings_of(found)?;
     Some(TableOptions {
-        settings,
+        settings: settings_of(found)?,
         windows: is_given(found, "windows"),
         optional: is_given(found, "optional"),
     })
@@ -40,15 +39,11 @@ fn settings_of(found: &ArgMatches<'_>) -> Option<Settings>
     ensures read { result ≡ settings_in (rows_found found.now) }
     ensures fit { IfSome result AreSettings }
 {
-    let day_start = day_start_of(found)?;
-    let through_max = through_max_of(found)?;
-    let least_night = least_night_of(found)?;
-    let period = period_of(found)?;
     Some(Settings {
-        day_start,
-        through_max,
-        least_night,
-        period,
+        day_start: day_start_of(found)?,
+        through_max: through_max_of(found)?,
+        least_night: least_night_of(found)?,
+        period: period_of(found)?,
     })
 }
 
@@ -106,15 +101,11 @@ pub(crate) fn options_of(found: &ArgMatches<'_>) -> Option<SolveOptions>
     ensures read { result ≡ options_in (rows_found found.now) }
     ensures fit { IfSome result AreOptions }
 {
-    let way = way_of(found)?;
-    let search = search_of(found)?;
-    let rotations = rotations_of(found)?;
-    let json = is_given(found, "json");
     Some(SolveOptions {
-        way,
-        search,
-        rotations,
-        json,
+        way: way_of(found)?,
+        search: search_of(found)?,
+        rotations: rotations_of(found)?,
+        json: is_given(found, "json"),
     })
 }
 

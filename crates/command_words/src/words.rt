@@ -68,13 +68,10 @@ fn solve_of<'a>(found: &ArgMatches<'a>) -> Option<Command<'a>>
     ensures asked { option_map asked_by result ≡ solve_in (rows_found found.now) }
     ensures fit { IfSome result IsInRange }
 {
-    let dir = value_of(found, "dir")?;
-    let reading = reading_of(found)?;
-    let options = options_of(found)?;
     Some(Command::Solve {
-        dir,
-        reading,
-        options,
+        dir: value_of(found, "dir")?,
+        reading: reading_of(found)?,
+        options: options_of(found)?,
     })
 }
 
@@ -93,15 +90,11 @@ fn tails_of<'a>(found: &ArgMatches<'a>) -> Option<Command<'a>>
     ensures asked { option_map asked_by result ≡ tails_in (rows_found found.now) }
     ensures fit { IfSome result IsInRange }
 {
-    let dir = value_of(found, "dir")?;
-    let reading = reading_of(found)?;
-    let rotations = rotations_of(found)?;
-    let dates = dates_of(found)?;
     Some(Command::Tails {
-        dir,
-        reading,
-        rotations,
-        dates,
+        dir: value_of(found, "dir")?,
+        reading: reading_of(found)?,
+        rotations: rotations_of(found)?,
+        dates: dates_of(found)?,
     })
 }
 
@@ -110,15 +103,11 @@ fn due_of<'a>(found: &ArgMatches<'a>) -> Option<Command<'a>>
     ensures asked { option_map asked_by result ≡ due_in (rows_found found.now) }
     ensures fit { IfSome result IsInRange }
 {
-    let dir = value_of(found, "dir")?;
-    let reading = reading_of(found)?;
-    let rotations = rotations_of(found)?;
-    let dates = dates_of(found)?;
     Some(Command::Due {
-        dir,
-        reading,
-        rotations,
-        dates,
+        dir: value_of(found, "dir")?,
+        reading: reading_of(found)?,
+        rotations: rotations_of(found)?,
+        dates: dates_of(found)?,
     })
 }
 
@@ -138,14 +127,10 @@ fn whatif_of<'a>(found: &ArgMatches<'a>) -> Option<Command<'a>>
     ensures asked { option_map asked_by result ≡ whatif_in (rows_found found.now) }
     ensures fit { IfSome result IsInRange }
 {
-    let dir = value_of(found, "dir")?;
-    let reading = reading_of(found)?;
-    let fleet = value_of(found, "fleet")?;
-    let count = aircraft_of(found)?;
     Some(Command::Whatif {
-        dir,
-        reading,
-        fleet,
-        count,
+        dir: value_of(found, "dir")?,
+        reading: reading_of(found)?,
+        fleet: value_of(found, "fleet")?,
+        count: aircraft_of(found)?,
     })
 }

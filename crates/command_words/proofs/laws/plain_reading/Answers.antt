@@ -1,9 +1,6 @@
 use Rattle.command_words.proofs.AfterDashes.{asks_by_default, asks_from, checks_by_default, checks_from, due_by_default, due_within, judges_by_default, judges_from, makes_by_default, makes_without_options, solves_by_default, solves_by_way, solves_freely, solves_within, solves_without_budget, tails_by_default, tails_within}
-use Rattle.command_words.proofs.PlainDue.{due_plainly}
 use Rattle.command_words.proofs.PlainFolder.{checks_plainly, judges_plainly, solves_plainly}
-use Rattle.command_words.proofs.PlainMake.{makes_plainly}
-use Rattle.command_words.proofs.PlainTails.{tails_plainly}
-use Rattle.command_words.proofs.PlainWhatIf.{asks_plainly}
+use Rattle.command_words.proofs.PlainThree.{asks_plainly, due_plainly, makes_plainly, tails_plainly}
 use Rattle.command_words.proofs.laws.plain_reading.Goals as goal
 
 -- src/laws.rt:14:1
