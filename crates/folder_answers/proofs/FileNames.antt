@@ -1,6 +1,6 @@
 -- Files by number, and what was read of each.
-use Rattle.std.proofs.Common.{◌≡◌, ◌==◌, ℕ, true, List, if◌then◌else◌, refl, sym, ap, ◌∙◌}
-use Rattle.std.proofs.lemmas.Bool.{eqb-true}
+use Rattle.std.proofs.Common.{◌≡◌, ℕ, true, List, [], ◌∷◌, if◌then◌else◌, slice_index_or, refl, sym, ap, ◌∙◌}
+use Rattle.std.proofs.lemmas.Bool.{eq-eqb, eqb-true}
 use Rattle.plan_desk.specs.declared.file.DeskFile.{DeskFile}
 use Rattle.plan_desk.specs.declared.file.DeskFile.TheVariants as file
 use Rattle.folder_answers.specs.Contents.{file_content, file_number, same_file, with_content}
@@ -8,18 +8,7 @@ use Rattle.folder_answers.specs.declared.contents.Contents.{Contents}
 
 -- the file of a number
 file_at : ℕ → DeskFile
-file_at n =
-    if n == 0 then file.Stations
-    else if n == 1 then file.Fleets
-    else if n == 2 then file.Legs
-    else if n == 3 then file.Costs
-    else if n == 4 then file.Throughs
-    else if n == 5 then file.Windows
-    else if n == 6 then file.Optional
-    else if n == 7 then file.Tails
-    else if n == 8 then file.Plan
-    else if n == 9 then file.Proof
-    else file.Rotation
+file_at n = slice_index_or (file.Stations ∷ file.Fleets ∷ file.Legs ∷ file.Costs ∷ file.Throughs ∷ file.Windows ∷ file.Optional ∷ file.Tails ∷ file.Plan ∷ file.Proof ∷ []) n file.Rotation
 
 at_number : (f : DeskFile) → file_at (file_number f) ≡ f
 unfolding file_at
@@ -40,17 +29,7 @@ pub one_file : (f g : DeskFile) → same_file f g ≡ true → f ≡ g
 one_file f g same = sym (at_number f) ∙ ap file_at (eqb-true (file_number f) (file_number g) same) ∙ at_number g
 
 pub self_file : (f : DeskFile) → same_file f f ≡ true
-self_file file.Stations = refl
-self_file file.Fleets = refl
-self_file file.Legs = refl
-self_file file.Costs = refl
-self_file file.Throughs = refl
-self_file file.Windows = refl
-self_file file.Optional = refl
-self_file file.Tails = refl
-self_file file.Plan = refl
-self_file file.Proof = refl
-self_file file.Rotation = refl
+self_file f = eq-eqb (file_number f) (file_number f) refl
 
 -- what is read of a file, after one was put
 pub looked_up : (c : Contents) (f : DeskFile) (bytes : List ℕ) (g : DeskFile) → file_content (with_content c f bytes) g ≡ (if same_file g f then bytes else file_content c g)

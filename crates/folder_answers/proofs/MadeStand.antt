@@ -24,7 +24,7 @@ use Rattle.table_maker.specs.Laws.{AreShort, made_bytes}
 use Rattle.table_maker.specs.Made.{CanBeMade, made_tables}
 use Rattle.table_maker.specs.declared.made.MadeTables.{MadeTables}
 use Rattle.folder_answers.proofs.FrontFacts.{held_in}
-use Rattle.folder_answers.proofs.TextsStand.{stands_last}
+use Rattle.folder_answers.proofs.TextsStand.{last_text, stands_last}
 use Rattle.folder_answers.specs.Contents.{FileBytes, bytes_in, five_alone, five_bytes, table_bytes}
 use Rattle.folder_answers.specs.Gathered.{AllStand, IsHeldWithin, limit_of}
 use Rattle.folder_answers.specs.Making.{made_files}
@@ -46,40 +46,28 @@ pub record TablesStand (stands : Files) (dir : List ℕ) (made : MadeTables) : T
   pub throughs : stands (path_of dir file.Throughs) ≡ Some made.throughs
 
 module _ (held : Files) (dir : List ℕ) (made : MadeTables) where
+  -- so they do after texts of which the last of each table is the made one
+  stand_by : (texts : List FileText) → last_text texts file.Stations (held (path_of dir file.Stations)) ≡ Some made.stations → last_text texts file.Fleets (held (path_of dir file.Fleets)) ≡ Some made.fleets
+      → last_text texts file.Legs (held (path_of dir file.Legs)) ≡ Some made.legs → last_text texts file.Costs (held (path_of dir file.Costs)) ≡ Some made.costs
+      → last_text texts file.Throughs (held (path_of dir file.Throughs)) ≡ Some made.throughs → TablesStand (with_texts held dir texts) dir made
+  stand_by texts stations fleets legs costs throughs = record {
+    stations = stands_last held dir texts file.Stations ∙ stations;
+    fleets = stands_last held dir texts file.Fleets ∙ fleets;
+    legs = stands_last held dir texts file.Legs ∙ legs;
+    costs = stands_last held dir texts file.Costs ∙ costs;
+    throughs = stands_last held dir texts file.Throughs ∙ throughs;
+  }
+
   pub made_stand : TablesStand (with_texts held dir (made_files made)) dir made
   unfolding made_files
-  made_stand = record {
-    stations = stands_last held dir (made_files made) file.Stations;
-    fleets = stands_last held dir (made_files made) file.Fleets;
-    legs = stands_last held dir (made_files made) file.Legs;
-    costs = stands_last held dir (made_files made) file.Costs;
-    throughs = stands_last held dir (made_files made) file.Throughs;
-  }
+  made_stand = stand_by (made_files made) refl refl refl refl refl
 
   -- and still stand after what solving writes
   pub still_stand : (t shown : Tables) (s : Solved) (rotations : List FleetRotation) (visits : ℕ) → TablesStand (with_texts held dir (made_files made ++ solved_files t shown s rotations visits)) dir made
   unfolding made_files solved_files
-  still_stand t shown (solved.Planned plan cost bound tree) rotations visits = record {
-    stations = stands_last held dir (made_files made ++ solved_files t shown (solved.Planned plan cost bound tree) rotations visits) file.Stations;
-    fleets = stands_last held dir (made_files made ++ solved_files t shown (solved.Planned plan cost bound tree) rotations visits) file.Fleets;
-    legs = stands_last held dir (made_files made ++ solved_files t shown (solved.Planned plan cost bound tree) rotations visits) file.Legs;
-    costs = stands_last held dir (made_files made ++ solved_files t shown (solved.Planned plan cost bound tree) rotations visits) file.Costs;
-    throughs = stands_last held dir (made_files made ++ solved_files t shown (solved.Planned plan cost bound tree) rotations visits) file.Throughs;
-  }
-  still_stand t shown (solved.Infeasible tree) rotations visits = record {
-    stations = stands_last held dir (made_files made ++ solved_files t shown (solved.Infeasible tree) rotations visits) file.Stations;
-    fleets = stands_last held dir (made_files made ++ solved_files t shown (solved.Infeasible tree) rotations visits) file.Fleets;
-    legs = stands_last held dir (made_files made ++ solved_files t shown (solved.Infeasible tree) rotations visits) file.Legs;
-    costs = stands_last held dir (made_files made ++ solved_files t shown (solved.Infeasible tree) rotations visits) file.Costs;
-    throughs = stands_last held dir (made_files made ++ solved_files t shown (solved.Infeasible tree) rotations visits) file.Throughs;
-  }
-  still_stand t shown (solved.Unsettled bound tree) rotations visits = record {
-    stations = stands_last held dir (made_files made ++ solved_files t shown (solved.Unsettled bound tree) rotations visits) file.Stations;
-    fleets = stands_last held dir (made_files made ++ solved_files t shown (solved.Unsettled bound tree) rotations visits) file.Fleets;
-    legs = stands_last held dir (made_files made ++ solved_files t shown (solved.Unsettled bound tree) rotations visits) file.Legs;
-    costs = stands_last held dir (made_files made ++ solved_files t shown (solved.Unsettled bound tree) rotations visits) file.Costs;
-    throughs = stands_last held dir (made_files made ++ solved_files t shown (solved.Unsettled bound tree) rotations visits) file.Throughs;
-  }
+  still_stand t shown (solved.Planned plan cost bound tree) rotations visits = stand_by (made_files made ++ solved_files t shown (solved.Planned plan cost bound tree) rotations visits) refl refl refl refl refl
+  still_stand t shown (solved.Infeasible tree) rotations visits = stand_by (made_files made ++ solved_files t shown (solved.Infeasible tree) rotations visits) refl refl refl refl refl
+  still_stand t shown (solved.Unsettled bound tree) rotations visits = stand_by (made_files made ++ solved_files t shown (solved.Unsettled bound tree) rotations visits) refl refl refl refl refl
 
 module _ (stands : Files) (dir : List ℕ) (made : MadeTables) (there : TablesStand stands dir made) where
   pub tables_are : five_bytes (bytes_in stands dir) ≡ made_bytes made

@@ -1,5 +1,5 @@
 -- What stands under the name of a file after texts were written into its folder: the last text of that file.
-use Rattle.std.proofs.Common.{◌≡◌, ◌==◌, ℕ, ◌*◌, ◌+◌, true, false, true≢false, if◌then◌else◌, List, [], ◌∷◌, ◌++◌, length, codes, Option, Some, refl, sym, ap, subst, ◌∙◌, inl, inr}
+use Rattle.std.proofs.Common.{◌≡◌, ◌==◌, ℕ, ◌*◌, ◌+◌, false, true≢false, if◌then◌else◌, List, [], ◌∷◌, ◌++◌, length, codes, Option, Some, refl, sym, ap, subst, ◌∙◌, inl, inr}
 use Rattle.std.specs.Str.{bytes_eq}
 use Rattle.std.proofs.lemmas.Bool.{cases_Bool}
 use Rattle.std.proofs.lemmas.List.{append_cancel_left}
@@ -56,6 +56,10 @@ one_path : (dir : List ℕ) (f g : DeskFile) → path_of dir f ≡ path_of dir g
 one_path dir f g same =
     sym (by_key f) ∙ ap (λ name. file_of_key (name_key name)) (append_cancel_left (dir ++ codes "/") (file_name f) (file_name g) same) ∙ by_key g
 
+-- .. so other files have other names
+pub other_path : (dir : List ℕ) (f g : DeskFile) → same_file f g ≡ false → path_of dir f ≡ path_of dir g → ⊥
+other_path dir f g differs same = true≢false (sym (self_file f) ∙ ap (same_file f) (one_path dir f g same) ∙ differs)
+
 -- ---- texts of a folder
 
 -- the last of these texts that is of a file, and where there is none what there was before
@@ -69,11 +73,8 @@ one_text : (held : Files) (dir : List ℕ) (text : FileText) (f : DeskFile)
 one_text held dir text f = elim (cases_Bool (same_file f text.file)) [
   | inl same ↦ rw same (subst (λ g. with_file held (path_of dir text.file) (Some text.bytes) (path_of dir g) ≡ Some text.bytes) (sym (one_file f text.file same))
       (update_same bytes_eq held (path_of dir text.file) (Some text.bytes) (path_of dir text.file) (bytes_eq-self (path_of dir text.file))))
-  | inr differs ↦ rw differs (update_other bytes_eq held (path_of dir text.file) (Some text.bytes) (path_of dir f) (bytes_eq-differ (path_of dir text.file) (path_of dir f) (λ same. other differs same)))
+  | inr differs ↦ rw differs (update_other bytes_eq held (path_of dir text.file) (Some text.bytes) (path_of dir f) (bytes_eq-differ (path_of dir text.file) (path_of dir f) (λ same. other_path dir f text.file differs (sym same))))
 ]
-  where
-    other : same_file f text.file ≡ false → path_of dir text.file ≡ path_of dir f → ⊥
-    other differs same = true≢false (sym (subst (λ g. same_file g text.file ≡ true) (one_path dir text.file f same) (self_file text.file)) ∙ differs)
 
 pub stands_last : (held : Files) (dir : List ℕ) (texts : List FileText) (f : DeskFile) → with_texts held dir texts (path_of dir f) ≡ last_text texts f (held (path_of dir f))
 stands_last held dir [] f = refl
