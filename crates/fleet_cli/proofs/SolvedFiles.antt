@@ -1,7 +1,7 @@
 -- The files that solving leaves, as checking reads them.
-use Rattle.std.proofs.Common.{◌≡◌, ◌≢◌, ℕ, ◌≤◌, Bool, true, false, List, [], ◌∷◌, ◌++◌, length, get_or, All, codes, Some, refl, sym, ◌∙◌, ap, subst, inl, inr, rules, arith}
-use Rattle.std.specs.Prelude.{unwrap_or, ⊤}
-use Rattle.std.proofs.lemmas.List.{append_cancel_left}
+use Rattle.std.proofs.Common.{◌≡◌, ◌≢◌, ℕ, ◌<◌, ◌≤◌, Bool, true, false, List, [], ◌∷◌, ◌++◌, length, get_or, All, Some, refl, sym, ◌∙◌, ap, subst, inl, inr, arith}
+use Rattle.std.specs.Prelude.{unwrap_or}
+use Rattle.std.proofs.lemmas.Bool.{ne_eqb}
 use Rattle.std.proofs.lemmas.List.Elements.{All-append, All-from_recursion}
 use Rattle.std.proofs.lemmas.Option.{same_Some}
 use Rattle.bound_cert.specs.ProofText.{proof_text}
@@ -30,10 +30,11 @@ use Rattle.fleet_cli.proofs.HeadlineFacts.{plan_stands, proof_stands}
 use Rattle.fleet_cli.proofs.OneAnswer.{complete_there, not_refused}
 use Rattle.fleet_cli.proofs.Others.{solved_others, texts_keep}
 use Rattle.folder_answers.proofs.PlanLength.{plan_within}
+use Rattle.folder_answers.proofs.TextsStand.{other_path}
 use Rattle.plan_search.proofs.Proven.{is_proven}
 use Rattle.fleet_cli.proofs.SolvedHolds.{solved_holds}
 use Rattle.fleet_cli.specs.Answer.{Answers, Solves}
-use Rattle.folder_answers.specs.Contents.{bytes_in, table_bytes}
+use Rattle.folder_answers.specs.Contents.{bytes_in, file_number, table_bytes}
 use Rattle.folder_answers.specs.Gathered.{AllStand, IsHeldWithin, limit_of}
 use Rattle.fleet_cli.specs.Headline.{is_planned}
 use Rattle.folder_answers.specs.FileLists.{five_tables, proof_files, tables_of, where_asked}
@@ -47,17 +48,7 @@ use Rattle.folder_answers.specs.declared.answer.Answer.{Answer}
 
 -- the file of a table that tells of the schedule
 abbrev IsTable : DeskFile → Type 0
-IsTable file.Stations = ⊤
-IsTable file.Fleets = ⊤
-IsTable file.Legs = ⊤
-IsTable file.Costs = ⊤
-IsTable file.Throughs = ⊤
-IsTable file.Windows = ⊤
-IsTable file.Optional = ⊤
-IsTable file.Tails = ⊥
-IsTable file.Plan = ⊥
-IsTable file.Proof = ⊥
-IsTable file.Rotation = ⊥
+IsTable f = file_number f < file_number file.Tails
 
 where_table : (asked : Bool) (f : DeskFile) → IsTable f → All IsTable (where_asked asked f)
 where_table true f is = All-from_recursion IsTable (f ∷ []) (is, tt)
@@ -67,48 +58,12 @@ where_table false f is = All-from_recursion IsTable [] tt
 are_tables : (reading : TableOptions) → All IsTable (tables_of reading)
 are_tables reading =
     All-append IsTable five_tables (where_asked reading.windows file.Windows ++ where_asked reading.optional file.Optional)
-    (All-from_recursion IsTable five_tables (tt, (tt, (tt, (tt, (tt, tt))))))
-    (All-append IsTable (where_asked reading.windows file.Windows) (where_asked reading.optional file.Optional) (where_table reading.windows file.Windows tt) (where_table reading.optional file.Optional tt))
+    (All-from_recursion IsTable five_tables (omega arith, (omega arith, (omega arith, (omega arith, (omega arith, tt))))))
+    (All-append IsTable (where_asked reading.windows file.Windows) (where_asked reading.optional file.Optional) (where_table reading.windows file.Windows (omega arith)) (where_table reading.optional file.Optional (omega arith)))
 
--- none has the name of the plan, of the proof or of the rotations
-not_plan : (dir : List ℕ) (f : DeskFile) → IsTable f → path_of dir f ≢ path_of dir file.Plan
-not_plan dir file.Stations is = λ same. (let e : codes "stations.csv" ≡ codes "plan.csv" = append_cancel_left (dir ++ codes "/") _ _ same in search rules)
-not_plan dir file.Fleets is = λ same. (let e : codes "fleets.csv" ≡ codes "plan.csv" = append_cancel_left (dir ++ codes "/") _ _ same in search rules)
-not_plan dir file.Legs is = λ same. (let e : codes "legs.csv" ≡ codes "plan.csv" = append_cancel_left (dir ++ codes "/") _ _ same in search rules)
-not_plan dir file.Costs is = λ same. (let e : codes "costs.csv" ≡ codes "plan.csv" = append_cancel_left (dir ++ codes "/") _ _ same in search rules)
-not_plan dir file.Throughs is = λ same. (let e : codes "throughs.csv" ≡ codes "plan.csv" = append_cancel_left (dir ++ codes "/") _ _ same in search rules)
-not_plan dir file.Windows is = λ same. (let e : codes "windows.csv" ≡ codes "plan.csv" = append_cancel_left (dir ++ codes "/") _ _ same in search rules)
-not_plan dir file.Optional is = λ same. (let e : codes "optional.csv" ≡ codes "plan.csv" = append_cancel_left (dir ++ codes "/") _ _ same in search rules)
-not_plan dir file.Tails is = absurd is
-not_plan dir file.Plan is = absurd is
-not_plan dir file.Proof is = absurd is
-not_plan dir file.Rotation is = absurd is
-
-not_proof : (dir : List ℕ) (f : DeskFile) → IsTable f → path_of dir f ≢ path_of dir file.Proof
-not_proof dir file.Stations is = λ same. (let e : codes "stations.csv" ≡ codes "proof.txt" = append_cancel_left (dir ++ codes "/") _ _ same in search rules)
-not_proof dir file.Fleets is = λ same. (let e : codes "fleets.csv" ≡ codes "proof.txt" = append_cancel_left (dir ++ codes "/") _ _ same in search rules)
-not_proof dir file.Legs is = λ same. (let e : codes "legs.csv" ≡ codes "proof.txt" = append_cancel_left (dir ++ codes "/") _ _ same in search rules)
-not_proof dir file.Costs is = λ same. (let e : codes "costs.csv" ≡ codes "proof.txt" = append_cancel_left (dir ++ codes "/") _ _ same in search rules)
-not_proof dir file.Throughs is = λ same. (let e : codes "throughs.csv" ≡ codes "proof.txt" = append_cancel_left (dir ++ codes "/") _ _ same in search rules)
-not_proof dir file.Windows is = λ same. (let e : codes "windows.csv" ≡ codes "proof.txt" = append_cancel_left (dir ++ codes "/") _ _ same in search rules)
-not_proof dir file.Optional is = λ same. (let e : codes "optional.csv" ≡ codes "proof.txt" = append_cancel_left (dir ++ codes "/") _ _ same in search rules)
-not_proof dir file.Tails is = absurd is
-not_proof dir file.Plan is = absurd is
-not_proof dir file.Proof is = absurd is
-not_proof dir file.Rotation is = absurd is
-
-not_rotation : (dir : List ℕ) (f : DeskFile) → IsTable f → path_of dir f ≢ path_of dir file.Rotation
-not_rotation dir file.Stations is = λ same. (let e : codes "stations.csv" ≡ codes "rotation.csv" = append_cancel_left (dir ++ codes "/") _ _ same in search rules)
-not_rotation dir file.Fleets is = λ same. (let e : codes "fleets.csv" ≡ codes "rotation.csv" = append_cancel_left (dir ++ codes "/") _ _ same in search rules)
-not_rotation dir file.Legs is = λ same. (let e : codes "legs.csv" ≡ codes "rotation.csv" = append_cancel_left (dir ++ codes "/") _ _ same in search rules)
-not_rotation dir file.Costs is = λ same. (let e : codes "costs.csv" ≡ codes "rotation.csv" = append_cancel_left (dir ++ codes "/") _ _ same in search rules)
-not_rotation dir file.Throughs is = λ same. (let e : codes "throughs.csv" ≡ codes "rotation.csv" = append_cancel_left (dir ++ codes "/") _ _ same in search rules)
-not_rotation dir file.Windows is = λ same. (let e : codes "windows.csv" ≡ codes "rotation.csv" = append_cancel_left (dir ++ codes "/") _ _ same in search rules)
-not_rotation dir file.Optional is = λ same. (let e : codes "optional.csv" ≡ codes "rotation.csv" = append_cancel_left (dir ++ codes "/") _ _ same in search rules)
-not_rotation dir file.Tails is = absurd is
-not_rotation dir file.Plan is = absurd is
-not_rotation dir file.Proof is = absurd is
-not_rotation dir file.Rotation is = absurd is
+-- none has the name of another file, as of the plan, of the proof or of the rotations
+other_name : (dir : List ℕ) (f g : DeskFile) → IsTable f → file_number file.Tails ≤ file_number g → path_of dir f ≢ path_of dir g
+other_name dir f g is later = other_path dir f g (ne_eqb (file_number f) (file_number g) (λ same. omega (arith, is, later, same)))
 
 module _ (held : Files) (dir : List ℕ) (t shown : Tables) (s : Solved) (rotations : List FleetRotation) (visits : ℕ) where
   abbrev stands : Files
@@ -120,20 +75,21 @@ module _ (held : Files) (dir : List ℕ) (t shown : Tables) (s : Solved) (rotati
   -- under the name of a table stands what stood there
   name_kept : (f : DeskFile) → IsTable f → stands (path_of dir f) ≡ held (path_of dir f)
   name_kept f is =
-      texts_keep dir (path_of dir f) held (solved_files t shown s rotations visits) (solved_others t shown rotations visits dir (path_of dir f) (not_plan dir f is) (not_proof dir f is) (not_rotation dir f is) s)
+      texts_keep dir (path_of dir f) held (solved_files t shown s rotations visits) (solved_others t shown rotations visits dir (path_of dir f) (other_name dir f file.Plan is (omega arith)) (other_name dir f file.Proof is (omega arith))
+      (other_name dir f file.Rotation is (omega arith)) s)
 
   table_kept : (f : DeskFile) → IsTable f → bytes_in stands dir f ≡ bytes_in held dir f
   table_kept f is = ap (λ o. unwrap_or o []) (name_kept f is)
 
   same_tables : table_bytes (bytes_in stands dir) ≡ table_bytes (bytes_in held dir)
   same_tables = rw (
-    table_kept file.Stations tt,
-    table_kept file.Fleets tt,
-    table_kept file.Legs tt,
-    table_kept file.Costs tt,
-    table_kept file.Throughs tt,
-    table_kept file.Windows tt,
-    table_kept file.Optional tt,
+    table_kept file.Stations (omega arith),
+    table_kept file.Fleets (omega arith),
+    table_kept file.Legs (omega arith),
+    table_kept file.Costs (omega arith),
+    table_kept file.Throughs (omega arith),
+    table_kept file.Windows (omega arith),
+    table_kept file.Optional (omega arith),
   ) refl
 
   same_proof : bytes_in stands dir file.Proof ≡ proof_text t (is_planned s) (tree_of s)

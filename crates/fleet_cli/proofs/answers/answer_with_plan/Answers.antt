@@ -16,77 +16,47 @@ use Rattle.fleet_cli.proofs.answers.answer_with_plan.Goals as goal
 pub tell_with_plan-requires : goal.tell_with_plan-requires
 tell_with_plan-requires g c = c.requires
 
-pub returns-in_ok-tell_with_plan-in-Ok-clause-told : goal.returns-in_ok-tell_with_plan-in-Ok-clause-told
-returns-in_ok-tell_with_plan-in-Ok-clause-told g c = λ call bytes there.
-    told_awaited _ call bytes there.first c.args.checking.now there.awaits c.in-Ok.plan _ (held_if _ _ file.Plan c.in-Ok.plan (rw there.folder at c.in-Ok.ensures.told) c.in-Ok.ensures.within) (rw c.as_slice.ensures at c.in_ok-tell_with_plan-in-Ok.ensures)
-
-pub returns-in_ok-tell_with_plan-in-Ok-clause-some : goal.returns-in_ok-tell_with_plan-in-Ok-clause-some
-returns-in_ok-tell_with_plan-in-Ok-clause-some g c = λ call bytes awaits. inr (with_plan bytes c.in-Ok.plan, awaits.answers c.in-Ok.plan _ (rw c.as_slice.ensures at c.in_ok-tell_with_plan-in-Ok.ensures))
-
-pub returns-in_ok-tell_with_plan-in-Ok-clause-holds : goal.returns-in_ok-tell_with_plan-in-Ok-clause-holds
-returns-in_ok-tell_with_plan-in-Ok-clause-holds g c = c.in-Ok.ensures.holds
-
-pub returns-in_ok-tell_with_plan-in-Ok-clause-calls : goal.returns-in_ok-tell_with_plan-in-Ok-clause-calls
-returns-in_ok-tell_with_plan-in-Ok-clause-calls g c = c.in-Ok.ensures.calls
-
-pub returns-in_ok-tell_with_plan-in-Ok-clause-faults : goal.returns-in_ok-tell_with_plan-in-Ok-clause-faults
-returns-in_ok-tell_with_plan-in-Ok-clause-faults g c = c.in-Ok.ensures.faults
-
-pub returns-in_ok-tell_with_plan-in-Ok-clause-blamed : goal.returns-in_ok-tell_with_plan-in-Ok-clause-blamed
-returns-in_ok-tell_with_plan-in-Ok-clause-blamed g c = λ call bytes there. tt
-
-pub returns-in_ok-tell_with_plan-in-Ok-clause-stays_steady : goal.returns-in_ok-tell_with_plan-in-Ok-clause-stays_steady
-returns-in_ok-tell_with_plan-in-Ok-clause-stays_steady g c = c.in-Ok.ensures.stays_steady
+pub returns-in_ok-tell_with_plan-in-Ok : goal.returns-in_ok-tell_with_plan-in-Ok
+returns-in_ok-tell_with_plan-in-Ok g c = record {
+  told = λ call bytes there.
+      told_awaited _ call bytes there.first c.args.checking.now there.awaits c.in-Ok.plan _ (held_if _ _ file.Plan c.in-Ok.plan (rw there.folder at c.in-Ok.ensures.told) c.in-Ok.ensures.within) (rw c.as_slice.ensures at c.in_ok-tell_with_plan-in-Ok.ensures);
+  some = λ call bytes awaits. inr (with_plan bytes c.in-Ok.plan, awaits.answers c.in-Ok.plan _ (rw c.as_slice.ensures at c.in_ok-tell_with_plan-in-Ok.ensures));
+  holds = c.in-Ok.ensures.holds;
+  calls = c.in-Ok.ensures.calls;
+  faults = c.in-Ok.ensures.faults;
+  blamed = λ call bytes there. tt;
+  stays_steady = c.in-Ok.ensures.stays_steady;
+}
 
 -- ---- reading it stopped
 
-pub returns-in-Err-clause-told : goal.returns-in-Err-clause-told
-returns-in-Err-clause-told g c = λ call bytes there.
-    told_stopped Contents call c.in-Err.stop c.stopped.result c.stopped.ensures _
-    (too_long file.Plan _ Contents _ (folder_of call) (IsFileReached call) _ _ (λ _ _. ⊤) c.in-Err.stop (told_reached _ call bytes there.first c.args.checking.now there.awaits) (rw there.folder at c.in-Err.ensures.told) c.in-Err.ensures.within)
-
-pub returns-in-Err-clause-some : goal.returns-in-Err-clause-some
-returns-in-Err-clause-some g c = λ call bytes awaits.
-    some_stopped Contents call c.in-Err.stop c.stopped.result c.stopped.ensures _
-    (called file.Plan _ Contents (IsRead call) _ _ _ c.in-Err.stop (inr (bytes, awaits.wanted)) (λ rose. rose) c.in-Err.ensures.too_long_taken c.in-Err.ensures.not_proof c.in-Err.ensures.within)
-
-pub returns-in-Err-clause-holds : goal.returns-in-Err-clause-holds
-returns-in-Err-clause-holds g c = c.in-Err.ensures.holds
-
-pub returns-in-Err-clause-calls : goal.returns-in-Err-clause-calls
-returns-in-Err-clause-calls g c = c.in-Err.ensures.calls
-
-pub returns-in-Err-clause-faults : goal.returns-in-Err-clause-faults
-returns-in-Err-clause-faults g c = stopped_as _ c.in-Err.stop c.stopped.result _ _ c.stopped.ensures c.in-Err.ensures.faults
-
-pub returns-in-Err-clause-blamed : goal.returns-in-Err-clause-blamed
-returns-in-Err-clause-blamed g c = λ call bytes there.
-    stopped_as Contents c.in-Err.stop c.stopped.result ⊤ _ c.stopped.ensures
-    (fails file.Plan _ Contents _ (folder_of call) (IsRead call) (IsFileReached call) _ _ _ c.in-Err.stop (inr (bytes, there.awaits.wanted)) (λ steady. steady) (told_reached _ call bytes there.first c.args.checking.now there.awaits)
-    c.in-Err.ensures.blamed (rw there.folder at c.in-Err.ensures.missing))
-
-pub returns-in-Err-clause-stays_steady : goal.returns-in-Err-clause-stays_steady
-returns-in-Err-clause-stays_steady g c = c.in-Err.ensures.stays_steady
+pub returns-in-Err : goal.returns-in-Err
+returns-in-Err g c = record {
+  told = λ call bytes there.
+      told_stopped Contents call c.in-Err.stop c.stopped.result c.stopped.ensures _
+      (too_long file.Plan _ Contents _ (folder_of call) (IsFileReached call) _ _ (λ _ _. ⊤) c.in-Err.stop (told_reached _ call bytes there.first c.args.checking.now there.awaits) (rw there.folder at c.in-Err.ensures.told) c.in-Err.ensures.within);
+  some = λ call bytes awaits.
+      some_stopped Contents call c.in-Err.stop c.stopped.result c.stopped.ensures _
+      (called file.Plan _ Contents (IsRead call) _ _ _ c.in-Err.stop (inr (bytes, awaits.wanted)) (λ rose. rose) c.in-Err.ensures.too_long_taken c.in-Err.ensures.not_proof c.in-Err.ensures.within);
+  holds = c.in-Err.ensures.holds;
+  calls = c.in-Err.ensures.calls;
+  faults = stopped_as _ c.in-Err.stop c.stopped.result _ _ c.stopped.ensures c.in-Err.ensures.faults;
+  blamed = λ call bytes there.
+      stopped_as Contents c.in-Err.stop c.stopped.result ⊤ _ c.stopped.ensures
+      (fails file.Plan _ Contents _ (folder_of call) (IsRead call) (IsFileReached call) _ _ _ c.in-Err.stop (inr (bytes, there.awaits.wanted)) (λ steady. steady) (told_reached _ call bytes there.first c.args.checking.now there.awaits)
+      c.in-Err.ensures.blamed (rw there.folder at c.in-Err.ensures.missing));
+  stays_steady = c.in-Err.ensures.stays_steady;
+}
 
 -- ---- want of memory
 
-pub returns-in_err-tell_with_plan-in-Ok-clause-told : goal.returns-in_err-tell_with_plan-in-Ok-clause-told
-returns-in_err-tell_with_plan-in-Ok-clause-told g c = λ call bytes there. let p = err_from_is_err_and c.from_residual.result c.from_residual.ensures.1 in lacking_told c.from_residual.result p.0 p.1 p.2 _ call
-
-pub returns-in_err-tell_with_plan-in-Ok-clause-some : goal.returns-in_err-tell_with_plan-in-Ok-clause-some
-returns-in_err-tell_with_plan-in-Ok-clause-some g c = λ call bytes awaits. let p = err_from_is_err_and c.from_residual.result c.from_residual.ensures.1 in lacking_some c.from_residual.result p.0 p.1 p.2 _ call
-
-pub returns-in_err-tell_with_plan-in-Ok-clause-holds : goal.returns-in_err-tell_with_plan-in-Ok-clause-holds
-returns-in_err-tell_with_plan-in-Ok-clause-holds g c = c.in-Ok.ensures.holds
-
-pub returns-in_err-tell_with_plan-in-Ok-clause-calls : goal.returns-in_err-tell_with_plan-in-Ok-clause-calls
-returns-in_err-tell_with_plan-in-Ok-clause-calls g c = c.in-Ok.ensures.calls
-
-pub returns-in_err-tell_with_plan-in-Ok-clause-faults : goal.returns-in_err-tell_with_plan-in-Ok-clause-faults
-returns-in_err-tell_with_plan-in-Ok-clause-faults g c = let p = err_from_is_err_and c.from_residual.result c.from_residual.ensures.1 in lacking c.from_residual.result p.0 p.1 p.2 _ _ _ c.in-Ok.ensures.faults
-
-pub returns-in_err-tell_with_plan-in-Ok-clause-blamed : goal.returns-in_err-tell_with_plan-in-Ok-clause-blamed
-returns-in_err-tell_with_plan-in-Ok-clause-blamed g c = λ call bytes there. let p = err_from_is_err_and c.from_residual.result c.from_residual.ensures.1 in lacking c.from_residual.result p.0 p.1 p.2 ⊤ _ ⊤ tt
-
-pub returns-in_err-tell_with_plan-in-Ok-clause-stays_steady : goal.returns-in_err-tell_with_plan-in-Ok-clause-stays_steady
-returns-in_err-tell_with_plan-in-Ok-clause-stays_steady g c = c.in-Ok.ensures.stays_steady
+pub returns-in_err-tell_with_plan-in-Ok : goal.returns-in_err-tell_with_plan-in-Ok
+returns-in_err-tell_with_plan-in-Ok g c = record {
+  told = λ call bytes there. let p = err_from_is_err_and c.from_residual.result c.from_residual.ensures.1 in lacking_told c.from_residual.result p.0 p.1 p.2 _ call;
+  some = λ call bytes awaits. let p = err_from_is_err_and c.from_residual.result c.from_residual.ensures.1 in lacking_some c.from_residual.result p.0 p.1 p.2 _ call;
+  holds = c.in-Ok.ensures.holds;
+  calls = c.in-Ok.ensures.calls;
+  faults = let p = err_from_is_err_and c.from_residual.result c.from_residual.ensures.1 in lacking c.from_residual.result p.0 p.1 p.2 _ _ _ c.in-Ok.ensures.faults;
+  blamed = λ call bytes there. let p = err_from_is_err_and c.from_residual.result c.from_residual.ensures.1 in lacking c.from_residual.result p.0 p.1 p.2 ⊤ _ ⊤ tt;
+  stays_steady = c.in-Ok.ensures.stays_steady;
+}
