@@ -10,7 +10,7 @@ ghost use Rattle.serde_json.specs.Data.{array, no_members, object, put as put_me
 ghost use Rattle.serde_json.specs.View.{items_of, members_view, view};
 ghost use Rattle.sums.specs.Places.{list_below};
 
-use crate::summary_lines::outcome;
+use crate::summary_lines::{bound_of, cost_of, outcome};
 use dual_bound::{Solved, TreeCounts};
 use entries::NoMemory;
 use euler_rotation::FleetRotation;
@@ -69,8 +69,13 @@ fn put_members(
     ensures { OnOk result (object (members_view members.new.entries) ≡ summary_data tables.now solved.now rotations.now) }
 {
     let counts = solved.tree().counts();
-    put_made(alloc, members, "bound", bound_value(alloc, solved))?;
-    put_made(alloc, members, "cost", cost_value(alloc, solved))?;
+    put_made(
+        alloc,
+        members,
+        "bound",
+        number_value(alloc, bound_of(solved)),
+    )?;
+    put_made(alloc, members, "cost", number_value(alloc, cost_of(solved)))?;
     put_made(
         alloc,
         members,
@@ -121,25 +126,13 @@ fn outcome_value(alloc: Global, solved: &Solved) -> Result<Value, NoMemory>
     Ok(Value::String(String::from_str(alloc, outcome(solved))?))
 }
 
-/// The bound as text, or null.
-fn bound_value(alloc: Global, solved: &Solved) -> Result<Value, NoMemory>
-    ensures { IfOk result (λ value. view value ≡ number_data (printed_bound solved.now)) }
+/// A number as text, or null.
+fn number_value(alloc: Global, number: Option<i128>) -> Result<Value, NoMemory>
+    ensures { IfOk result (λ value. view value ≡ number_data number) }
 {
-    match solved {
-        Solved::Planned { bound, .. } | Solved::Unsettled { bound, .. } => {
-            Ok(Value::String(bound.to_string(alloc)?))
-        }
-        Solved::Infeasible { .. } => Ok(Value::Null),
-    }
-}
-
-/// The cost as text, or null.
-fn cost_value(alloc: Global, solved: &Solved) -> Result<Value, NoMemory>
-    ensures { IfOk result (λ value. view value ≡ number_data (plan_cost solved.now)) }
-{
-    match solved {
-        Solved::Planned { cost, .. } => Ok(Value::String(cost.to_string(alloc)?)),
-        Solved::Infeasible { .. } | Solved::Unsettled { .. } => Ok(Value::Null),
+    match number {
+        Some(number) => Ok(Value::String(number.to_string(alloc)?)),
+        None => Ok(Value::Null),
     }
 }
 

@@ -80,9 +80,8 @@ fn push_result(alloc: Global, text: &mut Vec<u8>, solved: &Solved) -> Result<(),
         text,
         &[Piece::Text(b"outcome: "), Piece::Text(word.as_bytes())],
     )?;
-    push_cost(alloc, text, solved)?;
-    push_bound(alloc, text, solved)?;
-    Ok(())
+    push_number(alloc, text, b"cost: ", cost_of(solved))?;
+    push_number(alloc, text, b"bound: ", bound_of(solved))
 }
 
 /// How the search ended, in a word.
@@ -97,40 +96,40 @@ pub fn outcome(solved: &Solved) -> &'static str
     }
 }
 
-/// Appends `cost: C`, or `cost: none`.
-fn push_cost(alloc: Global, text: &mut Vec<u8>, solved: &Solved) -> Result<(), NoMemory>
-    ensures { OnOk result (text.new.items ≡ text.old.items ++ line_of (codes "cost: " ∷ number_word (plan_cost solved.now) ∷ [])) }
+/// The cost of the plan, where there is one.
+pub(crate) fn cost_of(solved: &Solved) -> Option<i128>
+    ensures { result ≡ plan_cost solved.now }
 {
     match solved {
-        Solved::Planned { cost, .. } => push_line(
-            alloc,
-            text,
-            &[Piece::Text(b"cost: "), Piece::Number(*cost)],
-        ),
-        Solved::Infeasible { .. } | Solved::Unsettled { .. } => {
-            push_line(alloc, text, &[Piece::Text(b"cost: "), Piece::Text(b"none")])
-        }
+        Solved::Planned { cost, .. } => Some(*cost),
+        Solved::Infeasible { .. } | Solved::Unsettled { .. } => None,
     }
 }
 
-/// Appends `bound: B`, or `bound: none`.
-fn push_bound(alloc: Global, text: &mut Vec<u8>, solved: &Solved) -> Result<(), NoMemory>
-    ensures { OnOk result (text.new.items ≡ text.old.items ++ line_of (codes "bound: " ∷ number_word (printed_bound solved.now) ∷ [])) }
+/// The bound, where something may be legal.
+pub(crate) fn bound_of(solved: &Solved) -> Option<i128>
+    ensures { result ≡ printed_bound solved.now }
 {
     match solved {
-        Solved::Planned { bound, .. } | Solved::Unsettled { bound, .. } => push_line(
-            alloc,
-            text,
-            &[Piece::Text(b"bound: "), Piece::Number(*bound)],
-        ),
-        Solved::Infeasible { .. } => {
-            push_line(
-                alloc,
-                text,
-                &[Piece::Text(b"bound: "), Piece::Text(b"none")],
-            )
-        }
+        Solved::Planned { bound, .. } | Solved::Unsettled { bound, .. } => Some(*bound),
+        Solved::Infeasible { .. } => None,
     }
+}
+
+/// Appends a word and a number, or `none`.
+fn push_number(
+    alloc: Global,
+    text: &mut Vec<u8>,
+    word: &[u8],
+    number: Option<i128>,
+) -> Result<(), NoMemory>
+    ensures { OnOk result (text.new.items ≡ text.old.items ++ line_of (word.now ∷ number_word number ∷ [])) }
+{
+    let number = match number {
+        Some(number) => Piece::Number(number),
+        None => Piece::Text(b"none"),
+    };
+    push_line(alloc, text, &[Piece::Text(word), number])
 }
 
 /// Appends the lines of the splits and of the open leaves.

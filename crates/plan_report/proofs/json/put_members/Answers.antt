@@ -1,7 +1,7 @@
-use Rattle.std.proofs.Common.{◌≡◌, codes, ap, ◌∙◌, rules}
+use Rattle.std.proofs.Common.{◌≡◌, IfOk, codes, ap, subst, ◌∙◌, rules}
 use Rattle.std.proofs.lemmas.Result.{on_ok_weaker}
 use Rattle.serde_json.specs.Data.{array, object, put, string}
-use Rattle.serde_json.specs.View.{items_of, members_view}
+use Rattle.serde_json.specs.View.{items_of, members_view, view}
 use Rattle.dual_bound.specs.Leaves.{counts_of}
 use Rattle.dual_bound.specs.Solved.{plan_cost, tree_of}
 use Rattle.plan_report.specs.Json.{count_data, fleets_data, number_data, open_data, rotations_data}
@@ -27,8 +27,8 @@ returns c =
     on_ok_weaker c.put_count.result (λ last. ap object (seven_members m₀ m₁ m₂ m₃ m₄ m₅ m₆ m₇
     (number_data (printed_bound s)) (number_data (plan_cost s)) fleets (open_data (counts_of (tree_of s))) (string (outcome_word s)) words (count_data (counts_of (tree_of s)).splits)
     c.requires.none
-    (put_known c.bound_value.result (codes "bound") (number_data (printed_bound s)) m₀ m₁ c.in_ok-put_made.ensures c.bound_value.ensures)
-    (put_known c.cost_value.result (codes "cost") (number_data (plan_cost s)) m₁ m₂ c.in_ok-put_made-2.ensures c.cost_value.ensures)
+    (put_known c.number_value.result (codes "bound") (number_data (printed_bound s)) m₀ m₁ c.in_ok-put_made.ensures (subst (λ n. IfOk c.number_value.result (λ value. view value ≡ number_data n)) c.bound_of.ensures c.number_value.ensures))
+    (put_known c.number_value-2.result (codes "cost") (number_data (plan_cost s)) m₁ m₂ c.in_ok-put_made-2.ensures (subst (λ n. IfOk c.number_value-2.result (λ value. view value ≡ number_data n)) c.cost_of.ensures c.number_value-2.ensures))
     (put_known c.fleets_value.result (codes "fleets") fleets m₂ m₃ c.in_ok-put_made-3.ensures c.fleets_value.ensures)
     (put_known c.open_value.result (codes "open") (open_data c.counts-counts.result) m₃ m₄ c.in_ok-put_made-4.ensures c.open_value.ensures ∙ ap (λ k. put (codes "open") (open_data k) m₃) counts)
     (put_known c.outcome_value.result (codes "outcome") (string (outcome_word s)) m₄ m₅ c.in_ok-put_made-5.ensures c.outcome_value.ensures)
