@@ -1,7 +1,7 @@
 -- A tree whose open leaves are closed by their prices where these reach the cost of the plan.
 use Rattle.std.proofs.Common.{◌≡◌, ◌≢◌, ℕ, Bool, true, false, if◌then◌else◌, List, [], ◌∷◌, All, Some, IfSome, ℤ, inl, inr, refl, ap, subst, arith, Option}
 use Rattle.std.specs.List.{Any}
-use Rattle.std.proofs.lemmas.List.Elements.{All-head, All-tail}
+use Rattle.std.proofs.lemmas.List.Elements.{All-head}
 use Rattle.fleet_model.specs.Kept.{Domains, all_pairs}
 use Rattle.fleet_model.specs.declared.tables.Tables.{Tables}
 use Rattle.dual_bound.specs.Bound.{part}
@@ -17,9 +17,8 @@ use Rattle.dual_bound.specs.declared.trees.Cause.{Cause}
 use Rattle.dual_bound.specs.declared.trees.Tree.{Tree}
 use Rattle.dual_bound.specs.declared.trees.Tree.TheVariants as tree
 use Rattle.cert_check.specs.Nodes.{nodes_in}
-use Rattle.cert_check.specs.Rules.{EndsAtOnce, IsSound, Keeps, OneEnds}
+use Rattle.cert_check.specs.Rules.{EndsAtOnce, IsSound, OneEnds}
 use Rattle.cert_check.specs.Verdicts.{AreSound}
-use Rattle.cert_check.specs.declared.rules.Rule.{Rule}
 use Rattle.cert_check.specs.declared.rules.Rule.TheVariants as rule
 use Rattle.cert_check.proofs.NodeRules.{prices_known}
 use Rattle.node_bounding.specs.Causes.{AreCaused}
@@ -27,8 +26,8 @@ use Rattle.node_bounding.specs.Closing.{closed, does_reach}
 use Rattle.node_bounding.specs.Found.{AnswersSole, FallsShort, IsFoundAt, LeavesGap}
 use Rattle.node_bounding.specs.Trims.{AreOnTop, AreSearched, IsTrimmed}
 use Rattle.presolve.specs.declared.trims.Trim.{Trim as Removal}
-use Rattle.node_bounding.proofs.Leaves.{answers_none, priced_sound}
-use Rattle.node_bounding.proofs.Nodes.{all_more, all_one, any_after, any_first, any_second, by_place, first_all, node, only, second_all}
+use Rattle.node_bounding.proofs.Leaves.{answers_none, priced_sound, rules_kept}
+use Rattle.node_bounding.proofs.Nodes.{all_more, all_one, all_turned, any_turned, both_all, node, only}
 use Rattle.node_bounding.proofs.Orders.{does_reach_is, falls_short_is}
 
 module _ (t : Tables) (cost : ℤ) where
@@ -59,15 +58,9 @@ module _ (t : Tables) (cost : ℤ) where
   closed_order keeps (tree.Open prices why) is =
       by_reach (InWrittenOrder t) keeps prices why (λ e. all_one (IsNodeInOrder t) (ordered.Priced prices) (All-head (IsNodeInOrder t) (ordered.Open prices why) [] is).0) (λ e. is)
   closed_order keeps (tree.Trim' leg choice p with_pair q without) is =
-      let below = All-tail (IsNodeInOrder t) _ _ is in
-      all_more (IsNodeInOrder t) (ordered.Trim leg choice) _ _ (All-head (IsNodeInOrder t) (ordered.Trim leg choice) _ is)
-      (closed_order (part keeps leg choice true) with_pair (first_all (IsNodeInOrder t) _ _ below))
-      (closed_order (part keeps leg choice false) without (second_all (IsNodeInOrder t) (tree_nodes with_pair) _ below))
+      all_turned (IsNodeInOrder t) (ordered.Trim leg choice) _ (tree_nodes with_pair) (tree_nodes without) _ _ (λ own. own) (closed_order (part keeps leg choice true) with_pair) (closed_order (part keeps leg choice false) without) is
   closed_order keeps (tree.Split' leg choice prices mixed p with_pair q without) is =
-      let below = All-tail (IsNodeInOrder t) _ _ is in
-      all_more (IsNodeInOrder t) (ordered.Split leg choice prices mixed) _ _ (All-head (IsNodeInOrder t) (ordered.Split leg choice prices mixed) _ is)
-      (closed_order (part keeps leg choice true) with_pair (first_all (IsNodeInOrder t) _ _ below))
-      (closed_order (part keeps leg choice false) without (second_all (IsNodeInOrder t) (tree_nodes with_pair) _ below))
+      all_turned (IsNodeInOrder t) (ordered.Split leg choice prices mixed) _ (tree_nodes with_pair) (tree_nodes without) _ _ (λ own. own) (closed_order (part keeps leg choice true) with_pair) (closed_order (part keeps leg choice false) without) is
 
   pub closed_depth : (keeps : Domains) (whole : Tree) → depth_of (closed t cost keeps whole) ≡ depth_of whole
   closed_depth keeps (tree.Bare leg) = refl
@@ -143,31 +136,17 @@ module _ (t : Tables) (cost : ℤ) where
 
   -- ---- what holds at all nodes
   -- the rules at a trim and at a split, whose children are closed
-  trim_rules : (keeps : Domains) (leg choice : ℕ) (with_pair without : Tree) (r : Rule) (p q : _) → IsSound t (Some cost) (node keeps (tree.Trim' leg choice p with_pair q without))
-      → Keeps t (Some cost) (node keeps (tree.Trim' leg choice p (closed t cost (part keeps leg choice true) with_pair) q (closed t cost (part keeps leg choice false) without))) r
-  trim_rules keeps leg choice with_pair without rule.Scale p q here = tt
-  trim_rules keeps leg choice with_pair without rule.Limits p q here = tt
-  trim_rules keeps leg choice with_pair without rule.Fall p q here = tt
-  trim_rules keeps leg choice with_pair without rule.Rent p q here = tt
-  trim_rules keeps leg choice with_pair without rule.Pairs p q here = tt
-  trim_rules keeps leg choice with_pair without rule.Refuted p q here = tt
-  trim_rules keeps leg choice with_pair without rule.Priced p q here = tt
-  trim_rules keeps leg choice with_pair without rule.Parts p q here = ((here.each rule.Parts).0, one_closed keeps leg choice with_pair without (here.each rule.Parts).1)
-  trim_rules keeps leg choice with_pair without rule.Mixed p q here = tt
-  trim_rules keeps leg choice with_pair without rule.Fraction p q here = tt
+  trim_sound : (keeps : Domains) (leg choice : ℕ) (with_pair without : Tree) (p q : _) → IsSound t (Some cost) (node keeps (tree.Trim' leg choice p with_pair q without))
+      → IsSound t (Some cost) (node keeps (tree.Trim' leg choice p (closed t cost (part keeps leg choice true) with_pair) q (closed t cost (part keeps leg choice false) without)))
+  trim_sound keeps leg choice with_pair without p q here =
+      let parts = here.each rule.Parts in
+      rules_kept t (Some cost) keeps _ tt tt tt tt (parts.0, one_closed keeps leg choice with_pair without parts.1) tt tt
 
-  split_rules : (keeps : Domains) (leg choice : ℕ) (prices : Prices) (mixed : Mixed) (with_pair without : Tree) (r : Rule) (p q : _) → IsSound t (Some cost) (node keeps (tree.Split' leg choice prices mixed p with_pair q without))
-      → Keeps t (Some cost) (node keeps (tree.Split' leg choice prices mixed p (closed t cost (part keeps leg choice true) with_pair) q (closed t cost (part keeps leg choice false) without))) r
-  split_rules keeps leg choice prices mixed with_pair without rule.Scale p q here = here.each rule.Scale
-  split_rules keeps leg choice prices mixed with_pair without rule.Limits p q here = here.each rule.Limits
-  split_rules keeps leg choice prices mixed with_pair without rule.Fall p q here = here.each rule.Fall
-  split_rules keeps leg choice prices mixed with_pair without rule.Rent p q here = here.each rule.Rent
-  split_rules keeps leg choice prices mixed with_pair without rule.Pairs p q here = here.each rule.Pairs
-  split_rules keeps leg choice prices mixed with_pair without rule.Refuted p q here = tt
-  split_rules keeps leg choice prices mixed with_pair without rule.Priced p q here = tt
-  split_rules keeps leg choice prices mixed with_pair without rule.Parts p q here = here.each rule.Parts
-  split_rules keeps leg choice prices mixed with_pair without rule.Mixed p q here = here.each rule.Mixed
-  split_rules keeps leg choice prices mixed with_pair without rule.Fraction p q here = here.each rule.Fraction
+  split_sound : (keeps : Domains) (leg choice : ℕ) (prices : Prices) (mixed : Mixed) (with_pair without : Tree) (p q : _) → IsSound t (Some cost) (node keeps (tree.Split' leg choice prices mixed p with_pair q without))
+      → IsSound t (Some cost) (node keeps (tree.Split' leg choice prices mixed p (closed t cost (part keeps leg choice true) with_pair) q (closed t cost (part keeps leg choice false) without)))
+  split_sound keeps leg choice prices mixed with_pair without p q here =
+      rules_kept t (Some cost) keeps _ (prices_known t (Some cost) (node keeps (tree.Split' leg choice prices mixed p with_pair q without)) prices here refl)
+      (here.each rule.Pairs) tt tt (here.each rule.Parts) (here.each rule.Mixed) (here.each rule.Fraction)
 
   pub closed_sound : (keeps : Domains) (whole : Tree) → AreSound t (Some cost) keeps whole → AreSound t (Some cost) keeps (closed t cost keeps whole)
   closed_sound keeps (tree.Bare leg) sound = sound
@@ -181,15 +160,11 @@ module _ (t : Tables) (cost : ℤ) where
       (λ e. all_one (IsSound t (Some cost)) (node keeps (tree.Priced prices)) (priced_sound t (Some cost) keeps prices proper (here.each rule.Pairs) (does_reach_is t keeps prices cost proper.scale.some e)))
       (λ e. sound)
   closed_sound keeps (tree.Trim' leg choice p with_pair q without) sound =
-      let below = All-tail (IsSound t (Some cost)) _ _ sound in
-      all_more (IsSound t (Some cost)) _ _ _ (record { each = λ r. trim_rules keeps leg choice with_pair without r p q (All-head (IsSound t (Some cost)) _ _ sound) })
-      (closed_sound (part keeps leg choice true) with_pair (first_all (IsSound t (Some cost)) _ _ below))
-      (closed_sound (part keeps leg choice false) without (second_all (IsSound t (Some cost)) (nodes_in (part keeps leg choice true) with_pair) _ below))
+      all_turned (IsSound t (Some cost)) _ _ (nodes_in (part keeps leg choice true) with_pair) (nodes_in (part keeps leg choice false) without) _ _ (trim_sound keeps leg choice with_pair without p q)
+      (closed_sound (part keeps leg choice true) with_pair) (closed_sound (part keeps leg choice false) without) sound
   closed_sound keeps (tree.Split' leg choice prices mixed p with_pair q without) sound =
-      let below = All-tail (IsSound t (Some cost)) _ _ sound in
-      all_more (IsSound t (Some cost)) _ _ _ (record { each = λ r. split_rules keeps leg choice prices mixed with_pair without r p q (All-head (IsSound t (Some cost)) _ _ sound) })
-      (closed_sound (part keeps leg choice true) with_pair (first_all (IsSound t (Some cost)) _ _ below))
-      (closed_sound (part keeps leg choice false) without (second_all (IsSound t (Some cost)) (nodes_in (part keeps leg choice true) with_pair) _ below))
+      all_turned (IsSound t (Some cost)) _ _ (nodes_in (part keeps leg choice true) with_pair) (nodes_in (part keeps leg choice false) without) _ _ (split_sound keeps leg choice prices mixed with_pair without p q)
+      (closed_sound (part keeps leg choice true) with_pair) (closed_sound (part keeps leg choice false) without) sound
 
   pub closed_soles : (keeps : Domains) (whole : Tree) → All (AnswersSole t (Some cost)) (nodes_in keeps whole) → All (AnswersSole t (Some cost)) (nodes_in keeps (closed t cost keeps whole))
   closed_soles keeps (tree.Bare leg) soles = soles
@@ -200,15 +175,9 @@ module _ (t : Tables) (cost : ℤ) where
       by_reach (λ x. All (AnswersSole t (Some cost)) (nodes_in keeps x)) keeps prices why
       (λ e. all_one (AnswersSole t (Some cost)) (node keeps (tree.Priced prices)) (answers_none t (Some cost) keeps (tree.Priced prices) (λ same. cc))) (λ e. soles)
   closed_soles keeps (tree.Trim' leg choice p with_pair q without) soles =
-      let below = All-tail (AnswersSole t (Some cost)) _ _ soles in
-      all_more (AnswersSole t (Some cost)) _ _ _ (answers_none t (Some cost) keeps _ (λ same. cc))
-      (closed_soles (part keeps leg choice true) with_pair (first_all (AnswersSole t (Some cost)) _ _ below))
-      (closed_soles (part keeps leg choice false) without (second_all (AnswersSole t (Some cost)) (nodes_in (part keeps leg choice true) with_pair) _ below))
+      all_turned (AnswersSole t (Some cost)) _ _ (nodes_in (part keeps leg choice true) with_pair) (nodes_in (part keeps leg choice false) without) _ _ (λ own. answers_none t (Some cost) keeps _ (λ same. cc)) (closed_soles (part keeps leg choice true) with_pair) (closed_soles (part keeps leg choice false) without) soles
   closed_soles keeps (tree.Split' leg choice prices mixed p with_pair q without) soles =
-      let below = All-tail (AnswersSole t (Some cost)) _ _ soles in
-      all_more (AnswersSole t (Some cost)) _ _ _ (answers_none t (Some cost) keeps _ (λ same. cc))
-      (closed_soles (part keeps leg choice true) with_pair (first_all (AnswersSole t (Some cost)) _ _ below))
-      (closed_soles (part keeps leg choice false) without (second_all (AnswersSole t (Some cost)) (nodes_in (part keeps leg choice true) with_pair) _ below))
+      all_turned (AnswersSole t (Some cost)) _ _ (nodes_in (part keeps leg choice true) with_pair) (nodes_in (part keeps leg choice false) without) _ _ (λ own. answers_none t (Some cost) keeps _ (λ same. cc)) (closed_soles (part keeps leg choice true) with_pair) (closed_soles (part keeps leg choice false) without) soles
 
   -- a node that is not open leaves no gap
   no_gap : (keeps : Domains) (whole : Tree) → ((prices : Prices) (why : Cause) → whole ≢ tree.Open prices why) → LeavesGap t (Some cost) (node keeps whole)
@@ -233,15 +202,11 @@ module _ (t : Tables) (cost : ℤ) where
       (λ e. all_one (LeavesGap t (Some cost)) (node keeps (tree.Priced prices)) (no_gap keeps (tree.Priced prices) (λ own cause same. cc)))
       (λ e. all_one (LeavesGap t (Some cost)) (node keeps (tree.Open prices why)) (open_gap keeps prices why proper e))
   closed_gaps keeps (tree.Trim' leg choice p with_pair q without) sound =
-      let below = All-tail (IsSound t (Some cost)) _ _ sound in
-      all_more (LeavesGap t (Some cost)) _ _ _ (no_gap keeps _ (λ prices why e. cc))
-      (closed_gaps (part keeps leg choice true) with_pair (first_all (IsSound t (Some cost)) _ _ below))
-      (closed_gaps (part keeps leg choice false) without (second_all (IsSound t (Some cost)) (nodes_in (part keeps leg choice true) with_pair) _ below))
+      let both = both_all (IsSound t (Some cost)) _ (nodes_in (part keeps leg choice true) with_pair) (nodes_in (part keeps leg choice false) without) sound in
+      all_more (LeavesGap t (Some cost)) _ _ _ (no_gap keeps _ (λ prices why e. cc)) (closed_gaps (part keeps leg choice true) with_pair both.0) (closed_gaps (part keeps leg choice false) without both.1)
   closed_gaps keeps (tree.Split' leg choice own mixed p with_pair q without) sound =
-      let below = All-tail (IsSound t (Some cost)) _ _ sound in
-      all_more (LeavesGap t (Some cost)) _ _ _ (no_gap keeps _ (λ prices why e. cc))
-      (closed_gaps (part keeps leg choice true) with_pair (first_all (IsSound t (Some cost)) _ _ below))
-      (closed_gaps (part keeps leg choice false) without (second_all (IsSound t (Some cost)) (nodes_in (part keeps leg choice true) with_pair) _ below))
+      let both = both_all (IsSound t (Some cost)) _ (nodes_in (part keeps leg choice true) with_pair) (nodes_in (part keeps leg choice false) without) sound in
+      all_more (LeavesGap t (Some cost)) _ _ _ (no_gap keeps _ (λ prices why e. cc)) (closed_gaps (part keeps leg choice true) with_pair both.0) (closed_gaps (part keeps leg choice false) without both.1)
 
   -- ---- the node at which a plan is found
   pub found_closed : (a : List ℕ) (c : ℤ) (keeps : Domains) (whole : Tree) → Any (IsFoundAt t a c) (nodes_in keeps whole) → Any (IsFoundAt t a c) (nodes_in keeps (closed t cost keeps whole))
@@ -251,12 +216,8 @@ module _ (t : Tables) (cost : ℤ) where
   found_closed a c keeps (tree.Priced prices) found = found
   found_closed a c keeps (tree.Open prices why) found = absurd (only (IsFoundAt t a c) (node keeps (tree.Open prices why)) found).here.ends
   found_closed a c keeps (tree.Trim' leg choice p with_pair q without) found =
-      by_place (IsFoundAt t a c) _ (nodes_in (part keeps leg choice true) with_pair) (nodes_in (part keeps leg choice false) without) found
-      (λ here. absurd here.here.ends)
-      (λ first. any_after (IsFoundAt t a c) _ _ (any_first (IsFoundAt t a c) _ _ (found_closed a c (part keeps leg choice true) with_pair first)))
-      (λ second. any_after (IsFoundAt t a c) _ _ (any_second (IsFoundAt t a c) (nodes_in (part keeps leg choice true) (closed t cost (part keeps leg choice true) with_pair)) _ (found_closed a c (part keeps leg choice false) without second)))
+      any_turned (IsFoundAt t a c) _ _ (nodes_in (part keeps leg choice true) with_pair) (nodes_in (part keeps leg choice false) without) _ _
+      (λ here. absurd here.here.ends) (found_closed a c (part keeps leg choice true) with_pair) (found_closed a c (part keeps leg choice false) without) found
   found_closed a c keeps (tree.Split' leg choice prices mixed p with_pair q without) found =
-      by_place (IsFoundAt t a c) _ (nodes_in (part keeps leg choice true) with_pair) (nodes_in (part keeps leg choice false) without) found
-      (λ here. absurd here.here.ends)
-      (λ first. any_after (IsFoundAt t a c) _ _ (any_first (IsFoundAt t a c) _ _ (found_closed a c (part keeps leg choice true) with_pair first)))
-      (λ second. any_after (IsFoundAt t a c) _ _ (any_second (IsFoundAt t a c) (nodes_in (part keeps leg choice true) (closed t cost (part keeps leg choice true) with_pair)) _ (found_closed a c (part keeps leg choice false) without second)))
+      any_turned (IsFoundAt t a c) _ _ (nodes_in (part keeps leg choice true) with_pair) (nodes_in (part keeps leg choice false) without) _ _
+      (λ here. absurd here.here.ends) (found_closed a c (part keeps leg choice true) with_pair) (found_closed a c (part keeps leg choice false) without) found

@@ -2,7 +2,7 @@
 use Rattle.std.proofs.Common.{ℕ, zero, suc, true, false, List, [], ◌∷◌, ◌++◌, All, length-append, refl, sym, ◌∙◌, subst, arith}
 use Rattle.std.specs.List.{Any}
 use Rattle.std.proofs.lemmas.List.{get_or_append_left}
-use Rattle.std.proofs.lemmas.List.Elements.{All-append, All-cons, All-nil, All-tail}
+use Rattle.std.proofs.lemmas.List.Elements.{All-append, All-cons, All-head, All-nil, All-tail}
 use Rattle.fleet_model.specs.Kept.{Domains}
 use Rattle.dual_bound.specs.Bound.{part}
 use Rattle.dual_bound.specs.declared.trees.Tree.{Tree}
@@ -29,6 +29,19 @@ first_all P xs ys all k d below = subst P (get_or_append_left xs ys d k below) (
 pub second_all : {N : Type 0} (P : N → Type 0) (xs ys : List N) → All P (xs ++ ys) → All P ys
 second_all P [] ys all = all
 second_all P (x ∷ xs) ys all = second_all P xs ys (All-tail P x (xs ++ ys) all)
+
+-- .. behind a first one
+pub both_all : {N : Type 0} (P : N → Type 0) (one : N) (first second : List N) → All P (one ∷ (first ++ second)) → All P first × All P second
+both_all P one first second all =
+    let below = All-tail P one (first ++ second) all in
+    (first_all P first second below, second_all P first second below)
+
+-- what holds of a first one and of each list behind it goes over to others, one by one
+pub all_turned : {N : Type 0} (P : N → Type 0) (one other : N) (first second third fourth : List N) → (P one → P other) → (All P first → All P third) → (All P second → All P fourth)
+    → All P (one ∷ (first ++ second)) → All P (other ∷ (third ++ fourth))
+all_turned P one other first second third fourth own of_first of_second all =
+    let both = both_all P one first second all in
+    all_more P other third fourth (own (All-head P one (first ++ second) all)) (of_first both.0) (of_second both.1)
 
 -- ---- at some
 pub any_here : {N : Type 0} (P : N → Type 0) (one : N) (rest : List N) → P one → Any P (one ∷ rest)
@@ -58,3 +71,9 @@ by_list P (x ∷ xs) ys (suc k, y, below, is, holds) p q =
 pub by_place : {N : Type 0} {X : Type 0} (P : N → Type 0) (one : N) (first second : List N) → Any P (one ∷ (first ++ second)) → (P one → X) → (Any P first → X) → (Any P second → X) → X
 by_place P one first second (zero, x, below, is, holds) here p q = here (subst P (sym is) holds)
 by_place P one first second (suc k, x, below, is, holds) here p q = by_list P first second (k, x, omega (arith, below), is, holds) p q
+
+-- what holds at some place goes over to others
+pub any_turned : {N : Type 0} (P : N → Type 0) (one other : N) (first second third fourth : List N) → (P one → ⊥) → (Any P first → Any P third) → (Any P second → Any P fourth)
+    → Any P (one ∷ (first ++ second)) → Any P (other ∷ (third ++ fourth))
+any_turned P one other first second third fourth never of_first of_second any =
+    by_place P one first second any (λ here. absurd (never here)) (λ there. any_after P other _ (any_first P third fourth (of_first there))) (λ there. any_after P other _ (any_second P third fourth (of_second there)))
