@@ -7,6 +7,11 @@ use Rattle.fleet_model.specs.Kept.{Domains}
 use Rattle.fleet_model.specs.declared.tables.Tables.{Tables}
 use Rattle.row_store.specs.Problem.{IsProblem, first_table}
 use Rattle.row_store.specs.declared.problem.Rows.{Rows}
+use Rattle.end_check.specs.Ends.{IsPricedEnd, IsRefusedEnd}
+use Rattle.end_check.specs.declared.hint.Hint.{Hint}
+use Rattle.end_check.specs.declared.hint.Hint.TheVariants as hint
+use Rattle.end_check.specs.declared.hint.PointHint.{PointHint}
+use Rattle.end_check.specs.declared.hint.RefusalHint.{RefusalHint}
 use Rattle.lp_rows.specs.Points.{AreLinesOf}
 use Rattle.simplex_frac.specs.Finished.{IsFinished, IsStarted}
 use Rattle.simplex_frac.specs.Outcomes.{TurnsAt}
@@ -25,6 +30,7 @@ use Rattle.dual_lift.specs.declared.error.LiftError.TheVariants as lift
 use Rattle.node_bounding.specs.Relaxed.{IsLiftTold, IsRelaxed}
 use Rattle.price_lift.proofs.Columns.{sides_at_least}
 use Rattle.node_bounding.specs.Runs.{HasEnded, IsLiftRefused, IsOutcomeWithin, RunEnds}
+use Rattle.node_bounding.specs.Tried.{EndsLines, IsEndIn, excess_from}
 use Rattle.node_bounding.specs.declared.relaxing.Relaxed.{Relaxed}
 
 -- how a run has ended, from the first table as a store holds it
@@ -107,3 +113,14 @@ module _ (t : Tables) (keeps : Domains) (pivots : Option ℕ) (table : List Frac
   no_point_refused basis made (lift.TooLarge step at) e is =
       inr (record { rows = has.rows; table = table; basis = basis; made = made; run = subst (RunEnds t keeps pivots has.rows table) e has.run; first = is })
   no_point_refused basis made lift.NoMemory e is = tt
+
+-- ---- an end that was found, by its kind
+module _ (t : Tables) (keeps : Domains) (found : Hint) where
+  pub of_point : (point : PointHint) → EndsLines t keeps found → found ≡ hint.Point point → (rows : Rows) × AreLinesOf t keeps rows × IsPricedEnd rows point
+  of_point point ends is = (ends.rows, ends.lines, subst (IsEndIn ends.rows) is ends.ends)
+
+  pub of_refusal : (refusal : RefusalHint) → EndsLines t keeps found → found ≡ hint.Refusal refusal → (rows : Rows) × AreLinesOf t keeps rows × IsRefusedEnd rows refusal
+  of_refusal refusal ends is = (ends.rows, ends.lines, subst (IsEndIn ends.rows) is ends.ends)
+
+  pub excess_of : (kind : Hint) (e : LiftError) → found ≡ kind → IsLiftErrorBy t keeps (excess_from t keeps kind) e → IsLiftErrorBy t keeps (excess_from t keeps found) e
+  excess_of kind e is told = subst (λ h. IsLiftErrorBy t keeps (excess_from t keeps h) e) (sym is) told
