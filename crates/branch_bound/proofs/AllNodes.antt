@@ -1,10 +1,10 @@
 -- What holds of the subproblems of a search holds of the nodes of its tree, whether it is closed or not.
-use Rattle.std.proofs.Common.{Box, Global, ◌≡◌, ℕ, suc, ◌+◌, ◌<◌, true, false, List, [], ◌∷◌, All, length, map, Option, Some, None, IfSome, IsSomeAnd, ℤ, pos, ◌≤ℤ◌, get_or, length-append, refl, sym, ◌∙◌, ap, subst, arith}
+use Rattle.std.proofs.Common.{Box, Global, ◌≡◌, ℕ, suc, ◌+◌, ◌<◌, true, false, List, [], ◌∷◌, ◌++◌, All, length, map, Option, Some, None, IfSome, IsSomeAnd, ℤ, pos, ◌≤ℤ◌, get_or, length-append, refl, sym, ◌∙◌, ap, subst, arith}
 use Rattle.std.specs.List.{Any, Contains}
 use Rattle.std.specs.List.Sorted.{IsPermutation}
 use Rattle.std.proofs.lemmas.Int.{ints}
 use Rattle.std.proofs.lemmas.List.{get_or-map, get_or_default, length-map}
-use Rattle.std.proofs.lemmas.List.Elements.{All-head, All-tail}
+use Rattle.std.proofs.lemmas.List.Elements.{All-head}
 use Rattle.std.proofs.lemmas.List.Sorted.{All-permutation, Contains-permutation, length_permutation}
 use Rattle.sums.specs.Places.{list_below}
 use Rattle.sums.proofs.Places.{get_or-list_below, length-list_below}
@@ -32,7 +32,7 @@ use Rattle.branch_bound.specs.History.{IsAtLevel, IsReachedNode}
 use Rattle.node_bounding.specs.Trims.{AreBelow, AreSearched}
 use Rattle.node_bounding.specs.Worked.{IsWaitingWorth, Worked, own_node, searched_in, worked_at, worked_in}
 use Rattle.node_bounding.proofs.Closings.{by_reach}
-use Rattle.node_bounding.proofs.Nodes.{all_more, all_one, any_after, any_second, first_all, node, second_all}
+use Rattle.node_bounding.proofs.Nodes.{all_more, all_one, all_turned, any_after, any_second, both_all, node}
 use Rattle.node_bounding.proofs.Orders.{ceiling_of}
 
 -- where nothing is removed, each split adds two nodes
@@ -131,13 +131,11 @@ module _ (t : Tables) (cost : ℤ) (P : Domains → Node → Type 0) (shuts : (d
   all_closed keeps (tree.Open prices why) all =
       by_reach t cost (λ x. All At (nodes_in keeps x)) keeps prices why (λ e. all_one At (node keeps (tree.Priced prices)) (shuts keeps prices why (All-head At (node keeps (tree.Open prices why)) [] all))) (λ e. all)
   all_closed keeps (tree.Trim' leg choice p with_pair q without) all =
-      let below = All-tail At _ _ all in
-      all_more At _ _ _ (All-head At (node keeps (tree.Trim' leg choice p with_pair q without)) _ all) (all_closed (part keeps leg choice true) with_pair (first_all At _ _ below))
-      (all_closed (part keeps leg choice false) without (second_all At (nodes_in (part keeps leg choice true) with_pair) _ below))
+      all_turned At (node keeps (tree.Trim' leg choice p with_pair q without)) _ (nodes_in (part keeps leg choice true) with_pair) (nodes_in (part keeps leg choice false) without) _ _ (λ own. own)
+      (all_closed (part keeps leg choice true) with_pair) (all_closed (part keeps leg choice false) without) all
   all_closed keeps (tree.Split' leg choice prices mixed p with_pair q without) all =
-      let below = All-tail At _ _ all in
-      all_more At _ _ _ (All-head At (node keeps (tree.Split' leg choice prices mixed p with_pair q without)) _ all) (all_closed (part keeps leg choice true) with_pair (first_all At _ _ below))
-      (all_closed (part keeps leg choice false) without (second_all At (nodes_in (part keeps leg choice true) with_pair) _ below))
+      all_turned At (node keeps (tree.Split' leg choice prices mixed p with_pair q without)) _ (nodes_in (part keeps leg choice true) with_pair) (nodes_in (part keeps leg choice false) without) _ _ (λ own. own)
+      (all_closed (part keeps leg choice true) with_pair) (all_closed (part keeps leg choice false) without) all
 
 -- ---- levels
 pub split_level : (t : Tables) (level : Option ℤ) (keeps : Domains) (whole : Tree) (worth : ℤ) → IsAtLevel t level keeps (own_node whole) → IsSplitWorth t keeps whole worth → IsSomeAnd level (λ l. worth ≤ℤ l)
@@ -173,6 +171,14 @@ module _ (t : Tables) (cost : Option ℤ) where
   shut keeps prices (cause.Grew made row column) some reached short = refl
   shut keeps prices (cause.Lift step at) some reached short = refl
 
+  none_both : (one : TreeNode) (firsts seconds : List TreeNode) (m n : ℕ) → All (IsSound t cost) (one ∷ (firsts ++ seconds)) → All (LeavesGap t cost) (one ∷ (firsts ++ seconds)) → All Reached (one ∷ (firsts ++ seconds))
+      → (All (IsSound t cost) firsts → All (LeavesGap t cost) firsts → All Reached firsts → m ≡ 0) → (All (IsSound t cost) seconds → All (LeavesGap t cost) seconds → All Reached seconds → n ≡ 0) → m + n ≡ 0
+  none_both one firsts seconds m n sound gaps reached first second =
+      let fine = both_all (IsSound t cost) one firsts seconds sound in
+      let short = both_all (LeavesGap t cost) one firsts seconds gaps in
+      let below = both_all Reached one firsts seconds reached in
+      omega (arith, first fine.0 short.0 below.0, second fine.1 short.1 below.1)
+
   pub none_open : (keeps : Domains) (whole : Tree) → AreSound t cost keeps whole → All (LeavesGap t cost) (nodes_in keeps whole) → All Reached (nodes_in keeps whole) → open_nodes whole ≡ 0
   none_open keeps (tree.Bare leg) sound gaps reached = refl
   none_open keeps tree.Sole sound gaps reached = refl
@@ -182,22 +188,8 @@ module _ (t : Tables) (cost : Option ℤ) where
       shut keeps prices why (prices_known t cost (node keeps (tree.Open prices why)) prices (All-head (IsSound t cost) (node keeps (tree.Open prices why)) [] sound) refl).scale.some
       (All-head Reached (node keeps (tree.Open prices why)) [] reached) ((All-head (LeavesGap t cost) (node keeps (tree.Open prices why)) [] gaps).gap prices why refl)
   none_open keeps (tree.Trim' leg choice p with_pair q without) sound gaps reached =
-      let fine = All-tail (IsSound t cost) _ _ sound in
-      let short = All-tail (LeavesGap t cost) _ _ gaps in
-      let below = All-tail Reached _ _ reached in
-      let firsts : List TreeNode = nodes_in (part keeps leg choice true) with_pair in
-      omega (
-        arith,
-        none_open (part keeps leg choice true) with_pair (first_all (IsSound t cost) _ _ fine) (first_all (LeavesGap t cost) _ _ short) (first_all Reached _ _ below),
-        none_open (part keeps leg choice false) without (second_all (IsSound t cost) firsts _ fine) (second_all (LeavesGap t cost) firsts _ short) (second_all Reached firsts _ below),
-      )
+      none_both _ (nodes_in (part keeps leg choice true) with_pair) (nodes_in (part keeps leg choice false) without) _ _ sound gaps reached
+      (none_open (part keeps leg choice true) with_pair) (none_open (part keeps leg choice false) without)
   none_open keeps (tree.Split' leg choice prices mixed p with_pair q without) sound gaps reached =
-      let fine = All-tail (IsSound t cost) _ _ sound in
-      let short = All-tail (LeavesGap t cost) _ _ gaps in
-      let below = All-tail Reached _ _ reached in
-      let firsts : List TreeNode = nodes_in (part keeps leg choice true) with_pair in
-      omega (
-        arith,
-        none_open (part keeps leg choice true) with_pair (first_all (IsSound t cost) _ _ fine) (first_all (LeavesGap t cost) _ _ short) (first_all Reached _ _ below),
-        none_open (part keeps leg choice false) without (second_all (IsSound t cost) firsts _ fine) (second_all (LeavesGap t cost) firsts _ short) (second_all Reached firsts _ below),
-      )
+      none_both _ (nodes_in (part keeps leg choice true) with_pair) (nodes_in (part keeps leg choice false) without) _ _ sound gaps reached
+      (none_open (part keeps leg choice true) with_pair) (none_open (part keeps leg choice false) without)

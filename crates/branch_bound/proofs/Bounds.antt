@@ -2,7 +2,7 @@
 use Rattle.std.proofs.Common.{◌≡◌, ℕ, zero, suc, ◌<◌, Bool, true, false, ◌||◌, if◌then◌else◌, List, [], ◌∷◌, All, Option, Some, None, IfSome, IsSomeAnd, ℤ, pos, ◌≤ℤ◌, ◌<ℤ◌, refl, sym, subst, arith}
 use Rattle.std.specs.Prelude.{int_le}
 use Rattle.std.proofs.lemmas.Int.{by_lt_z, ints}
-use Rattle.std.proofs.lemmas.List.Elements.{All-head, All-tail}
+use Rattle.std.proofs.lemmas.List.Elements.{All-head}
 use Rattle.sums.specs.Below.{count_below}
 use Rattle.sums.specs.Places.{list_below}
 use Rattle.sums.proofs.Places.{get_or-list_below, length-list_below}
@@ -25,7 +25,7 @@ use Rattle.cert_check.specs.Verdicts.{AreSound}
 use Rattle.cert_check.specs.declared.rules.Rule.TheVariants as rule
 use Rattle.cert_check.proofs.NodeRules.{prices_known}
 use Rattle.node_bounding.specs.Found.{AnswersSole, FallsShort, LeavesGap}
-use Rattle.node_bounding.proofs.Nodes.{first_all, node, second_all}
+use Rattle.node_bounding.proofs.Nodes.{both_all, node}
 
 -- ---- the one assignment that is left
 -- the last number below n that passes
@@ -150,21 +150,17 @@ module _ (t : Tables) (final : Option ℤ) where
   closed_bound keeps (tree.Priced prices) bound sound soles shut is = by_price keeps prices bound (own (IsSound t final) keeps (tree.Priced prices) [] sound) is
   closed_bound keeps (tree.Open prices why) bound sound soles shut is = absurd (cc)
   closed_bound keeps (tree.Trim' leg choice p with_pair q without) bound sound soles shut is =
-      let below = All-tail (IsSound t final) _ _ sound in
-      let answers = All-tail (AnswersSole t final) _ _ soles in
+      let below = both_all (IsSound t final) _ (nodes_in (part keeps leg choice true) with_pair) (nodes_in (part keeps leg choice false) without) sound in
+      let answers = both_all (AnswersSole t final) _ (nodes_in (part keeps leg choice true) with_pair) (nodes_in (part keeps leg choice false) without) soles in
       let both = neither (has_open with_pair) (has_open without) shut in
-      rw is.lesser (of_lesser IsReached is.with_pair is.without
-      (closed_bound (part keeps leg choice true) with_pair is.with_pair (first_all (IsSound t final) _ _ below) (first_all (AnswersSole t final) _ _ answers) both.0 is.yes_is)
-      (closed_bound (part keeps leg choice false) without is.without (second_all (IsSound t final) (nodes_in (part keeps leg choice true) with_pair) _ below)
-      (second_all (AnswersSole t final) (nodes_in (part keeps leg choice true) with_pair) _ answers) both.1 is.no_is))
+      rw is.lesser (of_lesser IsReached is.with_pair is.without (closed_bound (part keeps leg choice true) with_pair is.with_pair below.0 answers.0 both.0 is.yes_is)
+      (closed_bound (part keeps leg choice false) without is.without below.1 answers.1 both.1 is.no_is))
   closed_bound keeps (tree.Split' leg choice prices mixed p with_pair q without) bound sound soles shut is =
-      let below = All-tail (IsSound t final) _ _ sound in
-      let answers = All-tail (AnswersSole t final) _ _ soles in
+      let below = both_all (IsSound t final) _ (nodes_in (part keeps leg choice true) with_pair) (nodes_in (part keeps leg choice false) without) sound in
+      let answers = both_all (AnswersSole t final) _ (nodes_in (part keeps leg choice true) with_pair) (nodes_in (part keeps leg choice false) without) soles in
       let both = neither (has_open with_pair) (has_open without) shut in
-      rw is.lesser (of_lesser IsReached is.with_pair is.without
-      (closed_bound (part keeps leg choice true) with_pair is.with_pair (first_all (IsSound t final) _ _ below) (first_all (AnswersSole t final) _ _ answers) both.0 is.yes_is)
-      (closed_bound (part keeps leg choice false) without is.without (second_all (IsSound t final) (nodes_in (part keeps leg choice true) with_pair) _ below)
-      (second_all (AnswersSole t final) (nodes_in (part keeps leg choice true) with_pair) _ answers) both.1 is.no_is))
+      rw is.lesser (of_lesser IsReached is.with_pair is.without (closed_bound (part keeps leg choice true) with_pair is.with_pair below.0 answers.0 both.0 is.yes_is)
+      (closed_bound (part keeps leg choice false) without is.without below.1 answers.1 both.1 is.no_is))
 
 -- ---- a tree with an open leaf
 module _ (t : Tables) (final : Option ℤ) where
@@ -185,16 +181,14 @@ module _ (t : Tables) (final : Option ℤ) where
       by_gap keeps prices bound ((All-head (LeavesGap t final) (node keeps (tree.Open prices why)) [] gaps).gap prices why refl)
       (prices_known t final (node keeps (tree.Open prices why)) prices (All-head (IsSound t final) (node keeps (tree.Open prices why)) [] sound) refl).scale.some is
   open_bound keeps (tree.Trim' leg choice p with_pair q without) bound sound gaps some is =
-      let below = All-tail (IsSound t final) _ _ sound in
-      let short = All-tail (LeavesGap t final) _ _ gaps in
+      let below = both_all (IsSound t final) _ (nodes_in (part keeps leg choice true) with_pair) (nodes_in (part keeps leg choice false) without) sound in
+      let short = both_all (LeavesGap t final) _ (nodes_in (part keeps leg choice true) with_pair) (nodes_in (part keeps leg choice false) without) gaps in
       rw is.lesser (by_either (has_open with_pair) (has_open without) some
-      (λ e. below_first is.with_pair is.without final (open_bound (part keeps leg choice true) with_pair is.with_pair (first_all (IsSound t final) _ _ below) (first_all (LeavesGap t final) _ _ short) e is.yes_is))
-      (λ e. below_second is.with_pair is.without final (open_bound (part keeps leg choice false) without is.without (second_all (IsSound t final) (nodes_in (part keeps leg choice true) with_pair) _ below)
-      (second_all (LeavesGap t final) (nodes_in (part keeps leg choice true) with_pair) _ short) e is.no_is)))
+      (λ e. below_first is.with_pair is.without final (open_bound (part keeps leg choice true) with_pair is.with_pair below.0 short.0 e is.yes_is))
+      (λ e. below_second is.with_pair is.without final (open_bound (part keeps leg choice false) without is.without below.1 short.1 e is.no_is)))
   open_bound keeps (tree.Split' leg choice prices mixed p with_pair q without) bound sound gaps some is =
-      let below = All-tail (IsSound t final) _ _ sound in
-      let short = All-tail (LeavesGap t final) _ _ gaps in
+      let below = both_all (IsSound t final) _ (nodes_in (part keeps leg choice true) with_pair) (nodes_in (part keeps leg choice false) without) sound in
+      let short = both_all (LeavesGap t final) _ (nodes_in (part keeps leg choice true) with_pair) (nodes_in (part keeps leg choice false) without) gaps in
       rw is.lesser (by_either (has_open with_pair) (has_open without) some
-      (λ e. below_first is.with_pair is.without final (open_bound (part keeps leg choice true) with_pair is.with_pair (first_all (IsSound t final) _ _ below) (first_all (LeavesGap t final) _ _ short) e is.yes_is))
-      (λ e. below_second is.with_pair is.without final (open_bound (part keeps leg choice false) without is.without (second_all (IsSound t final) (nodes_in (part keeps leg choice true) with_pair) _ below)
-      (second_all (LeavesGap t final) (nodes_in (part keeps leg choice true) with_pair) _ short) e is.no_is)))
+      (λ e. below_first is.with_pair is.without final (open_bound (part keeps leg choice true) with_pair is.with_pair below.0 short.0 e is.yes_is))
+      (λ e. below_second is.with_pair is.without final (open_bound (part keeps leg choice false) without is.without below.1 short.1 e is.no_is)))

@@ -28,43 +28,30 @@ pub stopped_level : (t : Tables) (keeps : Domains) (level : Option ℤ) (prices 
 stopped_level t keeps level prices why stopped = λ worth open_worth. absurd (stopped_waits_not t keeps prices why worth stopped open_worth)
 
 -- ---- leaves
+-- by the kinds of leaves of one node
+of_done : (P : Tree → Type 0) → ((leg : ℕ) → P (tree.Bare leg)) → P tree.Sole → ((prices : Prices) → P (tree.Refuted prices)) → ((prices : Prices) → P (tree.Priced prices)) → (leaf : Tree) → IsDoneLeaf leaf → P leaf
+of_done P bare sole refuted priced (tree.Bare leg) done = bare leg
+of_done P bare sole refuted priced tree.Sole done = sole
+of_done P bare sole refuted priced (tree.Refuted prices) done = refuted prices
+of_done P bare sole refuted priced (tree.Priced prices) done = priced prices
+of_done P bare sole refuted priced (tree.Open prices why) done = absurd done
+of_done P bare sole refuted priced (tree.Trim' leg choice p with_pair q without) done = absurd done
+of_done P bare sole refuted priced (tree.Split' leg choice prices mixed p with_pair q without) done = absurd done
+
 module _ (t : Tables) (keeps : Domains) where
   pub leaf_waits_not : (leaf : Tree) (parts number : ℕ) (worth : ℤ) → IsDoneLeaf leaf → ¬ (WaitsAs t keeps (own_node leaf) parts number worth)
-  leaf_waits_not (tree.Bare leg) parts number worth done waits = waits
-  leaf_waits_not tree.Sole parts number worth done waits = waits
-  leaf_waits_not (tree.Refuted prices) parts number worth done waits = waits
-  leaf_waits_not (tree.Priced prices) parts number worth done waits = waits
-  leaf_waits_not (tree.Open prices why) parts number worth done waits = done
-  leaf_waits_not (tree.Trim' leg choice p with_pair q without) parts number worth done waits = done
-  leaf_waits_not (tree.Split' leg choice prices mixed p with_pair q without) parts number worth done waits = done
+  leaf_waits_not leaf parts number worth done =
+      of_done (λ x. ¬ (WaitsAs t keeps (own_node x) parts number worth)) (λ leg waits. waits) (λ waits. waits) (λ prices waits. waits) (λ prices waits. waits) leaf done
 
   pub leaf_level : (level : Option ℤ) (leaf : Tree) → IsDoneLeaf leaf → IsAtLevel t level keeps (own_node leaf)
-  leaf_level level (tree.Bare leg) done = tt
-  leaf_level level tree.Sole done = tt
-  leaf_level level (tree.Refuted prices) done = tt
-  leaf_level level (tree.Priced prices) done = tt
-  leaf_level level (tree.Open prices why) done = absurd done
-  leaf_level level (tree.Trim' leg choice p with_pair q without) done = absurd done
-  leaf_level level (tree.Split' leg choice prices mixed p with_pair q without) done = absurd done
+  leaf_level level leaf done = of_done (λ x. IsAtLevel t level keeps (own_node x)) (λ leg. tt) tt (λ prices. tt) (λ prices. tt) leaf done
 
   pub leaf_reached : (cost : Option ℤ) (leaf : Tree) → IsDoneLeaf leaf → IsReachedNode t cost keeps (own_node leaf)
-  leaf_reached cost (tree.Bare leg) done = tt
-  leaf_reached cost tree.Sole done = tt
-  leaf_reached cost (tree.Refuted prices) done = tt
-  leaf_reached cost (tree.Priced prices) done = tt
-  leaf_reached cost (tree.Open prices why) done = absurd done
-  leaf_reached cost (tree.Trim' leg choice p with_pair q without) done = absurd done
-  leaf_reached cost (tree.Split' leg choice prices mixed p with_pair q without) done = absurd done
+  leaf_reached cost leaf done = of_done (λ x. IsReachedNode t cost keeps (own_node x)) (λ leg. tt) tt (λ prices. tt) (λ prices. tt) leaf done
 
 module _ (t : Tables) (count : ℕ) (made : ℕ → Worked) (found : ℕ → Option ℤ) (parts : ℕ → ℕ) (k : ℕ) where
   leaf_turn : (leaf : Tree) → IsDoneLeaf leaf → IsInTurn t count made found parts k (own_node leaf)
-  leaf_turn (tree.Bare leg) done = tt
-  leaf_turn tree.Sole done = tt
-  leaf_turn (tree.Refuted prices) done = tt
-  leaf_turn (tree.Priced prices) done = tt
-  leaf_turn (tree.Open prices why) done = tt
-  leaf_turn (tree.Trim' leg choice p with_pair q without) done = tt
-  leaf_turn (tree.Split' leg choice prices mixed p with_pair q without) done = absurd done
+  leaf_turn leaf done = of_done (λ x. IsInTurn t count made found parts k (own_node x)) (λ leg. tt) tt (λ prices. tt) (λ prices. tt) leaf done
 
   -- ---- all that were just made
   pub fresh_turn : (s : State) → IsFresh s → IsInTurn t count made found parts k (node_of s)
