@@ -88,3 +88,19 @@ popped_later keys left (Some k) removal above some rank rest is =
 pub where_ok : {X : Type 0} {E : Type 0} (r : Result X E) (P Q : Type 0) → (P → Q) → OnOk r P → OnOk r Q
 where_ok (Ok x) P Q follows is = follows is
 where_ok (Err e) P Q follows is = tt
+
+-- a subproblem is put behind a list, and then ranked as it is read there
+pub put_behind : (before after : Search) (origin : Option Origin) (one : State) (own : Subproblem) (number : ℕ) → after.nodes ≡ before.nodes → after.pivots ≡ before.pivots → after.best ≡ before.best → after.splits ≡ before.splits
+    → after.made.items ≡ before.made.items ++ record { origin = origin; state = one } ∷ [] → number ≡ length before.made.items → own ≡ get_or after.made.items number own → after.waiting.keys ≡ ranks_with before.waiting.keys number own.state
+    → IsPut before after origin one
+put_behind before after origin one own number nodes pivots best splits made there is ranks =
+    let pushed : Subproblem = record { origin = origin; state = one } in
+    let read : own ≡ pushed = is ∙ ap (λ xs. get_or xs number own) made ∙ get_or_push before.made.items pushed own number (sym there) in
+    record {
+      nodes = nodes;
+      pivots = pivots;
+      best = best;
+      splits = splits;
+      made = made;
+      ranks = ranks ∙ ap (λ n. ranks_with before.waiting.keys n own.state) there ∙ ap (λ (s : Subproblem). ranks_with before.waiting.keys (length before.made.items) s.state) read;
+    }

@@ -199,9 +199,9 @@ fn part_of(parent: usize, step: Step) -> Option<Origin>
 fn put(search: &mut Search, origin: Option<Origin>, state: State) -> Result<(), NoMemory>
     ensures { OnOk result (IsPut search.old search.new origin state) }
 {
-    rank(&mut search.waiting, search.made.len(), &state)?;
+    let number = search.made.len();
     search.made.push(Subproblem { origin, state })?;
-    Ok(())
+    rank(&mut search.waiting, number, &search.made[number].state)
 }
 
 // Puts a subproblem with this number among those that wait, where it does.
