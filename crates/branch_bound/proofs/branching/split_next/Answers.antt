@@ -1,9 +1,10 @@
-use Rattle.std.proofs.Common.{subst, sym, ap}
+use Rattle.std.proofs.Common.{suc, sym, ◌∙◌, ap, subst}
 use Rattle.fleet_model.specs.Kept.{kept_by}
 use Rattle.fleet_model.specs.Whole.{KeepAllowed}
-use Rattle.branch_bound.specs.History.{WaitsWith}
+use Rattle.branch_bound.specs.History.{IsSplitSearch, WaitsWith}
 use Rattle.node_bounding.specs.Relaxed.{AreGood}
 use Rattle.branch_bound.specs.Search.{at}
+use Rattle.branch_bound.specs.declared.search.Search.{Search}
 use Rattle.branch_bound.proofs.Grown.{where_ok}
 use Rattle.branch_bound.proofs.NextSplits.{allowed_there, at_waits, good, keeps_there, split_search, step_known}
 use Rattle.branch_bound.proofs.branching.split_next.Goals as goal
@@ -35,3 +36,12 @@ returns-clause-search g c =
     c.with.ensures c.without.ensures (keeps_there _ _ _ _ c.requires.search c.requires.next _ _ c.as_slice.ensures.value c.kept_in-kept.ensures) (ap kept_by c.in_ok-yes.ensures.same)
     c.in_ok-yes.ensures.search c.in_ok-no.ensures.search c.in_ok-yes.ensures.examined c.in_ok-no.ensures.examined is)
     c.add.ensures
+
+pub returns-clause-nodes : goal.returns-clause-nodes
+returns-clause-nodes g c = where_ok _ _ _ (λ (is : IsSplitSearch _ _ _ _ _ _). is.nodes ∙ ap (λ (m : Search). m.nodes) c.in_ok-no.ensures.search ∙ ap (λ (m : Search). m.nodes) c.in_ok-yes.ensures.search) c.add.ensures
+
+pub returns-clause-pivots : goal.returns-clause-pivots
+returns-clause-pivots g c = where_ok _ _ _ (λ (is : IsSplitSearch _ _ _ _ _ _). is.pivots ∙ ap (λ (m : Search). m.pivots) c.in_ok-no.ensures.search ∙ ap (λ (m : Search). m.pivots) c.in_ok-yes.ensures.search) c.add.ensures
+
+pub returns-clause-splits : goal.returns-clause-splits
+returns-clause-splits g c = where_ok _ _ _ (λ (is : IsSplitSearch _ _ _ _ _ _). is.splits ∙ ap (λ (m : Search). suc m.splits) c.in_ok-no.ensures.search ∙ ap (λ (m : Search). suc m.splits) c.in_ok-yes.ensures.search) c.add.ensures
