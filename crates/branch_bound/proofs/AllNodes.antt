@@ -37,14 +37,10 @@ use Rattle.node_bounding.proofs.Orders.{ceiling_of}
 
 -- where nothing is removed, each split adds two nodes
 two_each : (t : Tables) (keeps : Domains) (rest : Tree) → AreSearched t keeps rest → length (nodes_in keeps rest) ≡ suc (splits_in rest + splits_in rest)
-two_each t keeps (tree.Bare leg) searched = refl
-two_each t keeps tree.Sole searched = refl
-two_each t keeps (tree.Refuted prices) searched = refl
-two_each t keeps (tree.Priced prices) searched = refl
-two_each t keeps (tree.Open prices why) searched = refl
 two_each t keeps (tree.Trim' leg choice p with_pair q without) searched = absurd searched
 two_each t keeps (tree.Split' leg choice prices mixed p with_pair q without) searched =
     omega (arith, two_each t (part keeps leg choice true) with_pair searched.1, two_each t (part keeps leg choice false) without searched.2, length-append (nodes_in (part keeps leg choice true) with_pair) (nodes_in (part keeps leg choice false) without))
+two_each t keeps other searched = refl
 
 -- ---- of a list by number, in another order
 module _ (made : ℕ → Worked) (count : ℕ) (keeps : Domains) (rest : Tree) (same : IsPermutation (list_below made count) (worked_in keeps rest)) where
@@ -83,13 +79,8 @@ module _ (made : ℕ → Worked) (count : ℕ) (keeps : Domains) (rest : Tree) (
 -- ---- of a tree below removals
 -- the subproblems below the trims
 pub searched_itself : (t : Tables) (keeps : Domains) (rest : Tree) → AreSearched t keeps rest → searched_in keeps rest ≡ worked_in keeps rest
-searched_itself t keeps (tree.Bare leg) searched = refl
-searched_itself t keeps tree.Sole searched = refl
-searched_itself t keeps (tree.Refuted prices) searched = refl
-searched_itself t keeps (tree.Priced prices) searched = refl
-searched_itself t keeps (tree.Open prices why) searched = refl
 searched_itself t keeps (tree.Trim' leg choice p with_pair q without) searched = absurd searched
-searched_itself t keeps (tree.Split' leg choice prices mixed p with_pair q without) searched = refl
+searched_itself t keeps other searched = refl
 
 pub searched_below : (t : Tables) (keeps : Domains) (removals : List Removal) (rest whole : Tree) → AreBelow removals rest whole → AreSearched t (kept_after keeps removals) rest → searched_in keeps whole ≡ worked_in (kept_after keeps removals) rest
 searched_below t keeps [] rest whole same searched = ap (searched_in keeps) same ∙ searched_itself t keeps rest searched
@@ -124,10 +115,6 @@ module _ (t : Tables) (cost : ℤ) (P : Domains → Node → Type 0) (shuts : (d
   At x = P x.keeps (own_node x.tree)
 
   pub all_closed : (keeps : Domains) (whole : Tree) → All At (nodes_in keeps whole) → All At (nodes_in keeps (closed t cost keeps whole))
-  all_closed keeps (tree.Bare leg) all = all
-  all_closed keeps tree.Sole all = all
-  all_closed keeps (tree.Refuted prices) all = all
-  all_closed keeps (tree.Priced prices) all = all
   all_closed keeps (tree.Open prices why) all =
       by_reach t cost (λ x. All At (nodes_in keeps x)) keeps prices why (λ e. all_one At (node keeps (tree.Priced prices)) (shuts keeps prices why (All-head At (node keeps (tree.Open prices why)) [] all))) (λ e. all)
   all_closed keeps (tree.Trim' leg choice p with_pair q without) all =
@@ -136,25 +123,16 @@ module _ (t : Tables) (cost : ℤ) (P : Domains → Node → Type 0) (shuts : (d
   all_closed keeps (tree.Split' leg choice prices mixed p with_pair q without) all =
       all_turned At (node keeps (tree.Split' leg choice prices mixed p with_pair q without)) _ (nodes_in (part keeps leg choice true) with_pair) (nodes_in (part keeps leg choice false) without) _ _ (λ own. own)
       (all_closed (part keeps leg choice true) with_pair) (all_closed (part keeps leg choice false) without) all
+  all_closed keeps other all = all
 
 -- ---- levels
 pub split_level : (t : Tables) (level : Option ℤ) (keeps : Domains) (whole : Tree) (worth : ℤ) → IsAtLevel t level keeps (own_node whole) → IsSplitWorth t keeps whole worth → IsSomeAnd level (λ l. worth ≤ℤ l)
 split_level t level keeps (tree.Split' leg choice prices mixed p with_pair q without) worth at_level rounded = at_level worth rounded
-split_level t level keeps (tree.Bare leg) worth at_level rounded = absurd rounded
-split_level t level keeps tree.Sole worth at_level rounded = absurd rounded
-split_level t level keeps (tree.Refuted prices) worth at_level rounded = absurd rounded
-split_level t level keeps (tree.Priced prices) worth at_level rounded = absurd rounded
-split_level t level keeps (tree.Open prices why) worth at_level rounded = absurd rounded
-split_level t level keeps (tree.Trim' leg choice p with_pair q without) worth at_level rounded = absurd rounded
+split_level t level keeps other worth at_level rounded = absurd rounded
 
 pub waiting_level : (t : Tables) (level : Option ℤ) (keeps : Domains) (whole : Tree) (worth : ℤ) → IsAtLevel t level keeps (own_node whole) → IsWaitingWorth t keeps whole worth → IfSome level (λ l. l ≤ℤ worth)
 waiting_level t level keeps (tree.Open prices why) worth at_level rounded = at_level worth rounded
-waiting_level t level keeps (tree.Bare leg) worth at_level rounded = absurd rounded
-waiting_level t level keeps tree.Sole worth at_level rounded = absurd rounded
-waiting_level t level keeps (tree.Refuted prices) worth at_level rounded = absurd rounded
-waiting_level t level keeps (tree.Priced prices) worth at_level rounded = absurd rounded
-waiting_level t level keeps (tree.Trim' leg choice p with_pair q without) worth at_level rounded = absurd rounded
-waiting_level t level keeps (tree.Split' leg choice prices mixed p with_pair q without) worth at_level rounded = absurd rounded
+waiting_level t level keeps other worth at_level rounded = absurd rounded
 
 -- ---- where each that waits is reached, none stays open for splits
 module _ (t : Tables) (cost : Option ℤ) where
@@ -167,9 +145,7 @@ module _ (t : Tables) (cost : Option ℤ) where
       by_cost : (c : Option ℤ) → IsReachedNode t c keeps (own_node (tree.Open prices (cause.Nodes mixed))) → IfSome c (FallsShort t keeps prices) → ⊥
       by_cost None is less = let rounded = ceiling_of (worth_of t keeps prices 1) prices.scale some in is rounded.0 rounded.1
       by_cost (Some c) is less = absurd (omega (arith, ints, is less.least less.rounded, less.short))
-  shut keeps prices (cause.Pivots made) some reached short = refl
-  shut keeps prices (cause.Grew made row column) some reached short = refl
-  shut keeps prices (cause.Lift step at) some reached short = refl
+  shut keeps prices other some reached short = refl
 
   none_both : (one : TreeNode) (firsts seconds : List TreeNode) (m n : ℕ) → All (IsSound t cost) (one ∷ (firsts ++ seconds)) → All (LeavesGap t cost) (one ∷ (firsts ++ seconds)) → All Reached (one ∷ (firsts ++ seconds))
       → (All (IsSound t cost) firsts → All (LeavesGap t cost) firsts → All Reached firsts → m ≡ 0) → (All (IsSound t cost) seconds → All (LeavesGap t cost) seconds → All Reached seconds → n ≡ 0) → m + n ≡ 0
@@ -180,10 +156,6 @@ module _ (t : Tables) (cost : Option ℤ) where
       omega (arith, first fine.0 short.0 below.0, second fine.1 short.1 below.1)
 
   pub none_open : (keeps : Domains) (whole : Tree) → AreSound t cost keeps whole → All (LeavesGap t cost) (nodes_in keeps whole) → All Reached (nodes_in keeps whole) → open_nodes whole ≡ 0
-  none_open keeps (tree.Bare leg) sound gaps reached = refl
-  none_open keeps tree.Sole sound gaps reached = refl
-  none_open keeps (tree.Refuted prices) sound gaps reached = refl
-  none_open keeps (tree.Priced prices) sound gaps reached = refl
   none_open keeps (tree.Open prices why) sound gaps reached =
       shut keeps prices why (prices_known t cost (node keeps (tree.Open prices why)) prices (All-head (IsSound t cost) (node keeps (tree.Open prices why)) [] sound) refl).scale.some
       (All-head Reached (node keeps (tree.Open prices why)) [] reached) ((All-head (LeavesGap t cost) (node keeps (tree.Open prices why)) [] gaps).gap prices why refl)
@@ -193,3 +165,4 @@ module _ (t : Tables) (cost : Option ℤ) where
   none_open keeps (tree.Split' leg choice prices mixed p with_pair q without) sound gaps reached =
       none_both _ (nodes_in (part keeps leg choice true) with_pair) (nodes_in (part keeps leg choice false) without) _ _ sound gaps reached
       (none_open (part keeps leg choice true) with_pair) (none_open (part keeps leg choice false) without)
+  none_open keeps other sound gaps reached = refl

@@ -24,9 +24,8 @@ use Rattle.branch_bound.proofs.Ranking.{all_with, inserted_with}
 -- before any split there is no level
 no_level : (t : Tables) (keeps : Domains) (s : State) → IsFresh s → IsAtLevel t None keeps (node_of s)
 no_level t keeps (state.Leaf leaf) fresh = leaf_level t keeps None leaf fresh
-no_level t keeps (state.Stopped s) fresh = λ worth rounded. tt
-no_level t keeps (state.Waiting f) fresh = λ worth rounded. tt
 no_level t keeps (state.Split f) fresh = absurd fresh
+no_level t keeps other fresh = λ worth rounded. tt
 
 module _ (t : Tables) (root : Domains) (best : Option LegalPlan) (before after : Search) (above : Prices) (one : State) (allowed : KeepAllowed t root) (above_is : above ≡ zero_prices t)
     (best_is : before.best ≡ best) (splits_is : before.splits ≡ 0) (made_is : before.made.items ≡ []) (keys_is : before.waiting.keys ≡ [])

@@ -144,9 +144,7 @@ module _ (t : Tables) (final : Option ℤ) where
 
   pub closed_bound : (keeps : Domains) (whole : Tree) (bound : Option ℤ) → AreSound t final keeps whole → All (AnswersSole t final) (nodes_in keeps whole) → has_open whole ≡ false
       → IsBoundIn t keeps whole bound → IfSome bound IsReached
-  closed_bound keeps (tree.Bare leg) bound sound soles shut is = rw is tt
   closed_bound keeps tree.Sole bound sound soles shut is = by_sole keeps bound ((own (IsSound t final) keeps tree.Sole [] sound).each rule.Pairs) (own (AnswersSole t final) keeps tree.Sole [] soles) is
-  closed_bound keeps (tree.Refuted prices) bound sound soles shut is = rw is tt
   closed_bound keeps (tree.Priced prices) bound sound soles shut is = by_price keeps prices bound (own (IsSound t final) keeps (tree.Priced prices) [] sound) is
   closed_bound keeps (tree.Open prices why) bound sound soles shut is = absurd (cc)
   closed_bound keeps (tree.Trim' leg choice p with_pair q without) bound sound soles shut is =
@@ -161,6 +159,7 @@ module _ (t : Tables) (final : Option ℤ) where
       let both = neither (has_open with_pair) (has_open without) shut in
       rw is.lesser (of_lesser IsReached is.with_pair is.without (closed_bound (part keeps leg choice true) with_pair is.with_pair below.0 answers.0 both.0 is.yes_is)
       (closed_bound (part keeps leg choice false) without is.without below.1 answers.1 both.1 is.no_is))
+  closed_bound keeps other bound sound soles shut is = rw is tt
 
 -- ---- a tree with an open leaf
 module _ (t : Tables) (final : Option ℤ) where
@@ -173,10 +172,6 @@ module _ (t : Tables) (final : Option ℤ) where
 
   pub open_bound : (keeps : Domains) (whole : Tree) (bound : Option ℤ) → AreSound t final keeps whole → All (LeavesGap t final) (nodes_in keeps whole) → has_open whole ≡ true
       → IsBoundIn t keeps whole bound → IsBelow bound final
-  open_bound keeps (tree.Bare leg) bound sound gaps some is = absurd (cc)
-  open_bound keeps tree.Sole bound sound gaps some is = absurd (cc)
-  open_bound keeps (tree.Refuted prices) bound sound gaps some is = absurd (cc)
-  open_bound keeps (tree.Priced prices) bound sound gaps some is = absurd (cc)
   open_bound keeps (tree.Open prices why) bound sound gaps some is =
       by_gap keeps prices bound ((All-head (LeavesGap t final) (node keeps (tree.Open prices why)) [] gaps).gap prices why refl)
       (prices_known t final (node keeps (tree.Open prices why)) prices (All-head (IsSound t final) (node keeps (tree.Open prices why)) [] sound) refl).scale.some is
@@ -192,3 +187,4 @@ module _ (t : Tables) (final : Option ℤ) where
       rw is.lesser (by_either (has_open with_pair) (has_open without) some
       (λ e. below_first is.with_pair is.without final (open_bound (part keeps leg choice true) with_pair is.with_pair below.0 short.0 e is.yes_is))
       (λ e. below_second is.with_pair is.without final (open_bound (part keeps leg choice false) without is.without below.1 short.1 e is.no_is)))
+  open_bound keeps other bound sound gaps some is = absurd (cc)

@@ -57,19 +57,14 @@ pub record AreClosing (t : Tables) (root : Domains) (pivots : Option ℕ) (cost 
 -- a leaf that isn't open stays as it is
 done_closed : (t : Tables) (cost : Option ℤ) (keeps : Domains) (leaf : Tree) → IsDoneLeaf leaf → leaf ≡ closed_in t cost keeps leaf
 done_closed t None keeps leaf done = refl
-done_closed t (Some c) keeps (tree.Bare leg) done = refl
-done_closed t (Some c) keeps tree.Sole done = refl
-done_closed t (Some c) keeps (tree.Refuted prices) done = refl
-done_closed t (Some c) keeps (tree.Priced prices) done = refl
 done_closed t (Some c) keeps (tree.Open prices why) done = absurd done
 done_closed t (Some c) keeps (tree.Trim' leg choice p with_pair q without) done = absurd done
 done_closed t (Some c) keeps (tree.Split' leg choice prices mixed p with_pair q without) done = absurd done
+done_closed t (Some c) keeps other done = refl
 
 single_closed : (t : Tables) (cost : Option ℤ) (keeps : Domains) (s : State) → IsSingle s → IsClosedState t cost keeps s s
 single_closed t cost keeps (state.Leaf leaf) single = ap state.Leaf (done_closed t cost keeps leaf single)
-single_closed t cost keeps (state.Stopped s) single = refl
-single_closed t cost keeps (state.Waiting f) single = refl
-single_closed t cost keeps (state.Split f) single = refl
+single_closed t cost keeps other single = refl
 
 by_number : (all : List Subproblem) → all ≡ list_below (at all) (length all)
 by_number all = fill_by_all (at all) all (length all) no_subproblem refl (λ k below. refl)

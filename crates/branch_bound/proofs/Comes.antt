@@ -26,19 +26,13 @@ use Rattle.node_bounding.proofs.Orders.{no_more_same, one_ceiling}
 
 -- ---- each subproblem by itself
 single_leaf : (keeps : Domains) (leaf : Tree) → IsDoneLeaf leaf → worked_in keeps leaf ≡ record { keeps = keeps; node = own_node leaf } ∷ []
-single_leaf keeps (tree.Bare leg) done = refl
-single_leaf keeps tree.Sole done = refl
-single_leaf keeps (tree.Refuted prices) done = refl
-single_leaf keeps (tree.Priced prices) done = refl
-single_leaf keeps (tree.Open prices why) done = refl
 single_leaf keeps (tree.Trim' leg choice p with_pair q without) done = absurd done
 single_leaf keeps (tree.Split' leg choice prices mixed p with_pair q without) done = absurd done
+single_leaf keeps other done = refl
 
 single_gathered : (keeps : Domains) (s : State) → IsSingle s → gathered_at keeps s ≡ record { keeps = keeps; node = node_of s } ∷ []
 single_gathered keeps (state.Leaf leaf) single = single_leaf keeps leaf single
-single_gathered keeps (state.Stopped s) single = refl
-single_gathered keeps (state.Waiting f) single = refl
-single_gathered keeps (state.Split f) single = refl
+single_gathered keeps other single = refl
 
 all_gathered : (made : ℕ → Worked) (all : List Subproblem) (n : ℕ) → ((k : ℕ) → k < n → IsSingle (at all k).state) → ((k : ℕ) → k < n → (made k).node ≡ node_of (at all k).state) → list_below made n ≡ gathered made all n
 unfolding gathered

@@ -43,16 +43,13 @@ waiting_part t pivots final keeps above f is =
     (open_sound t final keeps f.best.prices (cause.Nodes f.best.mixed) best.good.proper is.split.searched.some_pair best.mixed_at is.split.fraction) (answers_none t final keeps (tree.Open f.best.prices (cause.Nodes f.best.mixed)) (λ e. cc)) tt
 
 state_part : (t : Tables) (pivots : Option ℕ) (final : Option ℤ) (keeps : Domains) (above : Prices) (s : State) → IsRightState t pivots final keeps above s → IsPart t pivots final keeps above (tree_of_state s) × AreSearched t keeps (tree_of_state s)
-state_part t pivots final keeps above (state.Leaf leaf) is = (is.0, is.1)
-state_part t pivots final keeps above (state.Stopped s) is = (is.0, is.1)
 state_part t pivots final keeps above (state.Waiting f) is = (waiting_part t pivots final keeps above f is, is.split.searched)
 state_part t pivots final keeps above (state.Split f) is = (waiting_part t pivots final keeps above f is, is.split.searched)
+state_part t pivots final keeps above other is = (is.0, is.1)
 
 gathered_tree : (keeps : Domains) (s : State) → ¬ (IsSplitState s) → gathered_at keeps s ≡ worked_in keeps (tree_of_state s)
-gathered_tree keeps (state.Leaf leaf) unsplit = refl
-gathered_tree keeps (state.Stopped s) unsplit = refl
-gathered_tree keeps (state.Waiting f) unsplit = refl
 gathered_tree keeps (state.Split f) unsplit = absurd (unsplit tt)
+gathered_tree keeps other unsplit = refl
 
 -- ---- what is gathered
 -- one subproblem gathers more: so do all
@@ -98,10 +95,8 @@ gathered_one made all = refl
 -- ---- links
 -- a subproblem that was split, with its fraction
 split_of : (step : Step) (s : State) → IsSplitBy step s → (f : Fraction) × (s ≡ state.Split f) × (step.leg ≡ f.pair.leg) × (step.choice ≡ f.pair.choice)
-split_of step (state.Leaf leaf) is = absurd is
-split_of step (state.Stopped s) is = absurd is
-split_of step (state.Waiting f) is = absurd is
 split_of step (state.Split f) is = (f, refl, is.0, is.1)
+split_of step other is = absurd is
 
 -- the last of a list is the second part of the one that it is a part of, and the first part is before it
 module _ (all rest : List Subproblem) (last : Subproblem) (origin : Origin) (parts : ℕ → ℕ) (all_is : all ≡ rest ++ last ∷ []) (from_is : last.origin ≡ Some origin) (each : (k : ℕ) → k < length all → IsLinked all parts k) where
@@ -234,13 +229,11 @@ module _ (all rest : List Subproblem) (last : Subproblem) (origin : Origin) (par
 
     -- neither of the two was split
     unsplit : (k : ℕ) (s : State) → k < length all → r ≤ k → (at all k).state ≡ s → ¬ (IsSplitState s)
-    unsplit k (state.Leaf leaf) within late own split = split
-    unsplit k (state.Stopped s) within late own split = split
-    unsplit k (state.Waiting f) within late own split = split
     unsplit k (state.Split f) within late own split =
         let its = subst (λ s. HasItsParts all parts k s) own (each k within).own in
         let from = subst (λ o. IsFrom all parts (parts k) o) its.with_pair (each (parts k) (omega (arith, its.within))).from in
         absurd (omega (arith, its.within, from.earlier, late, count, is.shorter))
+    unsplit k other within late own split = split
 
 -- ---- what is gathered stays gathered
 module _ (t : Tables) (root : Domains) (pivots : Option ℕ) (final : Option ℤ) (total : ℕ) (c : Chronicle) (all rest : List Subproblem) (last : Subproblem) (origin : Origin) (all_is : all ≡ rest ++ last ∷ []) (from_is : last.origin ≡ Some origin)

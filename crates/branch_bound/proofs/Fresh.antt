@@ -20,9 +20,7 @@ use Rattle.branch_bound.specs.declared.subproblems.Subproblem.{Subproblem}
 -- ---- subproblems that stay open
 pub stopped_waits_not : (t : Tables) (keeps : Domains) (prices : Prices) (why : Cause) (worth : ℤ) → IsStoppedBy why → ¬ (IsOpenWorth t keeps prices why worth)
 stopped_waits_not t keeps prices (cause.Nodes mixed) worth stopped open_worth = stopped
-stopped_waits_not t keeps prices (cause.Pivots made) worth stopped open_worth = open_worth
-stopped_waits_not t keeps prices (cause.Grew made row column) worth stopped open_worth = open_worth
-stopped_waits_not t keeps prices (cause.Lift step at) worth stopped open_worth = open_worth
+stopped_waits_not t keeps prices other worth stopped open_worth = open_worth
 
 pub stopped_level : (t : Tables) (keeps : Domains) (level : Option ℤ) (prices : Prices) (why : Cause) → IsStoppedBy why → IsAtLevel t level keeps (node.Open prices why)
 stopped_level t keeps level prices why stopped = λ worth open_worth. absurd (stopped_waits_not t keeps prices why worth stopped open_worth)
@@ -34,9 +32,7 @@ of_done P bare sole refuted priced (tree.Bare leg) done = bare leg
 of_done P bare sole refuted priced tree.Sole done = sole
 of_done P bare sole refuted priced (tree.Refuted prices) done = refuted prices
 of_done P bare sole refuted priced (tree.Priced prices) done = priced prices
-of_done P bare sole refuted priced (tree.Open prices why) done = absurd done
-of_done P bare sole refuted priced (tree.Trim' leg choice p with_pair q without) done = absurd done
-of_done P bare sole refuted priced (tree.Split' leg choice prices mixed p with_pair q without) done = absurd done
+of_done P bare sole refuted priced other done = absurd done
 
 module _ (t : Tables) (keeps : Domains) where
   pub leaf_waits_not : (leaf : Tree) (parts number : ℕ) (worth : ℤ) → IsDoneLeaf leaf → ¬ (WaitsAs t keeps (own_node leaf) parts number worth)
@@ -56,18 +52,14 @@ module _ (t : Tables) (count : ℕ) (made : ℕ → Worked) (found : ℕ → Opt
   -- ---- all that were just made
   pub fresh_turn : (s : State) → IsFresh s → IsInTurn t count made found parts k (node_of s)
   fresh_turn (state.Leaf leaf) fresh = leaf_turn leaf fresh
-  fresh_turn (state.Stopped s) fresh = tt
-  fresh_turn (state.Waiting f) fresh = tt
   fresh_turn (state.Split f) fresh = absurd fresh
+  fresh_turn other fresh = tt
 
 pub fresh_parts : (all : List Subproblem) (parts : ℕ → ℕ) (k : ℕ) (s : State) → IsFresh s → HasItsParts all parts k s
-fresh_parts all parts k (state.Leaf leaf) fresh = tt
-fresh_parts all parts k (state.Stopped s) fresh = tt
-fresh_parts all parts k (state.Waiting f) fresh = tt
 fresh_parts all parts k (state.Split f) fresh = absurd fresh
+fresh_parts all parts k other fresh = tt
 
 pub fresh_single : (s : State) → IsFresh s → IsSingle s
-fresh_single (state.Leaf leaf) fresh = fresh
-fresh_single (state.Stopped s) fresh = fresh
 fresh_single (state.Waiting f) fresh = tt
 fresh_single (state.Split f) fresh = absurd fresh
+fresh_single other fresh = fresh

@@ -39,10 +39,8 @@ pub record IsReady (all : List Subproblem) (rank : Rank) (f : Fraction) : Type 0
   pub worth_is : f.worth ≡ rank.worth
 
 fraction_of : (s : State) (worth : ℤ) → IsWaitingAt s worth → (f : Fraction) × (s ≡ state.Waiting f) × (f.worth ≡ worth)
-fraction_of (state.Leaf leaf) worth waits = absurd waits
-fraction_of (state.Stopped s) worth waits = absurd waits
 fraction_of (state.Waiting f) worth waits = (f, refl, waits)
-fraction_of (state.Split f) worth waits = absurd waits
+fraction_of other worth waits = absurd waits
 
 module _ (t : Tables) (root : Domains) (s : Search) (rank : Rank) (search : IsSearch t root s) (next : IsNextRank s rank) where
   abbrev all : List Subproblem

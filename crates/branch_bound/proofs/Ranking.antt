@@ -67,22 +67,16 @@ stays (x ∷ ks) k y (suc n, below, is) =
 
 -- what holds of all ranks, and of that of one more subproblem where it waits
 pub all_with : (P : Rank → Type 0) (ks : List Rank) (n : ℕ) (made : State) → All P ks → ((worth : ℤ) → IsWaitingAt made worth → P (record { worth = worth; number = n })) → All P (ranks_with ks n made)
-all_with P ks n (state.Leaf leaf) all more = all
-all_with P ks n (state.Stopped s) all more = all
 all_with P ks n (state.Waiting f) all more = All-insert_key rank_cmp _ P ks all (more f.worth refl)
-all_with P ks n (state.Split f) all more = all
+all_with P ks n other all more = all
 
 stays_with : (ks : List Rank) (n : ℕ) (made : State) (y : Rank) → Contains ks y → Contains (ranks_with ks n made) y
-stays_with ks n (state.Leaf leaf) y there = there
-stays_with ks n (state.Stopped s) y there = there
 stays_with ks n (state.Waiting f) y there = stays ks _ y there
-stays_with ks n (state.Split f) y there = there
+stays_with ks n other y there = there
 
 pub inserted_with : (ks : List Rank) (n : ℕ) (made : State) (worth : ℤ) → IsWaitingAt made worth → Contains (ranks_with ks n made) (record { worth = worth; number = n })
-inserted_with ks n (state.Leaf leaf) worth is = absurd is
-inserted_with ks n (state.Stopped s) worth is = absurd is
 inserted_with ks n (state.Waiting f) worth is = subst (λ w. Contains (ranks_with ks n (state.Waiting f)) (record { worth = w; number = n })) is (inserted ks (record { worth = f.worth; number = n }))
-inserted_with ks n (state.Split f) worth is = absurd is
+inserted_with ks n other worth is = absurd is
 
 -- no rank comes before itself
 pub not_before : (worth : ℤ) (n : ℕ) → ¬ (IsNextBefore worth n worth n)

@@ -41,93 +41,65 @@ module _ (t : Tables) (cost : ℤ) where
       by_test false p q = q refl
 
   pub closed_known : (keeps : Domains) (whole : Tree) → IsOfTables t whole → IsOfTables t (closed t cost keeps whole)
-  closed_known keeps (tree.Bare leg) is = is
-  closed_known keeps tree.Sole is = is
-  closed_known keeps (tree.Refuted prices) is = is
-  closed_known keeps (tree.Priced prices) is = is
   closed_known keeps (tree.Open prices why) is = by_reach (IsOfTables t) keeps prices why (λ e. is.0) (λ e. is)
   closed_known keeps (tree.Trim' leg choice p with_pair q without) is = (is.0, closed_known (part keeps leg choice true) with_pair is.1, closed_known (part keeps leg choice false) without is.2)
   closed_known keeps (tree.Split' leg choice prices mixed p with_pair q without) is =
       (is.0, is.1, is.2, closed_known (part keeps leg choice true) with_pair is.3, closed_known (part keeps leg choice false) without is.4)
+  closed_known keeps other is = is
 
   pub closed_order : (keeps : Domains) (whole : Tree) → InWrittenOrder t whole → InWrittenOrder t (closed t cost keeps whole)
-  closed_order keeps (tree.Bare leg) is = is
-  closed_order keeps tree.Sole is = is
-  closed_order keeps (tree.Refuted prices) is = is
-  closed_order keeps (tree.Priced prices) is = is
   closed_order keeps (tree.Open prices why) is =
       by_reach (InWrittenOrder t) keeps prices why (λ e. all_one (IsNodeInOrder t) (ordered.Priced prices) (All-head (IsNodeInOrder t) (ordered.Open prices why) [] is).0) (λ e. is)
   closed_order keeps (tree.Trim' leg choice p with_pair q without) is =
       all_turned (IsNodeInOrder t) (ordered.Trim leg choice) _ (tree_nodes with_pair) (tree_nodes without) _ _ (λ own. own) (closed_order (part keeps leg choice true) with_pair) (closed_order (part keeps leg choice false) without) is
   closed_order keeps (tree.Split' leg choice prices mixed p with_pair q without) is =
       all_turned (IsNodeInOrder t) (ordered.Split leg choice prices mixed) _ (tree_nodes with_pair) (tree_nodes without) _ _ (λ own. own) (closed_order (part keeps leg choice true) with_pair) (closed_order (part keeps leg choice false) without) is
+  closed_order keeps other is = is
 
   pub closed_depth : (keeps : Domains) (whole : Tree) → depth_of (closed t cost keeps whole) ≡ depth_of whole
-  closed_depth keeps (tree.Bare leg) = refl
-  closed_depth keeps tree.Sole = refl
-  closed_depth keeps (tree.Refuted prices) = refl
-  closed_depth keeps (tree.Priced prices) = refl
   closed_depth keeps (tree.Open prices why) = by_reach (λ x. depth_of x ≡ 0) keeps prices why (λ e. refl) (λ e. refl)
   closed_depth keeps (tree.Trim' leg choice p with_pair q without) =
       omega (arith, closed_depth (part keeps leg choice true) with_pair, closed_depth (part keeps leg choice false) without)
   closed_depth keeps (tree.Split' leg choice prices mixed p with_pair q without) =
       omega (arith, closed_depth (part keeps leg choice true) with_pair, closed_depth (part keeps leg choice false) without)
+  closed_depth keeps other = refl
 
   pub closed_splits : (keeps : Domains) (whole : Tree) → splits_in (closed t cost keeps whole) ≡ splits_in whole
-  closed_splits keeps (tree.Bare leg) = refl
-  closed_splits keeps tree.Sole = refl
-  closed_splits keeps (tree.Refuted prices) = refl
-  closed_splits keeps (tree.Priced prices) = refl
   closed_splits keeps (tree.Open prices why) = by_reach (λ x. splits_in x ≡ 0) keeps prices why (λ e. refl) (λ e. refl)
   closed_splits keeps (tree.Trim' leg choice p with_pair q without) =
       omega (arith, closed_splits (part keeps leg choice true) with_pair, closed_splits (part keeps leg choice false) without)
   closed_splits keeps (tree.Split' leg choice prices mixed p with_pair q without) =
       omega (arith, closed_splits (part keeps leg choice true) with_pair, closed_splits (part keeps leg choice false) without)
+  closed_splits keeps other = refl
 
   pub closed_searched : (keeps : Domains) (whole : Tree) → AreSearched t keeps whole → AreSearched t keeps (closed t cost keeps whole)
-  closed_searched keeps (tree.Bare leg) is = is
-  closed_searched keeps tree.Sole is = is
-  closed_searched keeps (tree.Refuted prices) is = is
-  closed_searched keeps (tree.Priced prices) is = is
   closed_searched keeps (tree.Open prices why) is = by_reach (AreSearched t keeps) keeps prices why (λ e. is) (λ e. is)
   closed_searched keeps (tree.Trim' leg choice p with_pair q without) is = absurd is
   closed_searched keeps (tree.Split' leg choice prices mixed p with_pair q without) is =
       (is.0, closed_searched (part keeps leg choice true) with_pair is.1, closed_searched (part keeps leg choice false) without is.2)
+  closed_searched keeps other is = is
 
   closed_top : (keeps : Domains) (removals : List Removal) (whole : Tree) → AreOnTop t keeps removals whole → AreOnTop t keeps removals (closed t cost keeps whole)
   closed_top keeps [] whole is = closed_searched keeps whole is
   closed_top keeps (removal ∷ removals) (tree.Trim' leg choice p with_pair q without) is =
       (is.0, is.1, ap (closed t cost (part keeps leg choice true)) is.2, closed_top (part keeps leg choice false) removals without is.3)
-  closed_top keeps (removal ∷ removals) (tree.Bare leg) is = absurd is
-  closed_top keeps (removal ∷ removals) tree.Sole is = absurd is
-  closed_top keeps (removal ∷ removals) (tree.Refuted prices) is = absurd is
-  closed_top keeps (removal ∷ removals) (tree.Priced prices) is = absurd is
-  closed_top keeps (removal ∷ removals) (tree.Open prices why) is = absurd is
-  closed_top keeps (removal ∷ removals) (tree.Split' leg choice prices mixed p with_pair q without) is = absurd is
+  closed_top keeps (removal ∷ removals) other is = absurd is
 
   pub closed_trimmed : (whole : Tree) → IsTrimmed t whole → IsTrimmed t (closed t cost (all_pairs t) whole)
   closed_trimmed whole is = record { removals = is.removals; given = is.given; on_top = closed_top (all_pairs t) is.removals whole is.on_top }
 
   pub closed_caused : (pivots : Option ℕ) (keeps : Domains) (above : Prices) (whole : Tree) → AreCaused t pivots keeps above whole → AreCaused t pivots keeps above (closed t cost keeps whole)
-  closed_caused pivots keeps above (tree.Bare leg) is = is
-  closed_caused pivots keeps above tree.Sole is = is
-  closed_caused pivots keeps above (tree.Refuted prices) is = is
-  closed_caused pivots keeps above (tree.Priced prices) is = is
   closed_caused pivots keeps above (tree.Open prices why) is = by_reach (AreCaused t pivots keeps above) keeps prices why (λ e. tt) (λ e. is)
   closed_caused pivots keeps above (tree.Trim' leg choice p with_pair q without) is =
       (closed_caused pivots (part keeps leg choice true) above with_pair is.0, closed_caused pivots (part keeps leg choice false) above without is.1)
   closed_caused pivots keeps above (tree.Split' leg choice prices mixed p with_pair q without) is =
       (is.0, closed_caused pivots (part keeps leg choice true) prices with_pair is.1, closed_caused pivots (part keeps leg choice false) prices without is.2)
+  closed_caused pivots keeps above other is = is
 
   -- a child of a trim that ends at once stays as it is
   ends_closed : (keeps : Domains) (whole : Tree) → EndsAtOnce t keeps whole → EndsAtOnce t keeps (closed t cost keeps whole)
-  ends_closed keeps (tree.Bare leg) ends = ends
-  ends_closed keeps tree.Sole ends = ends
-  ends_closed keeps (tree.Refuted prices) ends = ends
-  ends_closed keeps (tree.Priced prices) ends = ends
   ends_closed keeps (tree.Open prices why) ends = absurd ends
-  ends_closed keeps (tree.Trim' leg choice p with_pair q without) ends = ends
-  ends_closed keeps (tree.Split' leg choice prices mixed p with_pair q without) ends = ends
+  ends_closed keeps other ends = ends
 
   one_closed : (keeps : Domains) (leg choice : ℕ) (with_pair without : Tree) → OneEnds t keeps leg choice with_pair without
       → OneEnds t keeps leg choice (closed t cost (part keeps leg choice true) with_pair) (closed t cost (part keeps leg choice false) without)
@@ -149,10 +121,6 @@ module _ (t : Tables) (cost : ℤ) where
       (here.each rule.Pairs) tt tt (here.each rule.Parts) (here.each rule.Mixed) (here.each rule.Fraction)
 
   pub closed_sound : (keeps : Domains) (whole : Tree) → AreSound t (Some cost) keeps whole → AreSound t (Some cost) keeps (closed t cost keeps whole)
-  closed_sound keeps (tree.Bare leg) sound = sound
-  closed_sound keeps tree.Sole sound = sound
-  closed_sound keeps (tree.Refuted prices) sound = sound
-  closed_sound keeps (tree.Priced prices) sound = sound
   closed_sound keeps (tree.Open prices why) sound =
       let here = All-head (IsSound t (Some cost)) (node keeps (tree.Open prices why)) [] sound in
       let proper : ArePrices t prices = prices_known t (Some cost) (node keeps (tree.Open prices why)) prices here refl in
@@ -165,12 +133,9 @@ module _ (t : Tables) (cost : ℤ) where
   closed_sound keeps (tree.Split' leg choice prices mixed p with_pair q without) sound =
       all_turned (IsSound t (Some cost)) _ _ (nodes_in (part keeps leg choice true) with_pair) (nodes_in (part keeps leg choice false) without) _ _ (split_sound keeps leg choice prices mixed with_pair without p q)
       (closed_sound (part keeps leg choice true) with_pair) (closed_sound (part keeps leg choice false) without) sound
+  closed_sound keeps other sound = sound
 
   pub closed_soles : (keeps : Domains) (whole : Tree) → All (AnswersSole t (Some cost)) (nodes_in keeps whole) → All (AnswersSole t (Some cost)) (nodes_in keeps (closed t cost keeps whole))
-  closed_soles keeps (tree.Bare leg) soles = soles
-  closed_soles keeps tree.Sole soles = soles
-  closed_soles keeps (tree.Refuted prices) soles = soles
-  closed_soles keeps (tree.Priced prices) soles = soles
   closed_soles keeps (tree.Open prices why) soles =
       by_reach (λ x. All (AnswersSole t (Some cost)) (nodes_in keeps x)) keeps prices why
       (λ e. all_one (AnswersSole t (Some cost)) (node keeps (tree.Priced prices)) (answers_none t (Some cost) keeps (tree.Priced prices) (λ same. cc))) (λ e. soles)
@@ -178,6 +143,7 @@ module _ (t : Tables) (cost : ℤ) where
       all_turned (AnswersSole t (Some cost)) _ _ (nodes_in (part keeps leg choice true) with_pair) (nodes_in (part keeps leg choice false) without) _ _ (λ own. answers_none t (Some cost) keeps _ (λ same. cc)) (closed_soles (part keeps leg choice true) with_pair) (closed_soles (part keeps leg choice false) without) soles
   closed_soles keeps (tree.Split' leg choice prices mixed p with_pair q without) soles =
       all_turned (AnswersSole t (Some cost)) _ _ (nodes_in (part keeps leg choice true) with_pair) (nodes_in (part keeps leg choice false) without) _ _ (λ own. answers_none t (Some cost) keeps _ (λ same. cc)) (closed_soles (part keeps leg choice true) with_pair) (closed_soles (part keeps leg choice false) without) soles
+  closed_soles keeps other soles = soles
 
   -- a node that is not open leaves no gap
   no_gap : (keeps : Domains) (whole : Tree) → ((prices : Prices) (why : Cause) → whole ≢ tree.Open prices why) → LeavesGap t (Some cost) (node keeps whole)
@@ -210,10 +176,6 @@ module _ (t : Tables) (cost : ℤ) where
 
   -- ---- the node at which a plan is found
   pub found_closed : (a : List ℕ) (c : ℤ) (keeps : Domains) (whole : Tree) → Any (IsFoundAt t a c) (nodes_in keeps whole) → Any (IsFoundAt t a c) (nodes_in keeps (closed t cost keeps whole))
-  found_closed a c keeps (tree.Bare leg) found = found
-  found_closed a c keeps tree.Sole found = found
-  found_closed a c keeps (tree.Refuted prices) found = found
-  found_closed a c keeps (tree.Priced prices) found = found
   found_closed a c keeps (tree.Open prices why) found = absurd (only (IsFoundAt t a c) (node keeps (tree.Open prices why)) found).here.ends
   found_closed a c keeps (tree.Trim' leg choice p with_pair q without) found =
       any_turned (IsFoundAt t a c) _ _ (nodes_in (part keeps leg choice true) with_pair) (nodes_in (part keeps leg choice false) without) _ _
@@ -221,3 +183,4 @@ module _ (t : Tables) (cost : ℤ) where
   found_closed a c keeps (tree.Split' leg choice prices mixed p with_pair q without) found =
       any_turned (IsFoundAt t a c) _ _ (nodes_in (part keeps leg choice true) with_pair) (nodes_in (part keeps leg choice false) without) _ _
       (λ here. absurd here.here.ends) (found_closed a c (part keeps leg choice true) with_pair) (found_closed a c (part keeps leg choice false) without) found
+  found_closed a c keeps other found = found

@@ -95,7 +95,6 @@ module _ (t : Tables) (pivots : Option ℕ) (best : Option LegalPlan) (plan : If
       )
 
   pub stopped_here : (prices : Prices) (why : Cause) (made : State) → IsSearched t keeps → AreGood t above → prices ≡ above → IsWhyStopped t keeps pivots why → IsStoppedWith t keeps prices why made → IsExamined t pivots best best keeps above made
-  stopped_here prices why (state.Leaf leaf) searched good same is stays = absurd stays
   stopped_here prices why (state.Stopped s) searched good same is stays =
       let parts = stopped_parts s.prices s.why searched good (stays.0 ∙ same) (subst (IsWhyStopped t keeps pivots) (sym stays.1) is) in
       record {
@@ -108,8 +107,7 @@ module _ (t : Tables) (pivots : Option ℕ) (best : Option LegalPlan) (plan : If
         place = inl refl;
         replaced = inl refl;
       }
-  stopped_here prices why (state.Waiting f) searched good same is stays = absurd stays
-  stopped_here prices why (state.Split f) searched good same is stays = absurd stays
+  stopped_here prices why other searched good same is stays = absurd stays
 
   -- it waits to be split
   pub waiting : (f : Fraction) → IsFractional t keeps f → IfSome (cost_of_plan best) (λ c. f.worth <ℤ c) → IsExamined t pivots best best keeps above (state.Waiting f)

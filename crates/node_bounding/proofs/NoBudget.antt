@@ -13,16 +13,10 @@ use Rattle.node_bounding.specs.Causes.{AreCaused, IsOpenBy}
 
 module _ (t : Tables) where
   never_spent : (keeps : Domains) (above prices : Prices) (why : Cause) → IsOpenBy t keeps None above prices why → by_pivots why ≡ 0
-  never_spent keeps above prices (cause.Nodes mixed) is = refl
   never_spent keeps above prices (cause.Pivots made) is = absurd is.stopped.run.ends
-  never_spent keeps above prices (cause.Grew made row column) is = refl
-  never_spent keeps above prices (cause.Lift step at) is = refl
+  never_spent keeps above prices other is = refl
 
   pub none_spent : (keeps : Domains) (above : Prices) (whole : Tree) → AreCaused t None keeps above whole → open_pivots whole ≡ 0
-  none_spent keeps above (tree.Bare leg) is = refl
-  none_spent keeps above tree.Sole is = refl
-  none_spent keeps above (tree.Refuted prices) is = refl
-  none_spent keeps above (tree.Priced prices) is = refl
   none_spent keeps above (tree.Open prices why) is = never_spent keeps above prices why is
   none_spent keeps above (tree.Trim' leg choice p with_pair q without) is =
       let first = none_spent (part keeps leg choice true) above with_pair is.0 in
@@ -32,3 +26,4 @@ module _ (t : Tables) where
       let first = none_spent (part keeps leg choice true) prices with_pair is.1 in
       let second = none_spent (part keeps leg choice false) prices without is.2 in
       omega (arith, first, second)
+  none_spent keeps above other is = refl
