@@ -1,6 +1,6 @@
 -- Legs flown at their own times; and where each leg departs once, all that is flown. What the words for departures and choices
 -- stand for is looked at here for a leg's own time.
-use Rattle.std.proofs.Common.{◌≡◌, ℕ, ◌+◌, ◌*◌, ◌<◌, false, nat_lt, if◌then◌else◌, List, length, slice_index_or, sym, ◌∙◌, ap, subst, inl, inr, arith}
+use Rattle.std.proofs.Common.{◌≡◌, ℕ, ◌+◌, ◌*◌, ◌<◌, false, nat_lt, if◌then◌else◌, length, slice_index_or, sym, ◌∙◌, ap, subst, inl, inr, arith}
 use Rattle.std.proofs.lemmas.Bool.{cases_lt, lt-ltb}
 use Rattle.std.proofs.lemmas.Bool.Decides.{nat_tests}
 use Rattle.std.proofs.lemmas.List.{get_or_past}
@@ -15,7 +15,7 @@ use Rattle.fleet_model.specs.Plain.{IsPlain}
 use Rattle.fleet_model.specs.Schedule.{IsFlown, choices_in, departures_in, fleet_by, fleets_in, leg_of, leg_on, legs_in, no_leg, own_shift, pair_on, shifts_in}
 use Rattle.fleet_model.specs.Times.{departure}
 use Rattle.fleet_model.specs.Windows.{own_slot}
-use Rattle.fleet_model.proofs.Departures.{block_fleet, block_flown, block_slot, last_adds}
+use Rattle.fleet_model.proofs.Departures.{block_flown, block_slot, last_adds}
 use Rattle.fleet_model.proofs.PlainTables.{once_plain, one_time, plain_fleet, plain_pair}
 
 -- a leg's own time is among its times
@@ -29,11 +29,6 @@ pub own_flown : (t : Tables) (l f : ℕ) → l < legs_in t → f < fleets_in t �
 unfolding own_choice
 own_flown t l f below known = block_flown t l f (own_slot (leg_of t l).shifts) below known (has_own t l)
 
--- the fleet of the pair by which a fleet flies a leg at its own time
-pub own_fleet : (t : Tables) (l f : ℕ) → l < legs_in t → f < fleets_in t → fleet_by t (own_pair t l f) ≡ f
-unfolding own_choice
-own_fleet t l f leg fleet = block_fleet t l f (own_slot (leg_of t l).shifts) (has_own t l)
-
 own_at : (t : Tables) (l f : ℕ) → departure t (own_pair t l f) ≡ (slice_index_or (leg_of t l).shifts (own_slot (leg_of t l).shifts) (own_shift 0)).dep
 unfolding own_choice departure
 own_at t l f = ap (λ k. (slice_index_or (leg_of t l).shifts k (own_shift 0)).dep) (block_slot t l f (own_slot (leg_of t l).shifts) (has_own t l))
@@ -41,11 +36,6 @@ own_at t l f = ap (λ k. (slice_index_or (leg_of t l).shifts k (own_shift 0)).de
 -- a leg's own time is one, whichever fleet flies it
 pub own_departure : (t : Tables) (l f g : ℕ) → departure t (own_pair t l f) ≡ departure t (own_pair t l g)
 own_departure t l f g = own_at t l f ∙ sym (own_at t l g)
-
--- a fleet flies a leg at its own time by one choice, whichever tables they are of, where the legs are the same
-pub own_alike : (t u : Tables) → t.legs ≡ u.legs → own_choice t ≡ own_choice u
-unfolding own_choice
-own_alike t u legs = ap (λ (legs : List Leg). λ (l f : ℕ). f * length (slice_index_or legs l no_leg).shifts + own_slot (slice_index_or legs l no_leg).shifts) legs
 
 -- ---- where each leg departs once
 plain_own : (t : Tables) (l f : ℕ) → IsPlain t → own_pair t l f ≡ leg_on l f

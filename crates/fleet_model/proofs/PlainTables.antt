@@ -1,6 +1,6 @@
 -- On plain tables what is added up over departures is added up over legs. What the words for choices and departures stand
 -- for is looked at here for legs that depart at one time.
-use Rattle.std.proofs.Common.{◌≡◌, ℕ, zero, suc, ◌+◌, ◌*◌, ◌/◌, ◌<◌, ◌≤◌, if◌then◌else◌, List, [], ◌∷◌, ◌++◌, length, length-append, slice_index_or, refl, sym, ◌∙◌, ap, subst, inl, inr, arith}
+use Rattle.std.proofs.Common.{◌≡◌, ℕ, zero, suc, ◌+◌, ◌*◌, ◌/◌, ◌<◌, ◌≤◌, if◌then◌else◌, List, ◌++◌, length, length-append, slice_index_or, refl, sym, ◌∙◌, ap, inl, inr, arith}
 use Rattle.std.proofs.lemmas.Bool.{cases_lt}
 use Rattle.std.proofs.lemmas.List.{get_or_past}
 use Rattle.std.proofs.lemmas.Nat.{mul-le}
@@ -13,12 +13,12 @@ use Rattle.fleet_model.specs.declared.parts.Departure.{Departure}
 use Rattle.fleet_model.specs.declared.parts.Leg.{Leg}
 use Rattle.fleet_model.specs.declared.parts.Pair.{Pair}
 use Rattle.fleet_model.specs.declared.tables.Tables.{Tables}
-use Rattle.fleet_model.specs.Counts.{Weights, arrived, coming, departed, has_come, has_left, leaving}
+use Rattle.fleet_model.specs.Counts.{Weights, arrived, departed, has_come, has_left}
 use Rattle.fleet_model.specs.Plain.{IsPlain}
-use Rattle.fleet_model.specs.Schedule.{IsPair, choice_on, choices_in, departures_in, fleet_by, fleets_in, leg_at, leg_of, leg_on, legs_in, no_departure, no_leg, pair_on, period_of, shifts_in}
+use Rattle.fleet_model.specs.Schedule.{IsPair, choice_on, choices_in, departures_in, fleet_by, fleets_in, leg_at, leg_on, legs_in, no_departure, no_leg, pair_on, period_of, shifts_in}
 use Rattle.fleet_model.specs.Times.{departure, laps_of}
-use Rattle.fleet_model.specs.Use.{laps_at, laps_flown}
-use Rattle.fleet_model.specs.Windows.{at_time, departures_below, departures_of_legs, departures_on, times_of}
+use Rattle.fleet_model.specs.Use.{laps_flown}
+use Rattle.fleet_model.specs.Windows.{at_time, departures_below, departures_on, times_of}
 use Rattle.fleet_model.proofs.Departures.{some_times}
 use Rattle.fleet_model.proofs.PeriodMinutes.{departs_always}
 
@@ -64,10 +64,6 @@ plain_count t plain = ap length (plain_list t plain) ∙ length-list_below (λ l
 
 plain_at : (t : Tables) (d : ℕ) → IsPlain t → d < legs_in t → slice_index_or t.departures d no_departure ≡ at_time d 0
 plain_at t d plain below = ap (λ listed. slice_index_or listed d no_departure) (plain_list t plain) ∙ get_or-list_below (λ l. at_time l 0) (legs_in t) d no_departure below
-
-pub plain_leg : (t : Tables) (d : ℕ) → IsPlain t → d < legs_in t → leg_at t d ≡ d
-unfolding leg_at
-plain_leg t d plain below = ap (λ (departure : Departure). departure.leg) (plain_at t d plain below)
 
 -- a fleet flies a leg's one departure by the choice that has the fleet's number
 pub plain_pair : (t : Tables) (d f : ℕ) → IsPlain t → d < legs_in t → pair_on t d f ≡ leg_on d f

@@ -97,10 +97,6 @@ module _ (t : Tables) (rises : List Rise) (are : AreRises t rises) where
       by_case true z small = small
       by_case false z small = omega (arith, ints)
 
-  pub rise_some : (s m : ℕ) → pos 0 ≤ℤ greatest_rise rises s m
-  unfolding greatest_rise
-  rise_some s m = greatest_some (rise_where rises s m) (length rises)
-
   taken_small : (moments : List (List ℕ)) (j s : ℕ) → rise_taken rises moments j s ≤ℤ pos (3 * max_price)
   taken_small moments j s = by_case (nat_lt j (length (moments_at moments s)))
     where
