@@ -53,15 +53,15 @@ pub struct Departure {
 }
 
 /// A leg with one of its choices, both by number: what an assignment chooses and a subproblem keeps. The choices of a leg are
-/// its fleets, each at each of its times, and last to be left out. Pairs are ordered by leg, then choice.
-#[derive(Clone, Copy, Debug, PartialEq, Eq, PartialOrd, Ord, Hash)]
+/// its fleets, each at each of its times, and last to be left out. In lists they go by leg, then choice.
+#[derive(Clone, Copy, Debug, PartialEq, Eq)]
 pub struct Pair {
     pub leg: u32,
     pub choice: u32,
 }
 
 /// What it costs to fly a leg with a fleet, in cost units.
-#[derive(Clone, Copy, Debug, PartialEq, Eq)]
+#[derive(Clone, Copy)]
 pub struct PairCost {
     pub leg: u32,
     pub fleet: u32,
@@ -69,7 +69,7 @@ pub struct PairCost {
 }
 
 /// A leg that arrives and one that departs, by number, in one aircraft.
-#[derive(Clone, Copy, PartialEq, Eq, Hash)]
+#[derive(Clone, Copy, PartialEq, Eq)]
 pub struct Connection {
     pub arriving: u32,
     pub departing: u32,
