@@ -18,7 +18,7 @@ use dual_bound::prices::MAX_PRICE;
 use dual_bound::{PriceFinder, PriceStep, Prices};
 use entries::{Entries, NoMemory as OutOfMemory};
 use fleet_model::Tables;
-use std::alloc::{AllocError, AllocFailed, Global};
+use std::alloc::Global;
 use thiserror::Error;
 
 /// Why prices are not paid back.
@@ -35,22 +35,6 @@ impl From<OutOfMemory> for PaybackError {
     ghost from_gives = { λ _ e. e ≡ payback.NoMemory };
 
     fn from(_: OutOfMemory) -> PaybackError {
-        PaybackError::NoMemory
-    }
-}
-
-impl From<AllocError> for PaybackError {
-    ghost from_gives = { λ _ e. e ≡ payback.NoMemory };
-
-    fn from(_: AllocError) -> PaybackError {
-        PaybackError::NoMemory
-    }
-}
-
-impl<T: Drop> From<AllocFailed<T>> for PaybackError {
-    ghost from_gives = { λ _ e. e ≡ payback.NoMemory };
-
-    fn from(_: AllocFailed<T>) -> PaybackError {
         PaybackError::NoMemory
     }
 }
