@@ -87,9 +87,6 @@ in_back xs ys x n k place is long stands = record {
 
 -- .. in four lists one behind another
 module _ {X : Type 0} (xs ys zs ws : List X) where
-  pub in_first : (x : X) (k : ℕ) → StandsAt xs k x → StandsAt (xs ++ ys ++ zs ++ ws) k x
-  in_first x k stands = in_front (xs ++ ys ++ zs) ws x k (in_front (xs ++ ys) zs x k (in_front xs ys x k stands))
-
   pub in_second : (x : X) (n k place : ℕ) → place ≡ n + k → length xs ≡ n → StandsAt ys k x → StandsAt (xs ++ ys ++ zs ++ ws) place x
   in_second x n k place is long stands = in_front (xs ++ ys ++ zs) ws x place (in_front (xs ++ ys) zs x place (in_back xs ys x n k place is long stands))
 

@@ -16,10 +16,10 @@ use Rattle.lp_rows.specs.declared.kinds.Node.{Node}
 use Rattle.lp_rows.specs.declared.outline.Outline.{Outline}
 use Rattle.lp_rows.specs.Entries.{IsColumn, IsLine, column_cost}
 use Rattle.lp_rows.specs.Layout.{Starts, all_arcs, all_kept, all_nodes, all_parks, arc_stays, moment_at, node_of_place, park_at, program_columns, program_lines, starts_in}
-use Rattle.lp_rows.specs.Outline.{IsOutline, StandsAt, arc_in, balance_line, column_count, columns_in, count_line, ground_column, line_count, lines_in, node_in, park_in, parking_line, room_column, slack_column}
+use Rattle.lp_rows.specs.Outline.{IsOutline, StandsAt, arc_in, balance_line, column_count, columns_in, count_line, ground_column, lines_in, node_in, park_in, parking_line, room_column, slack_column}
 use Rattle.lp_rows.specs.Staying.{AreStaying, passing_below, stays_at}
 use Rattle.lp_rows.specs.Program.{AreOutlinedRows, AreRows, line_numbers}
-use Rattle.lp_rows.proofs.ListPlaces.{in_first, in_fourth, in_list_below, in_map, in_second, in_third}
+use Rattle.lp_rows.proofs.ListPlaces.{in_fourth, in_list_below, in_map, in_second, in_third}
 use Rattle.lp_rows.proofs.PassingNumbers.{IsFound, bisected, by_numbers, few_pass, passing_long, placed}
 use Rattle.lp_rows.proofs.Totals.{AreFew, columns_are_known, few_lines, few_parts, lines_are_known, lines_long}
 
@@ -77,9 +77,6 @@ module _ (o : Outline) where
   )
 
   -- ---- lines
-  pub cover_stands : (l : ℕ) → l < o.legs → StandsAt (lines_in o) l (Cover l)
-  cover_stands l below = in_first (list_below Cover o.legs) (map Balance o.nodes) (list_below Count o.fleets) (map Parking o.parks) _ l (in_list_below Cover o.legs l below)
-
   pub balance_stands : (number place : ℕ) → place ≡ balance_line o number → number < length o.nodes → StandsAt (lines_in o) place (Balance (node_in o number))
   balance_stands number place is below =
       in_second (list_below Cover o.legs) (map Balance o.nodes) (list_below Count o.fleets) (map Parking o.parks) _ o.legs number place is (length-list_below Cover o.legs) (in_map Balance o.nodes (node_of_place 0 0 0) number below)
@@ -92,18 +89,6 @@ module _ (o : Outline) where
   parking_stands number place is below =
       in_fourth (list_below Cover o.legs) (map Balance o.nodes) (list_below Count o.fleets) (map Parking o.parks) _ o.legs (length o.nodes) o.fleets number place is (length-list_below Cover o.legs) (length-map o.nodes Balance)
       (length-list_below Count o.fleets) (in_map Parking o.parks (park_at 0 0) number below)
-
-  pub all_lines : length (lines_in o) ≡ line_count o
-  all_lines = omega (
-    arith,
-    length-append (list_below Cover o.legs ++ map Balance o.nodes ++ list_below Count o.fleets) (map Parking o.parks),
-    length-append (list_below Cover o.legs ++ map Balance o.nodes) (list_below Count o.fleets),
-    length-append (list_below Cover o.legs) (map Balance o.nodes),
-    length-list_below Cover o.legs,
-    length-map o.nodes Balance,
-    length-map o.parks Parking,
-    length-list_below Count o.fleets,
-  )
 
 -- ---- the arcs that stay
 pub are_staying : (h : Node → Option ℕ) (nodes : List Node) (moments : List (Option ℕ)) (arcs : List ℕ) → moments ≡ map h nodes → arcs ≡ passing_below (stays_at moments) (length moments) → AreStaying (length nodes) moments arcs

@@ -68,11 +68,8 @@ slack_column o f = length o.pairs + length o.arcs + f
 abbrev pub room_column : Outline → ℕ → ℕ
 room_column o number = length o.pairs + length o.arcs + o.fleets + number
 
--- where the lines stand: the cover lines, by leg; the balance lines, by the numbers of their nodes; the count lines,
--- by fleet; the parking lines, by the numbers of their days
-abbrev pub cover_line : Outline → ℕ → ℕ
-cover_line o l = l
-
+-- where the lines stand behind the cover lines, which are by leg: the balance lines, by the numbers of their nodes; the count
+-- lines, by fleet; the parking lines, by the numbers of their days
 abbrev pub balance_line : Outline → ℕ → ℕ
 balance_line o number = o.legs + number
 
@@ -86,12 +83,9 @@ parking_line o number = o.legs + length o.nodes + o.fleets + number
 abbrev pub first_priced_line : Outline → ℕ
 first_priced_line o = o.legs
 
--- how many there are
+-- how many columns there are
 abbrev pub column_count : Outline → ℕ
 column_count o = length o.pairs + length o.arcs + o.fleets + length o.parks
-
-abbrev pub line_count : Outline → ℕ
-line_count o = o.legs + length o.nodes + o.fleets + length o.parks
 
 -- an entry stands at a place of a list
 pub record StandsAt {X : Type 0} (list : List X) (place : ℕ) (entry : X) : Type 0 where

@@ -2,8 +2,8 @@
 ghost use Rattle.std.specs.Prelude.{◌≡◌, ◌<◌, length, IfOk, IfSome};
 ghost use Rattle.fleet_model.specs.Kept.{kept_by};
 ghost use Rattle.lp_rows.specs.declared.kinds.Column.TheVariants.{Flight, Room, Slack};
-ghost use Rattle.lp_rows.specs.declared.kinds.Line.TheVariants.{Balance, Count, Cover, Parking};
-ghost use Rattle.lp_rows.specs.Outline.{IsOutline, StandsAt, arc_in, balance_line, column_count, columns_in, count_line, cover_line, first_priced_line, flight_column, ground_column, line_count, lines_in, node_in, outline_pair, park_in, parking_line, room_column, slack_column};
+ghost use Rattle.lp_rows.specs.declared.kinds.Line.TheVariants.{Balance, Count, Parking};
+ghost use Rattle.lp_rows.specs.Outline.{IsOutline, StandsAt, arc_in, balance_line, column_count, columns_in, count_line, first_priced_line, flight_column, ground_column, lines_in, node_in, outline_pair, park_in, parking_line, room_column, slack_column};
 
 use crate::arcs::{arc_moments, staying_arcs};
 use crate::layout::{kept_pairs, network_nodes, parks};
@@ -44,14 +44,6 @@ impl Outline {
         self.pairs.len() as u32 + self.arcs.len() as u32 + self.fleets + self.parks.len() as u32
     }
 
-    /// How many lines there are.
-    pub fn line_count(&self) -> u32
-        ensures value { result ≡ line_count self.now }
-        ensures all { result ≡ length (lines_in self.now) }
-    {
-        self.legs + self.nodes.len() as u32 + self.fleets + self.parks.len() as u32
-    }
-
     /// The column of the kept pair of this number.
     pub fn flight_column(&self, number: u32) -> u32
         requires { number < length self.now.pairs }
@@ -89,15 +81,6 @@ impl Outline {
         ensures stands { StandsAt (columns_in self.now) result (Room (park_in self.now number)) }
     {
         self.pairs.len() as u32 + self.arcs.len() as u32 + self.fleets + number
-    }
-
-    /// The line that covers a leg.
-    pub fn cover_line(&self, leg: u32) -> u32
-        requires { leg < self.now.legs }
-        ensures place { result ≡ cover_line self.now leg }
-        ensures stands { StandsAt (lines_in self.now) result (Cover leg) }
-    {
-        leg
     }
 
     /// The balance line of the node of this number.
