@@ -1,8 +1,7 @@
-ghost use Rattle.std.specs.Prelude.{◌≡◌, [], pos};
+ghost use Rattle.std.specs.Prelude.{◌≡◌};
 ghost use Rattle.dual_bound.specs.Prices.{rent_of};
 
 use entries::Entries;
-use std::alloc::Global;
 
 /// The greatest scale of prices and of fractional assignments.
 pub const MAX_SCALE: i128 = 1_000_000_000_000_000_000;
@@ -53,21 +52,6 @@ pub struct Prices {
 }
 
 impl Prices {
-    /// No price, no rent and no charge, over the scale 1. Takes no memory.
-    pub fn zero(alloc: Global) -> Prices
-        ensures scale { result.scale ≡ pos 1 }
-        ensures rents { result.rents ≡ [] }
-        ensures steps { result.steps ≡ [] }
-        ensures charges { result.charges ≡ [] }
-    {
-        Prices {
-            scale: 1,
-            rents: Entries::from_vec(Vec::new(alloc)),
-            steps: Entries::from_vec(Vec::new(alloc)),
-            charges: Entries::from_vec(Vec::new(alloc)),
-        }
-    }
-
     /// The rent of an aircraft of a fleet, in cost units over the scale; 0 where the list is shorter. Takes no memory.
     pub fn rent(&self, fleet: u32) -> i128
         ensures { result ≡ rent_of self.now fleet }
