@@ -1,5 +1,5 @@
 //! The worth of prices where a fleet may have another number of aircraft than the tables say.
-ghost use Rattle.std.specs.Prelude.{◌≡◌, ◌<◌, ◌≤◌, ◌*ℤ◌, pos};
+ghost use Rattle.std.specs.Prelude.{◌≡◌, ◌<◌, ◌≤◌};
 ghost use Rattle.fleet_model.specs.declared.limits.TheConstants.{MAX_AIRCRAFT};
 ghost use Rattle.fleet_model.specs.declared.tables.Tables.{Tables};
 ghost use Rattle.fleet_model.specs.Kept.{kept_by};
@@ -7,13 +7,13 @@ ghost use Rattle.fleet_model.specs.OtherSizes.{IsOtherSize};
 ghost use Rattle.fleet_model.specs.Schedule.{fleets_in};
 ghost use Rattle.fleet_model.specs.Sizes.{AreSizes, HoldsBy};
 ghost use Rattle.frac_row.specs.Ratio.{IsCeiling};
-ghost use Rattle.dual_bound.specs.Prices.{ArePrices, AreWithin, IsScale, rent_of};
+ghost use Rattle.dual_bound.specs.Prices.{ArePrices, AreWithin, IsScale};
 ghost use Rattle.dual_bound.specs.Sizes.{IsUpTo};
 ghost use Rattle.dual_bound.specs.Worth.{worth_of};
 
 use crate::price_finder::PriceFinder;
 use crate::prices::Prices;
-use crate::worth::{fleet_rents, rent, total_worth, worth};
+use crate::worth::{fleet_rents, rents_for, total_worth, worth};
 use fleet_model::{Kept, Sizes, Tables};
 use frac_row::ceil_div;
 
@@ -54,15 +54,4 @@ fn worth_as(tables: &Tables, fleet: u32, count: u32, kept: &Kept, prices: &Price
     let prices = PriceFinder::new(prices);
     total_worth(tables, kept, &prices, k) + fleet_rents(tables, &prices, fleet)
         - rents_for(tables, &prices, fleet, count)
-}
-
-// The rents of so many aircraft of a fleet.
-fn rents_for(tables: &Tables, prices: &PriceFinder<'_>, fleet: u32, count: u32) -> i128
-    requires within { AreWithin tables.now prices.now }
-    requires fleet { fleet < fleets_in tables.now }
-    requires count { count ≤ MAX_AIRCRAFT }
-    ensures value { result ≡ rent_of prices.now fleet *ℤ pos count }
-    ensures size { IsUpTo MAX_AIRCRAFT result }
-{
-    rent(tables, prices, fleet) * i128::from(count)
 }

@@ -1,5 +1,5 @@
 //! The bound that prices give in a subproblem.
-ghost use Rattle.std.specs.Prelude.{◌≡◌, ◌<◌, ◌≤◌, ◌+◌, ◌*◌, ◌-ℤ◌, ◌*ℤ◌, pos};
+ghost use Rattle.std.specs.Prelude.{◌≡◌, ℕ, ◌<◌, ◌≤◌, ◌+◌, ◌*◌, ◌-ℤ◌, ◌*ℤ◌, pos};
 ghost use Rattle.sums.specs.Below.{sum_below_ℤ};
 ghost use Rattle.fleet_model.specs.declared.limits.TheConstants.{MAX_AIRCRAFT};
 ghost use Rattle.fleet_model.specs.Kept.{kept_by};
@@ -183,8 +183,8 @@ fn price(tables: &Tables, prices: &PriceFinder<'_>, fleet: u32, station: u32, mi
     prices.price(fleet, station, minute)
 }
 
-/// The rent of an aircraft of a fleet, with its size.
-pub(crate) fn rent(tables: &Tables, prices: &PriceFinder<'_>, fleet: u32) -> i128
+// The rent of an aircraft of a fleet, with its size.
+fn rent(tables: &Tables, prices: &PriceFinder<'_>, fleet: u32) -> i128
     requires within { AreWithin tables.now prices.now }
     requires fleet { fleet < fleets_in tables.now }
     ensures value { result ≡ rent_of prices.now fleet }
@@ -201,7 +201,7 @@ fn lap_rents(tables: &Tables, prices: &PriceFinder<'_>, pair: Pair, fleet: u32) 
     ensures value { result ≡ rent_of prices.now fleet *ℤ pos (laps_of tables.now pair) }
     ensures size { IsUpTo 2 result }
 {
-    rent(tables, prices, fleet) * i128::from(tables.laps(pair))
+    rents_for(tables, prices, fleet, tables.laps(pair))
 }
 
 // The rents of all aircraft.
@@ -224,5 +224,17 @@ pub(crate) fn fleet_rents(tables: &Tables, prices: &PriceFinder<'_>, fleet: u32)
     ensures value { result ≡ rents_of tables.now prices.now fleet }
     ensures size { IsUpTo MAX_AIRCRAFT result }
 {
-    rent(tables, prices, fleet) * i128::from(tables.fleet(fleet).aircraft)
+    rents_for(tables, prices, fleet, tables.fleet(fleet).aircraft)
+}
+
+/// The rents of so many aircraft of a fleet.
+pub(crate) fn rents_for(tables: &Tables, prices: &PriceFinder<'_>, fleet: u32, count: u32) -> i128
+    requires within { AreWithin tables.now prices.now }
+    requires fleet { fleet < fleets_in tables.now }
+    requires count { count ≤ MAX_AIRCRAFT }
+    ensures value { result ≡ rent_of prices.now fleet *ℤ pos count }
+    ensures size { IsUpTo MAX_AIRCRAFT result }
+    ensures less { (n : ℕ) → count ≤ n → IsUpTo n result }
+{
+    rent(tables, prices, fleet) * i128::from(count)
 }
