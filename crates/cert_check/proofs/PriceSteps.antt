@@ -11,7 +11,8 @@ use Rattle.fleet_model.specs.Schedule.{fleets_in, last_of, period_of, stations_i
 use Rattle.fleet_model.specs.declared.tables.Tables.{Tables}
 use Rattle.fleet_model.proofs.PeriodMinutes.{last_in}
 use Rattle.dual_bound.specs.OfTables.{ArePricesOf}
-use Rattle.dual_bound.specs.Prices.{AreCharges, AreRents, AreWithin, IsPrice, IsRent, NeverRise, RiseByRent, RisesOverEnd, price_after, price_of, rent_of, step_has_come, with_charge}
+use Rattle.dual_bound.specs.Prices.{AreCharges, AreRents, AreWithin, IsPrice, NeverRise, RiseByRent, RisesOverEnd, price_after, price_of, rent_of, step_has_come, with_charge}
+use Rattle.dual_bound.specs.Sizes.{IsUpTo}
 use Rattle.dual_bound.specs.Rising.{no_step, step_at}
 use Rattle.dual_bound.specs.declared.prices.Prices.{Prices}
 use Rattle.dual_bound.specs.declared.prices.PriceStep.{PriceStep}
@@ -164,12 +165,12 @@ risen_before t prices (suc place) follows before =
 -- over the end of the period, of one step
 pub risen_at : (t : Tables) (prices : Prices) (step : PriceStep) (b : Bool) (end : ℕ) (first last rent after : ℤ) → end ≡ last_of t → first ≡ price_of prices step.fleet step.station 0
     → last ≡ price_of prices step.fleet step.station end → rent ≡ rent_of prices step.fleet → after ≡ with_charge prices step.station end (held (held last +ℤ held rent))
-    → IsPrice first → IsPrice last → IsRent rent → SFits w128 after
+    → IsUpTo 1 first → IsUpTo 1 last → IsUpTo 1 rent → SFits w128 after
     → MatchBool b (held first ≤ℤ held after) (held after <ℤ held first) → MatchBool b (RisesByRentAt t prices step) (¬ (RisesByRentAt t prices step))
 risen_at t prices step b end first last rent after e p q r a small_first small_last small_rent fits test =
-    let first_held = is_held 1 first (record { no_less = omega (arith, ints); no_more = omega (arith, ints) }) (omega arith) in
-    let last_held = is_held 1 last (record { no_less = omega (arith, ints); no_more = omega (arith, ints) }) (omega arith) in
-    let rent_held = is_held 1 rent (record { no_less = omega (arith, ints); no_more = omega (arith, ints) }) (omega arith) in
+    let first_held = is_held 1 first small_first (omega arith) in
+    let last_held = is_held 1 last small_last (omega arith) in
+    let rent_held = is_held 1 rent small_rent (omega arith) in
     let sum_held = is_held 2 (last +ℤ rent) (record { no_less = omega (arith, ints); no_more = omega (arith, ints) }) (omega arith) in
     let after_held : held after ≡ after = to_z-of_z w128 after fits in
     let whole = a ∙ ap (λ z. with_charge prices step.station end z) (rw (last_held, rent_held, sum_held) refl) ∙ by_end e in

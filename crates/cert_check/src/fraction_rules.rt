@@ -2,18 +2,16 @@
 ghost use Rattle.std.specs.Prelude.{◌≡◌, ◌*◌, ◌<◌, MatchBool};
 ghost use Rattle.sums.specs.Below.{sum_below_ℤ};
 ghost use Rattle.fleet_model.specs.Kept.{kept_by};
-ghost use Rattle.fleet_model.specs.Limits.{IsCost};
 ghost use Rattle.fleet_model.specs.Mixed.{mixed_cost, weighted_cost};
 ghost use Rattle.fleet_model.specs.Schedule.{IsPair, choices_in, leg_on, legs_in};
 ghost use Rattle.fleet_model.specs.declared.limits.TheConstants.{MAX_CHOICES};
 ghost use Rattle.dual_bound.specs.Mixed.{weight_in};
 ghost use Rattle.dual_bound.specs.Prices.{ArePrices};
 ghost use Rattle.dual_bound.specs.Sizes.{IsUpTo};
-ghost use Rattle.dual_bound.specs.Worth.{cost_units};
 ghost use Rattle.dual_bound.specs.Fractions.{AreMixedParts, IsFraction, IsMixedWhole, IsWholeLeg, IsWholePair, IsEndOfScale, IsWorth, parts_in};
 ghost use Rattle.cert_check.specs.MixedRules.{IsSmallWeight};
 
-use dual_bound::worth::worth;
+use dual_bound::worth::{cost_units, worth};
 use dual_bound::{Mixed, Prices, WeightFinder};
 use fleet_model::{Kept, Pair, Tables};
 use frac_row::compare_ratio;
@@ -117,7 +115,7 @@ fn weighted_cost(tables: &Tables, mixed: &WeightFinder<'_>, pair: Pair) -> i128
     ensures value { result ≡ weighted_cost tables.now (parts_in mixed.now) pair.leg pair.choice }
     ensures size { IsUpTo 3 result }
 {
-    weight(tables, mixed, pair) * units(tables, pair)
+    weight(tables, mixed, pair) * cost_units(tables, pair)
 }
 
 // The weight of a pair, which is within its limits.
@@ -128,12 +126,4 @@ fn weight(tables: &Tables, mixed: &WeightFinder<'_>, pair: Pair) -> i128
     ensures size { IsSmallWeight result }
 {
     mixed.weight(pair)
-}
-
-// The cost of a pair, and 0 where it may not be taken.
-fn units(tables: &Tables, pair: Pair) -> i128
-    ensures value { result ≡ cost_units tables.now pair }
-    ensures fits { IsCost result }
-{
-    tables.cost(pair).unwrap_or(0)
 }

@@ -4,15 +4,16 @@
 //! and minute, each rule is told in one pass; else each call takes a look at each step for each step at most. For each
 //! charge, and for each step at the beginning of a day, it looks at each charge.
 ghost use Rattle.std.specs.Prelude.{◌≡◌, ◌<◌, ◌≤◌, MatchBool, ◌≤ℤ◌, ◌<ℤ◌, length};
-ghost use Rattle.fleet_model.specs.Schedule.{days_in, fleets_in, period_of, stations_in};
+ghost use Rattle.fleet_model.specs.Schedule.{period_of, stations_in};
 ghost use Rattle.dual_bound.specs.Order.{same_place};
 ghost use Rattle.dual_bound.specs.Rising.{step_at};
 ghost use Rattle.dual_bound.specs.OfTables.{ArePricesOf, IsChargeOf, IsStepOf};
 ghost use Rattle.dual_bound.specs.Sizes.{IsUpTo};
-ghost use Rattle.dual_bound.specs.Prices.{AreCharges, AreRents, AreWithin, IsCharge, IsPrice, IsRent, IsScale, NeverRise, RiseByRent, charge_of, price_of, rent_of, with_charge};
+ghost use Rattle.dual_bound.specs.Prices.{AreCharges, AreRents, AreWithin, IsCharge, IsPrice, IsRent, IsScale, NeverRise, RiseByRent, with_charge};
 ghost use Rattle.cert_check.specs.PriceRules.{AreChargesAt, AreWithinAtSteps, FallAtSteps, FallsAt, IsChargeAt, IsWithinAt, RiseAtSteps, RiseBefore, RisesByRentAt, entry_at, goes_on_at};
 
 use dual_bound::prices::{MAX_PRICE, MAX_SCALE};
+use dual_bound::sized::{charge, price, rent};
 use dual_bound::{Charge, PriceFinder, PriceStep, Prices};
 use fleet_model::Tables;
 use fleet_model::period::{days_ended, ends_day};
@@ -204,19 +205,7 @@ fn with_charge(
     if !ends_day(minute) {
         return *price;
     }
-    *price + charge_within(tables, prices, station, days_ended(minute))
-}
-
-// A charge, which is within its limits.
-fn charge_within(tables: &Tables, prices: &PriceFinder<'_>, station: u32, day: u32) -> i128
-    requires within { AreWithin tables.now prices.now }
-    requires station { station < stations_in tables.now }
-    requires first { 0 < day }
-    requires last { day ≤ days_in tables.now }
-    ensures value { result ≡ charge_of prices.now station day }
-    ensures size { IsRent result }
-{
-    prices.charge(station, day)
+    *price + charge(tables, prices, station, days_ended(minute))
 }
 
 /// Whether a number is no more than another.
@@ -281,32 +270,11 @@ fn rises_by_rent_at(tables: &Tables, prices: &PriceFinder<'_>, step: &PriceStep)
     ensures { MatchBool result (RisesByRentAt tables.now prices.now step.now) (¬ (RisesByRentAt tables.now prices.now step.now)) }
 {
     let end = tables.period() - 1;
-    let first = price_within(tables, prices, step, 0);
-    let last = price_within(tables, prices, step, end);
-    let rent = rent_within(tables, prices, step.fleet);
+    let first = price(tables, prices, step.fleet, step.station, 0);
+    let last = price(tables, prices, step.fleet, step.station, end);
+    let rent = rent(tables, prices, step.fleet);
     is_no_more(
         &first,
         &with_charge(tables, prices, step.station, end, &(last + rent)),
     )
-}
-
-// The price of a step's fleet and station, which is within its limits.
-fn price_within(tables: &Tables, prices: &PriceFinder<'_>, step: &PriceStep, minute: u16) -> i128
-    requires known { IsStepOf tables.now step.now }
-    requires within { AreWithin tables.now prices.now }
-    requires minute { minute < period_of tables.now }
-    ensures value { result ≡ price_of prices.now step.now.fleet step.now.station minute }
-    ensures size { IsPrice result }
-{
-    prices.price(step.fleet, step.station, minute)
-}
-
-// The rent of a fleet, which is within its limits.
-fn rent_within(tables: &Tables, prices: &PriceFinder<'_>, fleet: u32) -> i128
-    requires fleet { fleet < fleets_in tables.now }
-    requires within { AreWithin tables.now prices.now }
-    ensures value { result ≡ rent_of prices.now fleet }
-    ensures size { IsRent result }
-{
-    prices.rent(fleet)
 }

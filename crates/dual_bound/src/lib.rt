@@ -14,6 +14,7 @@ pub mod price_finder;
 pub mod prices;
 mod rising;
 mod rising_weights;
+pub mod sized;
 pub mod solved;
 pub mod trees;
 pub mod weight_finder;

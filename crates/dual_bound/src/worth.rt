@@ -4,7 +4,7 @@ ghost use Rattle.sums.specs.Below.{sum_below_ℤ};
 ghost use Rattle.fleet_model.specs.declared.limits.TheConstants.{MAX_AIRCRAFT};
 ghost use Rattle.fleet_model.specs.Kept.{kept_by};
 ghost use Rattle.fleet_model.specs.Limits.{IsCost};
-ghost use Rattle.fleet_model.specs.Schedule.{IsPair, fleet_by, fleets_in, leg_of, legs_in, period_of, stations_in};
+ghost use Rattle.fleet_model.specs.Schedule.{IsPair, fleet_by, fleets_in, leg_of, legs_in, stations_in};
 ghost use Rattle.fleet_model.specs.Times.{departure, laps_of, ready_minute};
 ghost use Rattle.dual_bound.specs.Prices.{AreWithin, IsScale, price_of, rent_of};
 ghost use Rattle.dual_bound.specs.Sizes.{IsUpTo};
@@ -12,6 +12,7 @@ ghost use Rattle.dual_bound.specs.Worth.{cost_units, leg_worth, lesser, pair_wor
 
 use crate::price_finder::PriceFinder;
 use crate::prices::Prices;
+use crate::sized::{price, rent};
 use crate::worth_less::all_charges;
 use fleet_model::{Kept, Pair, Tables};
 
@@ -149,8 +150,8 @@ fn scaled_cost(tables: &Tables, scale: &i128, k: u8, pair: Pair) -> i128
     *scale * cost_units(tables, pair)
 }
 
-// The cost of a pair, and 0 where it may not be taken.
-fn cost_units(tables: &Tables, pair: Pair) -> i128
+/// The cost of a pair, and 0 where it may not be taken.
+pub fn cost_units(tables: &Tables, pair: Pair) -> i128
     ensures value { result ≡ cost_units tables.now pair }
     ensures fits { IsCost result }
 {
@@ -169,28 +170,6 @@ fn price_fall(tables: &Tables, prices: &PriceFinder<'_>, pair: Pair, fleet: u32)
     let flown = tables.leg(pair.leg);
     price(tables, prices, fleet, flown.from, tables.departure(pair))
         - price(tables, prices, fleet, flown.to, tables.ready(pair))
-}
-
-// A price, with its size.
-fn price(tables: &Tables, prices: &PriceFinder<'_>, fleet: u32, station: u32, minute: u16) -> i128
-    requires within { AreWithin tables.now prices.now }
-    requires fleet { fleet < fleets_in tables.now }
-    requires station { station < stations_in tables.now }
-    requires minute { minute < period_of tables.now }
-    ensures value { result ≡ price_of prices.now fleet station minute }
-    ensures size { IsUpTo 1 result }
-{
-    prices.price(fleet, station, minute)
-}
-
-// The rent of an aircraft of a fleet, with its size.
-fn rent(tables: &Tables, prices: &PriceFinder<'_>, fleet: u32) -> i128
-    requires within { AreWithin tables.now prices.now }
-    requires fleet { fleet < fleets_in tables.now }
-    ensures value { result ≡ rent_of prices.now fleet }
-    ensures size { IsUpTo 1 result }
-{
-    prices.rent(fleet)
 }
 
 // The rent of a pair's aircraft for each period start between departure and readiness.

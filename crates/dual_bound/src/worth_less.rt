@@ -7,6 +7,7 @@ ghost use Rattle.dual_bound.specs.Sizes.{IsUpTo};
 ghost use Rattle.dual_bound.specs.Worth.{charges_of};
 
 use crate::price_finder::PriceFinder;
+use crate::sized::charge;
 use fleet_model::Tables;
 
 /// The charges of all stations and days, each for as many aircraft as may stand there.
@@ -55,16 +56,4 @@ fn limit(tables: &Tables, station: u32) -> u32
     ensures few { result ≤ 10000 }
 {
     tables.parking(station).unwrap_or(0)
-}
-
-// A charge, with its size.
-fn charge(tables: &Tables, prices: &PriceFinder<'_>, station: u32, day: u32) -> i128
-    requires within { AreWithin tables.now prices.now }
-    requires station { station < stations_in tables.now }
-    requires first { 1 ≤ day }
-    requires day { day ≤ days_in tables.now }
-    ensures value { result ≡ charge_of prices.now station day }
-    ensures size { IsUpTo 1 result }
-{
-    prices.charge(station, day)
 }

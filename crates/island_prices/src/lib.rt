@@ -6,7 +6,6 @@ mod growing;
 pub mod laws;
 pub mod least;
 pub mod paying;
-mod priced;
 pub mod rises;
 pub mod rising;
 pub mod rounds;

@@ -10,11 +10,11 @@ ghost use Rattle.island_prices.specs.Steps.{station_steps, steps_below, steps_of
 ghost use Rattle.island_prices.specs.declared.paying.PaybackError.TheVariants as payback;
 
 use crate::growing::{price_grown, rent_grown};
-use crate::priced::{price, rent};
 use crate::rises::{Rise, shift_by};
 use crate::rounds::Rounds;
 use crate::stepping::push_steps;
 use dual_bound::prices::MAX_PRICE;
+use dual_bound::sized::{price, rent};
 use dual_bound::{PriceFinder, PriceStep, Prices};
 use entries::{Entries, NoMemory as OutOfMemory};
 use fleet_model::Tables;

@@ -5,9 +5,9 @@ ghost use Rattle.dual_bound.specs.Prices.{AreWithin, price_of, rent_of};
 ghost use Rattle.dual_bound.specs.Sizes.{IsUpTo};
 ghost use Rattle.island_prices.specs.Arcs.{IsArc, rise_over, rise_where, shift_over};
 
-use crate::priced::{price, rent};
 use crate::rises::{Rise, Shift};
 use dual_bound::PriceFinder;
+use dual_bound::sized::{price, rent};
 use entries::NoMemory;
 use fleet_model::Tables;
 use node_aggregate::node_end;

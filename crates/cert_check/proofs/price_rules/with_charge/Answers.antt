@@ -11,7 +11,7 @@ ends_day-requires c = omega (arith, at_most_week c.args.tables.now, c.requires.m
 pub days_ended-requires : goal.days_ended-requires
 days_ended-requires c = omega (arith, at_most_week c.args.tables.now, c.requires.minute)
 
-pub charge_within-requires-clause-last : goal.charge_within-requires-clause-last
-charge_within-requires-clause-last c =
+pub charge-requires-clause-day : goal.charge-requires-clause-day
+charge-requires-clause-day c =
     let ends : minute_of_day (c.args.minute + 1) ≡ 0 = search rules in
     subst (λ d. d ≤ days_in c.args.tables.now) (sym c.days_ended.ensures) (day_within c.args.tables.now c.args.minute c.requires.minute ends)
