@@ -114,7 +114,8 @@ class Runner:
         elapsed, after = time.monotonic() - began, os.times()
         if self.is_measured and self.seconds is not None and elapsed >= self.seconds:
             raise TooLate(LATE)
-        spent = after.children_user + after.children_system - before.children_user - before.children_system
+        # Each sum is taken first, so that rounding makes no time below 0.
+        spent = (after.children_user + after.children_system) - (before.children_user + before.children_system)
         return Ran(status, *said, elapsed, spent)
 
     def _said(self, ran: "subprocess.Popen[bytes]", ends: Optional[float]) -> Tuple[bytes, bytes]:
