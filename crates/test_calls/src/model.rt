@@ -80,16 +80,25 @@ fn entries_of(alloc: Global, costs: &[(u32, u32, i128)]) -> Result<Vec<PairCost>
     Ok(entries)
 }
 
+/// The entry at a place of the list, as it was given.
+fn entry_at(costs: &Costs, place: usize) -> Option<(u32, u32, i128)> {
+    match costs.as_slice().get(place) {
+        Some(one) => Some((one.leg, one.fleet, one.cost)),
+        None => None,
+    }
+}
+
 #[test]
 fn costs_are_found_in_any_order(rt: HostRuntime) -> Result<(), Fail> {
     for order in [RISING, FALLING] {
-        let entries = entries_of(rt.alloc(), order)?;
         let costs = Costs::from_vec(entries_of(rt.alloc(), order)?);
         for (leg, fleet, cost) in RISING {
             assert_same(&rt, costs.get(*leg, *fleet), Some(*cost));
         }
         assert_same(&rt, costs.get(2, 0), None);
-        assert_same(&rt, costs.as_slice(), entries.as_slice());
+        for (place, entry) in order.iter().enumerate() {
+            assert_same(&rt, entry_at(&costs, place), Some(*entry));
+        }
     }
     Ok(())
 }
