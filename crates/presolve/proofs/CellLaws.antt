@@ -33,7 +33,7 @@ apart f k g j below under other same =
     other fleets places
 
 -- another number at one place
-set_there : (cells : List ℕ) (after : ℕ → ℕ → ℕ) (fleets places g j x : ℕ) → places ≤ CELL_WIDTH → length cells ≡ fleets * CELL_WIDTH → g < fleets → j < places → x ≡ after g j
+pub set_there : (cells : List ℕ) (after : ℕ → ℕ → ℕ) (fleets places g j x : ℕ) → places ≤ CELL_WIDTH → length cells ≡ fleets * CELL_WIDTH → g < fleets → j < places → x ≡ after g j
     → ((f k : ℕ) → f < fleets → k < places → (f ≡ g → k ≡ j → ⊥) → cell_of cells f k ≡ after f k)
     → (f k : ℕ) → f < fleets → k < places → cell_of (set cells (g * CELL_WIDTH + j) x) f k ≡ after f k
 set_there cells after fleets places g j x narrow width known there is others f k in_fleets in_places = by_place ((f == g) && (k == j)) refl

@@ -6,6 +6,7 @@ pub mod FirstCounts
 pub mod KeptParts
 pub mod Landed
 pub mod LeastBounds
+pub mod MinuteCounts
 pub mod OneList
 pub mod ReasonOrder
 pub mod ReasonPrices
