@@ -231,7 +231,7 @@ def edit_of(edit: Path, crate: Path) -> Iterator[Fact]:
 @lru_cache(maxsize=None)
 def defined() -> FrozenSet[str]:
     """Returns all words of all definitions."""
-    return frozenset(words_of(TOP.glob("crates/*/specs/*.antt")))
+    return frozenset(words_of(TOP.glob("crates/*/specs/**/*.antt")))
 
 
 def trials_of(folder: Path) -> Iterator[Fact]:

@@ -1,7 +1,7 @@
 """Each clause, law, record and function that docs/promises.md names stands in the crate under whose heading it is named.
 
-Below `## Crate by crate` a heading `### NAME, NAME` names crates of crates.txt, and a line `- CALLS: SAYS` has calls, and what they
-say with its clauses in parentheses.
+Below `## Crate by crate` a heading `### NAME, NAME` names crates of crates.txt, or modules of theirs that have a folder, and a line
+`- CALLS: SAYS` has calls, and what they say with its clauses in parentheses.
 
 - A name among the calls is a function or a type of src/. `laws::f` stands in src/laws.rt, `T::f` in an impl or a trait of T, and so
   does a name behind it, where there is one.
@@ -43,17 +43,19 @@ class Function:
 
 
 class Crate:
-    """The names of a crate."""
+    """The names of a crate, or of a module that has a folder of its own there."""
 
-    def __init__(self, name: str) -> None:
-        self.name, self.folder = name, TOP / "crates" / name
+    def __init__(self, name: str, folder: Path, module: str = "") -> None:
+        self.name, self.folder = name, folder
         self.functions: List[Function] = []
         self.types: Set[str] = set()
         self.ghosts: Set[Tuple[Optional[str], str]] = set()
         self.definitions: Set[str] = set()
         self.fields: Dict[str, Set[str]] = {}
         self.words: Set[str] = set()
-        for file in [*self.folder.glob("src/**/*.rt"), *self.folder.glob("specs/**/*.antt")]:
+        below = f"{module}/**" if module else "**"
+        files = [*self.folder.glob(f"src/{below}/*.rt"), *self.folder.glob(f"specs/{below}/*.antt"), *self.folder.glob(f"src/{module}.rt")]
+        for file in files:
             text = file.read_text(encoding="utf-8")
             self.words.update(WORD.findall(text), [file.stem])
             if file.suffix == ".rt":
@@ -112,9 +114,18 @@ Functions = List[Tuple[str, List[Function]]]
 
 
 @lru_cache(maxsize=None)
+def listed() -> List[str]:
+    """Returns the crates of crates.txt."""
+    return re.findall(r"(?m)^(\w+):", (TOP / "crates.txt").read_text(encoding="utf-8"))
+
+
+@lru_cache(maxsize=None)
 def crates() -> Dict[str, Crate]:
-    """Returns the crates of crates.txt by their names."""
-    return {name: Crate(name) for name in re.findall(r"(?m)^(\w+):", (TOP / "crates.txt").read_text(encoding="utf-8"))}
+    """Returns the crates of crates.txt by their names, and their modules that have a folder."""
+    folders = {name: TOP / "crates" / name for name in listed()}
+    modules = [(folder, it.stem) for folder in folders.values() for it in sorted(folder.glob("src/*.rt"))]
+    parts = {name: Crate(name, at, name) for at, name in modules if any((at / part / name).is_dir() for part in ("src", "specs"))}
+    return {**parts, **{name: Crate(name, folder) for name, folder in folders.items()}}
 
 
 @lru_cache(maxsize=None)
@@ -231,7 +242,7 @@ class Page:
         if section.is_of_crates:
             names = section.heading.split(", ")
             for name in names:
-                self.want(name in self.crates, f"`{name}` is no crate of crates.txt")
+                self.want(name in self.crates, f"`{name}` is no crate of crates.txt, and no module that has a folder")
             self.here = [self.crates[name] for name in names if name in self.crates]
         for self.line, line in enumerate(section.lines, section.number + bool(section.heading)):
             call = CALL.fullmatch(line)
@@ -253,5 +264,5 @@ def test_section(section: Section) -> None:
 def test_crates() -> None:
     """The page names each crate, and calls of some."""
     text, own = PAGE.read_text(encoding="utf-8"), [it for it in sections() if it.is_of_crates]
-    assert not [name for name in crates() if not re.search(rf"`{name}\b|^### (\w+, )*{name}\b", text, re.M)]
+    assert not [name for name in listed() if not re.search(rf"`{name}\b|^### (\w+, )*{name}\b", text, re.M)]
     assert any(CALL.fullmatch(line) for section in own for line in section.lines)

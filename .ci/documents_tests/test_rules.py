@@ -97,9 +97,9 @@ def test_complete(heading: str) -> None:
 
 def printing() -> Iterator[Named]:
     """Yields each law of kinds and statuses, and each definition with letters that are printed."""
-    for file in sorted(CRATES.glob("*/src/laws.rt")):
+    for file in sorted(CRATES.glob("*/src/**/laws.rt")):
         yield from (Named(name, str(file.relative_to(CRATES))) for name in functions_in(file) if LAW.fullmatch(name))
-    for file in sorted(it for crate in PRINTING for it in CRATES.glob(f"{crate}/specs/*.antt") if it.stem not in OF_FILES):
+    for file in sorted(it for crate in PRINTING for it in CRATES.glob(f"{crate}/specs/**/*.antt") if it.stem not in OF_FILES):
         place = str(file.relative_to(CRATES))
         yield from (Named(name, place) for name, text in definitions_in(file).items() if any(words_in(name, text)))
 
@@ -143,7 +143,7 @@ def saying(crate: str, name: str) -> Iterator[Named]:
     """Yields the definitions that say the name of a number of a crate, but the numbering itself."""
     front, _, last = name.rpartition(".")
     words = rf"\w+\.TheVariants as {front}" if front else rf"TheConstants\.\{{[^}}]*\b{last}\b"
-    imported = re.compile(rf"^use Rattle\.{crate}\.specs\.declared\.\w+\.{words}", re.M)
+    imported = re.compile(rf"^use Rattle\.{crate}\.specs\.declared\.(?:\w+\.)+?{words}", re.M)
     for file in sorted(CRATES.glob("*/specs/**/*.antt")):
         if imported.search(file.read_text(encoding="utf-8")):
             for defined, text in definitions_in(file).items():

@@ -74,7 +74,7 @@ fn tables(words: &Words) -> Tables {
 
 fn free(tables: &Tables, words: &Words) -> Option<Solved> {
     let found = free_search::find(Global, tables, words.nodes, words.pivots).unwrap()?;
-    hinted_trees::solved_by_texts(Global, tables, words.nodes, found.plan.as_slice(), found.proof.as_slice()).unwrap()
+    branch_bound::hinted_trees::solved_by_texts(Global, tables, words.nodes, found.plan.as_slice(), found.proof.as_slice()).unwrap()
 }
 
 fn solve(words: &Words) -> i32 {

@@ -1,7 +1,7 @@
 use crate::factoring::{Entry, Factoring};
+use basis_factors::fixed_numbers::{Item, NONE, Scalar, Units, at, place_of, put};
 use basis_factors::{Factors, take_one};
 use entries::NoMemory;
-use fixed_numbers::{Item, NONE, Scalar, Units, at, place_of, put};
 
 // How many columns are looked at for a pivot, where one has been found.
 const MOST_LOOKED: u32 = 4;

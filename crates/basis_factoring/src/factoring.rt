@@ -1,6 +1,6 @@
+use basis_factors::fixed_numbers::{Item, NONE, Scalar, Units, at, put};
 use basis_factors::{Factors, Open, Queue, Rows};
 use entries::NoMemory;
-use fixed_numbers::{Item, NONE, Scalar, Units, at, put};
 use std::alloc::Global;
 
 /// A pivot, or a number of the upper triangle.

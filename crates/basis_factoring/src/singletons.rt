@@ -1,7 +1,7 @@
 use crate::factoring::Factoring;
+use basis_factors::fixed_numbers::{NONE, Scalar, Units, at, place_of, put};
 use basis_factors::{Factors, add, take_one};
 use entries::NoMemory;
-use fixed_numbers::{NONE, Scalar, Units, at, place_of, put};
 
 impl<S: Scalar> Factoring<S> {
     /// Gives each column with one open line its pivot there, as long as there is one.

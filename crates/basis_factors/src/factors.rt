@@ -1,6 +1,6 @@
+use crate::fixed_numbers::{Scalar, at, place_of, put};
 use crate::steps::{Steps, left_of, take};
 use entries::NoMemory;
-use fixed_numbers::{Scalar, at, place_of, put};
 use std::alloc::Global;
 
 /// How far the changes of factors had come.

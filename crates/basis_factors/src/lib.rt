@@ -1,8 +1,9 @@
-//! Factors of a basis, in whose columns numbers are solved for, and what of it has no pivot yet while they are found: its open lines and
-//! columns, their numbers, and columns by how many open lines they have.
+//! Numbers in which an end is looked for; factors of a basis, in whose columns numbers are solved for, and what of it has no
+//! pivot yet while they are found: its open lines and columns, their numbers, and columns by how many open lines they have.
 #![tactic(auto)]
 
 pub mod factors;
+pub mod fixed_numbers;
 pub mod open;
 pub mod queue;
 pub mod rows;

@@ -1,5 +1,5 @@
+use crate::fixed_numbers::{NONE, Units, at, place_of, put, reset};
 use entries::NoMemory;
-use fixed_numbers::{NONE, Units, at, place_of, put, reset};
 use std::alloc::Global;
 
 /// Which lines and columns of a basis have no pivot yet, and how they meet. Columns go by their places in the basis.

@@ -1,5 +1,5 @@
+use crate::fixed_numbers::{NONE, at, put, reset};
 use entries::NoMemory;
-use fixed_numbers::{NONE, at, put, reset};
 use std::alloc::Global;
 
 /// Columns by their counts: of each count a list, in which each knows the one before and the one behind.

@@ -1,6 +1,6 @@
+use crate::fixed_numbers::{Item, NONE, Scalar, at, place_of, put, reset};
 use crate::open::Open;
 use entries::NoMemory;
-use fixed_numbers::{Item, NONE, Scalar, at, place_of, put, reset};
 use std::alloc::Global;
 
 // How many items there may be.

@@ -1,5 +1,5 @@
+use crate::fixed_numbers::{Item, Scalar, place_of};
 use entries::NoMemory;
-use fixed_numbers::{Item, Scalar, place_of};
 use std::alloc::Global;
 
 /// The line of a step, its pivot, and where its items end.

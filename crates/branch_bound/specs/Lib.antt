@@ -4,3 +4,4 @@ pub mod Ranks
 pub mod Search
 pub mod Settled
 pub mod Solved
+pub mod hinted_trees

@@ -13,12 +13,12 @@ ghost use Rattle.node_bounding.specs.Relaxed.{AreGood};
 use crate::ranks::Rank;
 use crate::search::Search;
 use crate::subproblems::{Origin, Subproblem, kept_in, split};
-use end_check::EndFinder;
 use entries::NoMemory;
 use fleet_model::{Kept, Pair, Step, Tables};
 use lp_rows::Program;
 use node_bounding::steps::{with, without};
 use node_bounding::{State, examine, is_reached, zeros};
+use simplex_frac::end_check::EndFinder;
 use std::alloc::Global;
 use std::collections::BTreeSet;
 

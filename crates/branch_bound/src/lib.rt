@@ -1,8 +1,10 @@
-//! The solver: presolve, then branch and bound over subproblems, with a tree that proves what it answers.
+//! The solver: presolve, then branch and bound over subproblems, with a tree that proves what it answers; and the judge of a
+//! tree that was found in another way.
 #![tactic(auto)]
 
 mod branching;
 mod growing;
+pub mod hinted_trees;
 mod ranks;
 mod search;
 mod settling;

@@ -8,13 +8,13 @@ use crate::growing::grown;
 use crate::search::Search;
 use crate::settling::settle;
 use dual_bound::{Solved, Tree};
-use end_check::EndFinder;
 use entries::NoMemory;
 use fleet_model::{Kept, Tables};
 use lp_rows::Program;
 use node_bounding::removals::{below, remove};
 use plan_judge::LegalPlan;
 use presolve::trim;
+use simplex_frac::end_check::EndFinder;
 use std::alloc::Global;
 
 /// Solves tables, with at most so many splits, and at most so many pivots for each subproblem, or with no budget of them

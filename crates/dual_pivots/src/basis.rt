@@ -2,8 +2,8 @@ use crate::limits::Limits;
 use crate::lines::Lines;
 use basis_factoring::Factoring;
 use basis_factors::Factors;
+use basis_factors::fixed_numbers::{Fixed, NONE, at, place_of, put};
 use entries::NoMemory;
-use fixed_numbers::{Fixed, NONE, at, place_of, put};
 use std::alloc::Global;
 
 /// A basis, with all that goes on from pivot to pivot.

@@ -1,8 +1,8 @@
 use crate::basis::Basis;
 use crate::entering::{COST_TOLERANCE, LEAST_PIVOT};
 use crate::workspace::Workspace;
+use basis_factors::fixed_numbers::{Fixed, Item, PART_BITS, Scalar, at, put};
 use entries::NoMemory;
-use fixed_numbers::{Fixed, Item, PART_BITS, Scalar, at, put};
 
 /// 10^-4: the least weight of a row.
 pub const LEAST_WEIGHT: i128 = 107_374;

@@ -6,8 +6,8 @@ use crate::leaving::POINT_TOLERANCE;
 use crate::limits::{Ended, Limits};
 use crate::lines::Lines;
 use crate::workspace::Workspace;
+use basis_factors::fixed_numbers::{Fixed, NONE, Scalar, at, place_of, put};
 use entries::NoMemory;
-use fixed_numbers::{Fixed, NONE, Scalar, at, place_of, put};
 
 // How many pivots may be made, and after how many a column counts as clean that costs a little less than it weighs.
 const MOST_PIVOTS: u64 = 300;

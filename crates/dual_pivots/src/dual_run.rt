@@ -4,8 +4,8 @@ use crate::leaving::Leaving;
 use crate::limits::{Ended, Limits};
 use crate::lines::Lines;
 use crate::workspace::Workspace;
+use basis_factors::fixed_numbers::{Fixed, NONE, at};
 use entries::NoMemory;
-use fixed_numbers::{Fixed, NONE, at};
 
 // So many unstable pivots may be met.
 const MOST_FAILS: u32 = 20;

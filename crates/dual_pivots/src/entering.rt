@@ -1,6 +1,6 @@
 use crate::basis::Basis;
 use crate::workspace::Workspace;
-use fixed_numbers::{Fixed, Item, NONE, at};
+use basis_factors::fixed_numbers::{Fixed, Item, NONE, at};
 
 /// 10^-6: how much less a column may cost than it weighs.
 pub const COST_TOLERANCE: i64 = 1_074;

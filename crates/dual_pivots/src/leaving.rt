@@ -1,5 +1,5 @@
 use crate::basis::Basis;
-use fixed_numbers::{Fixed, PART_BITS, at};
+use basis_factors::fixed_numbers::{Fixed, PART_BITS, at};
 
 /// 10^-5: how far a column may be from where it ought to be.
 pub const POINT_TOLERANCE: i64 = 10_737;
@@ -36,7 +36,7 @@ impl Basis {
                 if next.square.wrapping_mul(best.weight) > best.square.wrapping_mul(next.weight) {
                     best = next;
                     leaving = Some(Leaving {
-                        line: fixed_numbers::place_of(line),
+                        line: basis_factors::fixed_numbers::place_of(line),
                         up: number.parts > 0,
                     });
                 }

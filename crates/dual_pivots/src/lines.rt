@@ -1,5 +1,5 @@
+use basis_factors::fixed_numbers::{Fixed, PART_BITS, Unit, Units, at, place_of};
 use entries::NoMemory;
-use fixed_numbers::{Fixed, PART_BITS, Unit, Units, at, place_of};
 use frac_row::Line;
 use std::alloc::Global;
 

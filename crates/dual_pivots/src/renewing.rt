@@ -1,8 +1,8 @@
 use crate::basis::Basis;
 use crate::lines::Lines;
 use crate::row::weighed;
+use basis_factors::fixed_numbers::{Fixed, NONE, PART_BITS, Scalar, at, fill, put};
 use entries::NoMemory;
-use fixed_numbers::{Fixed, NONE, PART_BITS, Scalar, at, fill, put};
 
 // How often artificial columns may come in for those that have no pivot.
 const MOST_REPAIRS: u32 = 5;

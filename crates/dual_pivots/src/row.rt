@@ -1,7 +1,9 @@
 use crate::basis::Basis;
 use crate::lines::{Lines, Quad};
 use crate::workspace::Workspace;
-use fixed_numbers::{Fixed, Item, PART_BITS, Scalar, Unit, Units, at, fill, place_of, put};
+use basis_factors::fixed_numbers::{
+    Fixed, Item, PART_BITS, Scalar, Unit, Units, at, fill, place_of, put,
+};
 
 /// What a column weighs by multipliers of the lines, behind which stands 0.
 #[inline(always)]

@@ -1,8 +1,8 @@
 use crate::basis::Basis;
 use crate::lines::Lines;
 use basis_factors::Mark;
+use basis_factors::fixed_numbers::{Fixed, put};
 use entries::NoMemory;
-use fixed_numbers::{Fixed, put};
 use std::alloc::Global;
 
 /// A basis as it was at a moment, to which it can be brought back.

@@ -6,8 +6,8 @@ use crate::entering::{COST_TOLERANCE, LEAST_PIVOT};
 use crate::leaving::POINT_TOLERANCE;
 use crate::lines::Lines;
 use crate::workspace::Workspace;
+use basis_factors::fixed_numbers::{Fixed, NONE, Scalar, at, place_of};
 use entries::NoMemory;
-use fixed_numbers::{Fixed, NONE, Scalar, at, place_of};
 
 // How often all columns are tried.
 const MOST_PASSES: u64 = 10;

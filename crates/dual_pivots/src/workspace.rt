@@ -1,5 +1,5 @@
+use basis_factors::fixed_numbers::{Fixed, Item, reset};
 use entries::NoMemory;
-use fixed_numbers::{Fixed, Item, reset};
 use std::alloc::Global;
 
 /// What a pivot reckons with, and the next one writes anew.

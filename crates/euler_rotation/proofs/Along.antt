@@ -9,12 +9,12 @@ use Rattle.sums.proofs.Tests.{parts_true}
 use Rattle.sums.proofs.Naturals.{plus_0}
 use Rattle.fleet_model.specs.declared.parts.Connection.{Connection}
 use Rattle.fleet_model.specs.declared.tables.Tables.{Tables}
-use Rattle.ground_turns.specs.Maps.{turn_after}
-use Rattle.ground_turns.specs.Nights.{nights_in_turn, nights_in_turns}
+use Rattle.lines_of_flying.specs.ground_turns.Maps.{turn_after}
+use Rattle.lines_of_flying.specs.ground_turns.Nights.{nights_in_turn, nights_in_turns}
 use Rattle.euler_rotation.specs.Often.{GoesOn, nights_since, stays_below}
 use Rattle.euler_rotation.specs.Prefixes.{nights_along, turn_to, turns_along}
 use Rattle.euler_rotation.proofs.NightsSince.{below_append, since_append}
-use Rattle.ground_turns.proofs.NightLists.{nights_append}
+use Rattle.lines_of_flying.proofs.ground_turns.NightLists.{nights_append}
 
 -- lists with the same first legs have the same first turns
 turn_agree : (xs ys : List ℕ) (n : ℕ) → n < length xs → n < length ys → ((j : ℕ) → j ≤ n → slice_index xs j ≡ slice_index ys j) → (j : ℕ) → j < n → turn_after xs j ≡ turn_after ys j

@@ -10,15 +10,15 @@ use Rattle.sums.proofs.Tests.{by_test}
 use Rattle.fleet_model.specs.declared.parts.Connection.{Connection}
 use Rattle.fleet_model.specs.declared.tables.Tables.{Tables}
 use Rattle.entries.specs.declared.memory.NoMemory.{NoMemory}
-use Rattle.ground_turns.specs.Maps.{IsTour, turns_round}
-use Rattle.ground_turns.specs.Nights.{IsMaintainedFrom, can_maintain, maintained_in, nights_at_maintenance, nights_of_tour}
-use Rattle.ground_turns.specs.declared.nights.Night.{Night}
-use Rattle.ground_turns.specs.declared.nights.Night.TheVariants as night
-use Rattle.ground_turns.proofs.MaintainedNights.{kept_has_nights, maintained_are_stands}
-use Rattle.ground_turns.proofs.Stays.{all_are_maintained, maintained_are_there}
-use Rattle.ground_turns.proofs.TourNights.{nights_are_use}
-use Rattle.ground_turns.proofs.Totals.{some_counted}
-use Rattle.ground_turns.proofs.Rounds.{bit}
+use Rattle.lines_of_flying.specs.ground_turns.Maps.{IsTour, turns_round}
+use Rattle.lines_of_flying.specs.ground_turns.Nights.{IsMaintainedFrom, can_maintain, maintained_in, nights_at_maintenance, nights_of_tour}
+use Rattle.lines_of_flying.specs.declared.ground_turns.nights.Night.{Night}
+use Rattle.lines_of_flying.specs.declared.ground_turns.nights.Night.TheVariants as night
+use Rattle.lines_of_flying.proofs.ground_turns.MaintainedNights.{kept_has_nights, maintained_are_stands}
+use Rattle.lines_of_flying.proofs.ground_turns.Stays.{all_are_maintained, maintained_are_there}
+use Rattle.lines_of_flying.proofs.ground_turns.TourNights.{nights_are_use}
+use Rattle.lines_of_flying.proofs.ground_turns.Totals.{some_counted}
+use Rattle.lines_of_flying.proofs.ground_turns.Rounds.{bit}
 use Rattle.euler_rotation.specs.declared.asked.Asked.{Asked}
 use Rattle.euler_rotation.specs.declared.search.Found.{Found}
 use Rattle.euler_rotation.specs.declared.search.Found.TheVariants as found

@@ -8,11 +8,11 @@ use Rattle.fleet_model.specs.declared.parts.Connection.{Connection}
 use Rattle.fleet_model.specs.declared.tables.Tables.{Tables}
 use Rattle.fleet_model.specs.Counts.{weights_of}
 use Rattle.fleet_model.specs.Schedule.{legs_in, no_leg, period_of, stations_in}
-use Rattle.ground_turns.specs.Laws.{AreBareMinutes}
-use Rattle.ground_turns.specs.Segments.{NoneEnds, is_minute_among, span_of}
-use Rattle.ground_turns.specs.Turns.{IsClean, departs_at, ready_at, station_at}
-use Rattle.ground_turns.proofs.CleanTurns.{among_filtered, segments_tell_clean}
-use Rattle.island_cut.specs.Zeros.{none_stands, zeros_below, zeros_of}
+use Rattle.lines_of_flying.specs.ground_turns.Laws.{AreBareMinutes}
+use Rattle.lines_of_flying.specs.ground_turns.Segments.{NoneEnds, is_minute_among, span_of}
+use Rattle.lines_of_flying.specs.ground_turns.Turns.{IsClean, departs_at, ready_at, station_at}
+use Rattle.lines_of_flying.proofs.ground_turns.CleanTurns.{among_filtered, segments_tell_clean}
+use Rattle.node_aggregate.specs.island_cut.Zeros.{none_stands, zeros_below, zeros_of}
 use Rattle.euler_rotation.specs.Asked.{AreAllSegments, AreSegments}
 use Rattle.euler_rotation.specs.Prefixes.{is_clean}
 use Rattle.euler_rotation.proofs.TourTurns.{clean_from, clean_to}

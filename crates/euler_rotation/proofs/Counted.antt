@@ -6,7 +6,7 @@ use Rattle.fleet_model.specs.Counts.{weights_of}
 use Rattle.fleet_model.specs.Schedule.{days_in}
 use Rattle.fleet_model.specs.Use.{used_of}
 use Rattle.fleet_model.specs.declared.tables.Tables.{Tables}
-use Rattle.ground_turns.specs.Maps.{IsTour}
+use Rattle.lines_of_flying.specs.ground_turns.Maps.{IsTour}
 use Rattle.lines_of_flying.specs.Lines.{days_of_tour, legs_on_day}
 use Rattle.lines_of_flying.proofs.TourLines.{days_are_use, known_legs}
 use Rattle.euler_rotation.specs.FleetRotations.{AllComeRound, AllTellUse, AreFlown, ComesRound, IsRotationFlown, IsTourOf, TellsUse, all_told_by_plan, last_made, no_rotation, rotation_of, told_by_plan}

@@ -8,7 +8,7 @@ use Rattle.std.proofs.lemmas.List.Elements.{All-append, All-cons}
 use Rattle.sums.proofs.Tests.{by_test, no_both, not_true, parts_true}
 use Rattle.fleet_model.specs.declared.parts.Connection.{Connection}
 use Rattle.fleet_model.specs.declared.tables.Tables.{Tables}
-use Rattle.ground_turns.specs.Maps.{turn_at}
+use Rattle.lines_of_flying.specs.ground_turns.Maps.{turn_at}
 use Rattle.euler_rotation.specs.Prefixes.{has_leg, is_clean, is_open, keeps_pair, may_follow, may_turn, meets, nights_along, preorder, preorder_from, turn_to}
 use Rattle.euler_rotation.specs.PrefixLaws.{AgreesWith, EntriesArePrefixes, IsPrefix, IsTurnBeside}
 use Rattle.euler_rotation.specs.Often.{stays_below}

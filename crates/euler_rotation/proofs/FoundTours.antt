@@ -1,9 +1,9 @@
 -- What is known of the legs and prefixes that were found, told of what was asked.
 use Rattle.std.proofs.Common.{◌≡◌, ℕ, ◌*◌, ◌≤◌, List, Result, IfOk, sym, subst}
 use Rattle.entries.specs.declared.memory.NoMemory.{NoMemory}
-use Rattle.cycle_join.specs.Joins.{FliesSome, IsApart, IsJoined, Joins}
-use Rattle.cycle_join.specs.declared.joined.Joined.{Joined}
-use Rattle.cycle_join.specs.declared.joined.Joined.TheVariants as joined
+use Rattle.lines_of_flying.specs.cycle_join.Joins.{FliesSome, IsApart, IsJoined, Joins}
+use Rattle.lines_of_flying.specs.declared.cycle_join.joined.Joined.{Joined}
+use Rattle.lines_of_flying.specs.declared.cycle_join.joined.Joined.TheVariants as joined
 use Rattle.euler_rotation.specs.declared.asked.Asked.{Asked}
 use Rattle.euler_rotation.specs.declared.search.Found.{Found}
 use Rattle.euler_rotation.specs.declared.search.Found.TheVariants as found

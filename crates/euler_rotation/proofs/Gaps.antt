@@ -9,9 +9,9 @@ use Rattle.std.proofs.lemmas.List.Folds.{list_any_at}
 use mathlib.Core.Bool.{false≢true}
 use Rattle.sums.proofs.Tests.{both_true, by_either, by_test, parts_true}
 use Rattle.fleet_model.specs.declared.tables.Tables.{Tables}
-use Rattle.ground_turns.specs.Nights.{IsKeptFor, IsMaintainedFrom, can_maintain, night_round}
-use Rattle.ground_turns.specs.declared.nights.Night.{Night}
-use Rattle.ground_turns.specs.declared.nights.Night.TheVariants as night
+use Rattle.lines_of_flying.specs.ground_turns.Nights.{IsKeptFor, IsMaintainedFrom, can_maintain, night_round}
+use Rattle.lines_of_flying.specs.declared.ground_turns.nights.Night.{Night}
+use Rattle.lines_of_flying.specs.declared.ground_turns.nights.Night.TheVariants as night
 use Rattle.sums.proofs.Rounds.{mod_cases}
 use Rattle.euler_rotation.specs.Often.{MaintainedOften, OneMaintains, stays_below}
 

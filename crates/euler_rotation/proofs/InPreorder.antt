@@ -7,10 +7,10 @@ use Rattle.sums.proofs.Counts.{count_below-one}
 use Rattle.sums.proofs.Tests.{first_true, parts_true}
 use Rattle.fleet_model.specs.declared.parts.Connection.{Connection}
 use Rattle.fleet_model.specs.declared.tables.Tables.{Tables}
-use Rattle.ground_turns.specs.Maps.{turn_after, turn_at}
-use Rattle.ground_turns.specs.Nights.{nights_of_tour}
-use Rattle.ground_turns.proofs.SomeMap.{same_round}
-use Rattle.ground_turns.proofs.Totals.{some_counted}
+use Rattle.lines_of_flying.specs.ground_turns.Maps.{turn_after, turn_at}
+use Rattle.lines_of_flying.specs.ground_turns.Nights.{nights_of_tour}
+use Rattle.lines_of_flying.proofs.ground_turns.SomeMap.{same_round}
+use Rattle.lines_of_flying.proofs.ground_turns.Totals.{some_counted}
 use Rattle.euler_rotation.specs.Often.{nights_since, stays_below}
 use Rattle.euler_rotation.specs.Prefixes.{has_leg, is_clean, meets, nights_along, preorder, turn_to}
 use Rattle.euler_rotation.specs.PrefixLaws.{AgreesWith, IsPrefix, IsTurnBeside}

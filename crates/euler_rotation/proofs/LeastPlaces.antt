@@ -9,9 +9,9 @@ use Rattle.fleet_model.specs.declared.tables.Tables.{Tables}
 use Rattle.fleet_model.specs.Counts.{weights_of}
 use Rattle.fleet_model.specs.Schedule.{days_in}
 use Rattle.fleet_model.specs.Use.{used_of}
-use Rattle.ground_turns.specs.Maps.{IsTour, periods_in_turn, turn_after, turn_at, turns_round}
-use Rattle.ground_turns.specs.Nights.{nights_of_tour}
-use Rattle.ground_turns.proofs.TourNights.{all_periods, nights_are_use}
+use Rattle.lines_of_flying.specs.ground_turns.Maps.{IsTour, periods_in_turn, turn_after, turn_at, turns_round}
+use Rattle.lines_of_flying.specs.ground_turns.Nights.{nights_of_tour}
+use Rattle.lines_of_flying.proofs.ground_turns.TourNights.{all_periods, nights_are_use}
 use Rattle.lines_of_flying.specs.Lines.{periods_after}
 use Rattle.euler_rotation.specs.Starts.{IsLeastPlace, LeastOrNone}
 use Rattle.euler_rotation.specs.Tours.{BeginsLeast, periods_before, turned_tour}

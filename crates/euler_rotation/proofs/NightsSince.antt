@@ -7,9 +7,9 @@ use Rattle.std.proofs.lemmas.Bool.{le-ltb, lt-ltb}
 use mathlib.Core.Bool.{and-false}
 use Rattle.sums.proofs.Naturals.{one_behind, suc_moved}
 use Rattle.fleet_model.specs.declared.tables.Tables.{Tables}
-use Rattle.ground_turns.specs.Nights.{can_maintain}
-use Rattle.ground_turns.specs.declared.nights.Night.{Night}
-use Rattle.ground_turns.specs.declared.nights.Night.TheVariants as night
+use Rattle.lines_of_flying.specs.ground_turns.Nights.{can_maintain}
+use Rattle.lines_of_flying.specs.declared.ground_turns.nights.Night.{Night}
+use Rattle.lines_of_flying.specs.declared.ground_turns.nights.Night.TheVariants as night
 use Rattle.euler_rotation.specs.Often.{StayBelow, nights_since, one_night_on, stays_below}
 
 and_assoc : (a b c : Bool) → (a && (b && c)) ≡ ((a && b) && c)

@@ -10,7 +10,7 @@ use Rattle.sums.proofs.Ranks.{numbers_few}
 use Rattle.sums.proofs.Tests.{both_true, by_test}
 use Rattle.fleet_model.specs.declared.parts.Connection.{Connection}
 use Rattle.fleet_model.specs.declared.tables.Tables.{Tables}
-use Rattle.ground_turns.specs.Maps.{turn_at}
+use Rattle.lines_of_flying.specs.ground_turns.Maps.{turn_at}
 use Rattle.euler_rotation.specs.Often.{stays_below}
 use Rattle.euler_rotation.specs.Prefixes.{has_leg, is_clean, is_open, keeps_pair, may_follow, may_turn, meets, nights_along, preorder, preorder_from, turn_to}
 use Rattle.euler_rotation.specs.PrefixLaws.{EachPrefixIsEntry, IsEntry, IsPrefix}

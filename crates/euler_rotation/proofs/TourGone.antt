@@ -5,9 +5,9 @@ use Rattle.std.proofs.lemmas.List.{drop_all, drop_more}
 use Rattle.std.proofs.lemmas.List.Folds.{list_any-append}
 use Rattle.sums.proofs.Tests.{both_true}
 use Rattle.fleet_model.specs.declared.tables.Tables.{Tables}
-use Rattle.ground_turns.specs.Maps.{no_turn, turn_after, turns_round}
-use Rattle.ground_turns.specs.Nights.{IsKeptFor, can_maintain, nights_in_turn, nights_in_turns, nights_of_tour}
-use Rattle.ground_turns.specs.declared.nights.Night.{Night}
+use Rattle.lines_of_flying.specs.ground_turns.Maps.{no_turn, turn_after, turns_round}
+use Rattle.lines_of_flying.specs.ground_turns.Nights.{IsKeptFor, can_maintain, nights_in_turn, nights_in_turns, nights_of_tour}
+use Rattle.lines_of_flying.specs.declared.ground_turns.nights.Night.{Night}
 use Rattle.euler_rotation.specs.Often.{GoesOn, StayBelow, nights_since, stays_below}
 use Rattle.euler_rotation.proofs.Gaps.{below_kept, kept_below, kept_some}
 use Rattle.euler_rotation.proofs.NightsSince.{below_append, since_append}

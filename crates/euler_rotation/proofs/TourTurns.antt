@@ -17,11 +17,11 @@ use Rattle.fleet_model.specs.Counts.{choice_at, weights_of}
 use Rattle.fleet_model.specs.Schedule.{leg_on, legs_in, period_of}
 use Rattle.fleet_model.specs.Use.{stand_of}
 use Rattle.fleet_model.specs.Plain.{IsPlain}
-use Rattle.ground_turns.specs.Maps.{AreClean, Holds, IsSuccessorMap, IsTour, arrivals_of, departures_of, no_turn, turn_after, turn_at, turns_round}
-use Rattle.ground_turns.specs.Nights.{IsKeptFor, nights_of_tour}
-use Rattle.ground_turns.specs.Turns.{IsClean, IsTurn, station_at, waits_at}
-use Rattle.ground_turns.proofs.Fits.{fits_where_clean}
-use Rattle.ground_turns.proofs.Regroup.{by_places}
+use Rattle.lines_of_flying.specs.ground_turns.Maps.{AreClean, Holds, IsSuccessorMap, IsTour, arrivals_of, departures_of, no_turn, turn_after, turn_at, turns_round}
+use Rattle.lines_of_flying.specs.ground_turns.Nights.{IsKeptFor, nights_of_tour}
+use Rattle.lines_of_flying.specs.ground_turns.Turns.{IsClean, IsTurn, station_at, waits_at}
+use Rattle.lines_of_flying.proofs.ground_turns.Fits.{fits_where_clean}
+use Rattle.lines_of_flying.proofs.ground_turns.Regroup.{by_places}
 use Rattle.euler_rotation.specs.Asked.{AreKnown, AreMet}
 use Rattle.euler_rotation.specs.Prefixes.{is_bare_wait, is_clean, meets}
 use Rattle.euler_rotation.specs.Tours.{IsKeptTour, IsOrder, times_in}

@@ -12,11 +12,11 @@ use Rattle.sums.proofs.Sums.{sum_below-agree}
 use Rattle.fleet_model.specs.declared.parts.Connection.{Connection}
 use Rattle.fleet_model.specs.declared.tables.Tables.{Tables}
 use Rattle.fleet_model.specs.Schedule.{legs_in}
-use Rattle.ground_turns.specs.Maps.{HasTurn, turn_after, turn_at, turns_round}
-use Rattle.ground_turns.specs.Nights.{IsKeptFor, IsMaintainedFrom, can_maintain, night_round, nights_in_turns, nights_of_tour}
-use Rattle.ground_turns.specs.declared.nights.Night.{Night}
-use Rattle.ground_turns.specs.declared.nights.Night.TheVariants as night
-use Rattle.ground_turns.proofs.NightLists.{nights_append}
+use Rattle.lines_of_flying.specs.ground_turns.Maps.{HasTurn, turn_after, turn_at, turns_round}
+use Rattle.lines_of_flying.specs.ground_turns.Nights.{IsKeptFor, IsMaintainedFrom, can_maintain, night_round, nights_in_turns, nights_of_tour}
+use Rattle.lines_of_flying.specs.declared.ground_turns.nights.Night.{Night}
+use Rattle.lines_of_flying.specs.declared.ground_turns.nights.Night.TheVariants as night
+use Rattle.lines_of_flying.proofs.ground_turns.NightLists.{nights_append}
 use Rattle.euler_rotation.specs.Asked.{AreMet, is_met}
 use Rattle.euler_rotation.specs.Tours.{IsKeptTour, IsOrder, times_in, turned_tour}
 use Rattle.sums.proofs.Rounds.{mod_cases, moved_entry}

@@ -4,7 +4,7 @@ use Rattle.fleet_model.specs.declared.parts.Connection.{Connection}
 use Rattle.fleet_model.specs.declared.tables.Tables.{Tables}
 use Rattle.fleet_model.specs.Counts.{choice_at}
 use Rattle.fleet_model.specs.Schedule.{legs_in}
-use Rattle.cycle_join.specs.Joins.{FliesSome, IsApart}
+use Rattle.lines_of_flying.specs.cycle_join.Joins.{FliesSome, IsApart}
 use Rattle.euler_rotation.specs.declared.rotation.Rotation.{Rotation}
 use Rattle.euler_rotation.specs.declared.rotation.Rotation.TheVariants as rotation
 use Rattle.euler_rotation.specs.Prefixes.{numbered_entries, prefix_entry, preorder}

@@ -7,9 +7,9 @@ use Rattle.fleet_model.specs.Counts.{choice_at}
 use Rattle.fleet_model.specs.Legal.{IsAssignment}
 use Rattle.fleet_model.specs.Schedule.{fleets_in, legs_in, period_of, stations_in}
 use Rattle.fleet_model.specs.Plain.{IsPlain}
-use Rattle.ground_turns.specs.Laws.{AreBareMinutes}
-use Rattle.ground_turns.specs.Maps.{turn_after}
-use Rattle.ground_turns.specs.Segments.{EndAt, span_of}
+use Rattle.lines_of_flying.specs.ground_turns.Laws.{AreBareMinutes}
+use Rattle.lines_of_flying.specs.ground_turns.Maps.{turn_after}
+use Rattle.lines_of_flying.specs.ground_turns.Segments.{EndAt, span_of}
 use Rattle.euler_rotation.specs.declared.asked.Asked.{Asked}
 use Rattle.euler_rotation.specs.declared.clean.CleanTurns.{CleanTurns}
 use Rattle.euler_rotation.specs.Prefixes.{is_clean, may_turn, meets}

@@ -7,8 +7,8 @@ use Rattle.fleet_model.specs.declared.tables.Tables.{Tables}
 use Rattle.fleet_model.specs.Counts.{weights_of}
 use Rattle.fleet_model.specs.Schedule.{days_in, fleets_in, legs_in}
 use Rattle.fleet_model.specs.Use.{used_of}
-use Rattle.ground_turns.specs.Maps.{IsTour, turn_at}
-use Rattle.ground_turns.specs.Nights.{IsKeptFor, nights_of_tour}
+use Rattle.lines_of_flying.specs.ground_turns.Maps.{IsTour, turn_at}
+use Rattle.lines_of_flying.specs.ground_turns.Nights.{IsKeptFor, nights_of_tour}
 use Rattle.lines_of_flying.specs.Lines.{AreLegsOfTables, BeginsAfterStart, days_of_tour}
 use Rattle.euler_rotation.specs.declared.fleet_rotation.FleetRotation.{FleetRotation}
 use Rattle.sums.specs.Places.{list_below}

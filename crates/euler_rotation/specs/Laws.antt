@@ -2,8 +2,8 @@
 use Rattle.std.specs.Prelude.{ℕ, ◌<◌, ◌↔◌, IsTrue, List}
 use Rattle.fleet_model.specs.declared.parts.Connection.{Connection}
 use Rattle.fleet_model.specs.declared.tables.Tables.{Tables}
-use Rattle.ground_turns.specs.Turns.{IsClean}
-use Rattle.ground_turns.specs.declared.nights.Night.{Night}
+use Rattle.lines_of_flying.specs.ground_turns.Turns.{IsClean}
+use Rattle.lines_of_flying.specs.declared.ground_turns.nights.Night.{Night}
 use Rattle.euler_rotation.specs.Often.{MaintainedOften, stays_below}
 use Rattle.euler_rotation.specs.Prefixes.{is_clean}
 

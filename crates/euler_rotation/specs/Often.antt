@@ -1,9 +1,9 @@
 -- How many nights pass between those for maintenance.
 use Rattle.std.specs.Prelude.{◌≡◌, ℕ, suc, ◌+◌, ◌<◌, ◌≤◌, Bool, IsTrue, true, false, Option, Some, None, ◌&&◌, nat_lt, if◌then◌else◌, List, [], ◌∷◌, length, slice_index_or}
 use Rattle.fleet_model.specs.declared.tables.Tables.{Tables}
-use Rattle.ground_turns.specs.Nights.{can_maintain}
-use Rattle.ground_turns.specs.declared.nights.Night.{Night}
-use Rattle.ground_turns.specs.declared.nights.Night.TheVariants as night
+use Rattle.lines_of_flying.specs.ground_turns.Nights.{can_maintain}
+use Rattle.lines_of_flying.specs.declared.ground_turns.nights.Night.{Night}
+use Rattle.lines_of_flying.specs.declared.ground_turns.nights.Night.TheVariants as night
 
 -- so many nights without maintenance, and then one night more
 abbrev pub one_night_on : Tables → ℕ → Night → ℕ

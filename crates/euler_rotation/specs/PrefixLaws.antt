@@ -3,8 +3,8 @@ use Rattle.std.specs.Prelude.{◌≡◌, ◌≢◌, ℕ, suc, ◌<◌, ◌⊎◌
 use Rattle.fleet_model.specs.declared.parts.Connection.{Connection}
 use Rattle.fleet_model.specs.declared.tables.Tables.{Tables}
 use Rattle.fleet_model.specs.Schedule.{leg_of}
-use Rattle.ground_turns.specs.Maps.{turn_at}
-use Rattle.ground_turns.specs.Turns.{IsClean, station_at}
+use Rattle.lines_of_flying.specs.ground_turns.Maps.{turn_at}
+use Rattle.lines_of_flying.specs.ground_turns.Turns.{IsClean, station_at}
 use Rattle.euler_rotation.specs.Often.{MaintainedOften}
 use Rattle.euler_rotation.specs.Prefixes.{has_leg, nights_along, prefix_entry, preorder, turn_to}
 use Rattle.euler_rotation.specs.Tours.{IsOrder}

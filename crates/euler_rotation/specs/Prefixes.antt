@@ -8,10 +8,10 @@ use Rattle.fleet_model.specs.declared.tables.Tables.{Tables}
 use Rattle.fleet_model.specs.Counts.{weights_of}
 use Rattle.fleet_model.specs.Schedule.{leg_of, period_of}
 use Rattle.fleet_model.specs.Use.{stand_of}
-use Rattle.ground_turns.specs.Maps.{turn_after}
-use Rattle.ground_turns.specs.Nights.{nights_in_turns}
-use Rattle.ground_turns.specs.Turns.{station_at, waits_at}
-use Rattle.ground_turns.specs.declared.nights.Night.{Night}
+use Rattle.lines_of_flying.specs.ground_turns.Maps.{turn_after}
+use Rattle.lines_of_flying.specs.ground_turns.Nights.{nights_in_turns}
+use Rattle.lines_of_flying.specs.ground_turns.Turns.{station_at, waits_at}
+use Rattle.lines_of_flying.specs.declared.ground_turns.nights.Night.{Night}
 use Rattle.euler_rotation.specs.Often.{stays_below}
 
 -- the turn from a leg to another

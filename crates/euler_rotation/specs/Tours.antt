@@ -7,9 +7,9 @@ use Rattle.fleet_model.specs.declared.tables.Tables.{Tables}
 use Rattle.fleet_model.specs.Counts.{weights_of}
 use Rattle.fleet_model.specs.Schedule.{days_in, leg_on, legs_in, stations_in}
 use Rattle.fleet_model.specs.Use.{used_of}
-use Rattle.ground_turns.specs.Laws.{maintained_at}
-use Rattle.ground_turns.specs.Maps.{Holds, IsTour, turns_round}
-use Rattle.ground_turns.specs.Nights.{IsKeptFor, nights_of_tour}
+use Rattle.lines_of_flying.specs.ground_turns.Laws.{maintained_at}
+use Rattle.lines_of_flying.specs.ground_turns.Maps.{Holds, IsTour, turns_round}
+use Rattle.lines_of_flying.specs.ground_turns.Nights.{IsKeptFor, nights_of_tour}
 use Rattle.lines_of_flying.specs.Lines.{BeginsAfterStart, periods_after}
 
 -- a tour that holds the pairs

@@ -8,8 +8,8 @@ ghost use Rattle.euler_rotation.specs.Prefixes.{is_clean, keeps_pair, may_turn};
 use crate::asked::Asked;
 use entries::NoMemory;
 use fleet_model::Connection;
-use ground_turns::{Segments, flight};
-use island_cut::zero_minutes;
+use lines_of_flying::ground_turns::{Segments, flight};
+use node_aggregate::island_cut::zero_minutes;
 use std::alloc::Global;
 
 /// A fleet's stations, with the segments that tell in constant time whether a turn is clean.

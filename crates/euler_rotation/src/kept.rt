@@ -2,8 +2,8 @@
 ghost use Rattle.std.specs.Prelude.{◌≡◌, ◌<◌, ◌↔◌, ℕ, IsTrue, true, length, slice_index};
 ghost use Rattle.std.specs.List.{list_any};
 ghost use Rattle.fleet_model.specs.Schedule.{legs_in};
-ghost use Rattle.ground_turns.specs.Maps.{HasTurn, Holds, turn_after, turns_round};
-ghost use Rattle.ground_turns.specs.Nights.{IsKeptFor, can_maintain, nights_of_tour};
+ghost use Rattle.lines_of_flying.specs.ground_turns.Maps.{HasTurn, Holds, turn_after, turns_round};
+ghost use Rattle.lines_of_flying.specs.ground_turns.Nights.{IsKeptFor, can_maintain, nights_of_tour};
 ghost use Rattle.euler_rotation.specs.Asked.{AreKnown, AreMet, IsAsked, TellClean, is_met};
 ghost use Rattle.euler_rotation.specs.Often.{GoesOn};
 ghost use Rattle.euler_rotation.specs.Tours.{IsKeptTour, IsOrder, times_in};

@@ -2,13 +2,13 @@
 ghost use Rattle.std.specs.Prelude.{◌≡◌, ◌+◌, ◌<◌, ◌≤◌, true, false, MatchOption};
 ghost use Rattle.std.specs.List.{list_any};
 ghost use Rattle.fleet_model.specs.Schedule.{legs_in};
-ghost use Rattle.ground_turns.specs.Nights.{can_maintain, nights_in_turn};
+ghost use Rattle.lines_of_flying.specs.ground_turns.Nights.{can_maintain, nights_in_turn};
 ghost use Rattle.euler_rotation.specs.Asked.{IsAsked};
 ghost use Rattle.euler_rotation.specs.Often.{GoesOn, nights_since, stays_below};
 
 use crate::asked::Asked;
 use fleet_model::Connection;
-use ground_turns::{flight, is_maintained, nights_waited};
+use lines_of_flying::ground_turns::{flight, is_maintained, nights_waited};
 
 /// The nights without maintenance after those of a turn, where so many came before; nothing where they come to the days
 /// that are asked for. Takes no memory.

@@ -2,8 +2,8 @@
 ghost use Rattle.std.specs.Prelude.{◌≡◌, ◌<◌, ◌≤◌, ◌==◌, ◌&&◌, nat_le, ℕ, IfOk};
 ghost use Rattle.fleet_model.specs.Legal.{IsAssignment};
 ghost use Rattle.fleet_model.specs.Schedule.{fleets_in};
-ghost use Rattle.ground_turns.specs.Maps.{IsHeldByMap};
-ghost use Rattle.cycle_join.specs.Joins.{FliesSome};
+ghost use Rattle.lines_of_flying.specs.ground_turns.Maps.{IsHeldByMap};
+ghost use Rattle.lines_of_flying.specs.cycle_join.Joins.{FliesSome};
 ghost use Rattle.euler_rotation.specs.Answers.{AreEnough, IsRotation, IsRotationComplete};
 ghost use Rattle.euler_rotation.specs.Asked.{IsAsked, TellClean};
 ghost use Rattle.euler_rotation.specs.Searches.{IsFoundUnder, IsTourTold, MayTell};
@@ -18,9 +18,9 @@ use crate::rotation::Rotation;
 use crate::search::{Found, search};
 use crate::starting::begun;
 use crate::supply::{first_leg, nights_maintained, nights_used};
-use cycle_join::{Joined, join};
 use entries::{Entries, NoMemory};
 use fleet_model::{Assignment, Connection, Tables};
+use lines_of_flying::cycle_join::{Joined, join};
 use std::alloc::Global;
 
 /// What becomes of the rotation of a fleet whose tour is to hold given pairs: a tour of all its legs in which any so many

@@ -3,8 +3,8 @@ ghost use Rattle.std.specs.Prelude.{◌≡◌, ◌*◌, ◌<◌, ◌≤◌, Matc
 ghost use Rattle.fleet_model.specs.Counts.{weights_of};
 ghost use Rattle.fleet_model.specs.Schedule.{stations_in};
 ghost use Rattle.fleet_model.specs.Use.{stand_of};
-ghost use Rattle.ground_turns.specs.Laws.{maintained_at, stands_by_day};
-ghost use Rattle.cycle_join.specs.Joins.{Flies};
+ghost use Rattle.lines_of_flying.specs.ground_turns.Laws.{maintained_at, stands_by_day};
+ghost use Rattle.lines_of_flying.specs.cycle_join.Joins.{Flies};
 ghost use Rattle.euler_rotation.specs.Answers.{IsUnused};
 ghost use Rattle.euler_rotation.specs.Asked.{IsAsked};
 ghost use Rattle.euler_rotation.specs.Tours.{nights_maintained, nights_used};

@@ -1,9 +1,9 @@
 use crate::fractions::Ratios;
 use crate::modular::{Modular, Way};
+use basis_factors::fixed_numbers::{at, filled, put};
 use dual_pivots::{Basis, Lines};
-use end_check::{Hint, PointHint, RefusalHint};
 use entries::{Entries, NoMemory};
-use fixed_numbers::{at, filled, put};
+use simplex_frac::end_check::{Hint, PointHint, RefusalHint};
 use std::alloc::Global;
 use std::mem;
 

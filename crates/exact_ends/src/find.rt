@@ -1,10 +1,10 @@
 use crate::ends::{point_hint, refusal_hint};
 use crate::places::start_head;
+use basis_factors::fixed_numbers::{Fixed, filled};
 use dual_pivots::{Basis, Ended, Limits, Lines, Workspace};
-use end_check::{EndFinder, Hint};
 use entries::NoMemory;
-use fixed_numbers::{Fixed, filled};
 use lp_rows::Program;
+use simplex_frac::end_check::{EndFinder, Hint};
 use std::alloc::Global;
 
 /// The search by the dual simplex method over factors of the basis, in parts of 2^30, whose end is made exact.

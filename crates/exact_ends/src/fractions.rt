@@ -1,5 +1,5 @@
+use basis_factors::fixed_numbers::{MODULUS, at};
 use entries::NoMemory;
-use fixed_numbers::{MODULUS, at};
 use std::alloc::Global;
 
 /// Whole numbers over one denominator.

@@ -1,8 +1,8 @@
 use crate::fractions::{Frame, Ratios};
 use basis_factoring::Factoring;
 use basis_factors::Factors;
+use basis_factors::fixed_numbers::{MODULUS, Residue, Units, at, put};
 use entries::NoMemory;
-use fixed_numbers::{MODULUS, Residue, Units, at, put};
 use std::alloc::Global;
 
 /// Which way numbers are solved for.

@@ -1,6 +1,6 @@
+use basis_factors::fixed_numbers::{NONE, at, filled, place_of, put};
 use dual_pivots::Lines;
 use entries::NoMemory;
-use fixed_numbers::{NONE, at, filled, place_of, put};
 use lp_rows::{Outline, Program};
 use std::alloc::Global;
 

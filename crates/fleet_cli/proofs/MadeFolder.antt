@@ -17,7 +17,7 @@ use Rattle.table_maker.proofs.MadeRead.{made_read}
 use Rattle.table_maker.proofs.TextLengths.{made_short}
 use Rattle.table_maker.specs.Laws.{all_on_first, made_bytes}
 use Rattle.table_maker.specs.Made.{made_tables}
-use Rattle.plan_search.proofs.Proven.{is_proven}
+use Rattle.fleet_cli.proofs.plan_search.Proven.{is_proven}
 use Rattle.folder_answers.proofs.TextsStand.{with_more}
 use Rattle.fleet_cli.specs.Answer.{Answers, Makes}
 use Rattle.folder_answers.specs.Contents.{bytes_in}

@@ -31,7 +31,7 @@ use Rattle.fleet_cli.proofs.OneAnswer.{complete_there, not_refused}
 use Rattle.fleet_cli.proofs.Others.{solved_others, texts_keep}
 use Rattle.folder_answers.proofs.PlanLength.{plan_within}
 use Rattle.folder_answers.proofs.TextsStand.{other_path}
-use Rattle.plan_search.proofs.Proven.{is_proven}
+use Rattle.fleet_cli.proofs.plan_search.Proven.{is_proven}
 use Rattle.fleet_cli.proofs.SolvedHolds.{solved_holds}
 use Rattle.fleet_cli.specs.Answer.{Answers, Solves}
 use Rattle.folder_answers.specs.Contents.{bytes_in, file_number, table_bytes}

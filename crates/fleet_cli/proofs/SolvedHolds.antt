@@ -10,7 +10,7 @@ use Rattle.dual_bound.specs.declared.solved.Solved.TheVariants as solved
 use Rattle.plan_report.specs.Summary.{printed_bound}
 use Rattle.fleet_cli.specs.Headline.{is_planned}
 use Rattle.fleet_cli.specs.SolvedChecked.{ReadsAndHolds}
-use Rattle.plan_search.proofs.Proven.{IsProven}
+use Rattle.fleet_cli.proofs.plan_search.Proven.{IsProven}
 
 -- the bound that is printed is the tree's
 bound_of : (t : Tables) (s : Solved) → IsRight t s → IsBound t (tree_of s) (printed_bound s)

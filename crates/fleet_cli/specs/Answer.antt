@@ -9,7 +9,7 @@ use Rattle.fleet_model.specs.declared.tables.Tables.{Tables}
 use Rattle.euler_rotation.specs.declared.fleet_rotation.FleetRotation.{FleetRotation}
 use Rattle.plan_desk.specs.Desk.{Files}
 use Rattle.plan_desk.specs.declared.file.DeskFile.TheVariants as file
-use Rattle.plan_search.specs.SolvedBy.{IsSolvedBy}
+use Rattle.fleet_cli.specs.plan_search.SolvedBy.{IsSolvedBy}
 use Rattle.sched_read.specs.Files.{AllBytes}
 use Rattle.table_maker.specs.Laws.{made_bytes}
 use Rattle.table_maker.specs.Made.{CanBeMade, made_tables}

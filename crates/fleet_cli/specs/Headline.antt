@@ -18,7 +18,7 @@ use Rattle.plan_desk.specs.Sink.{output_with}
 use Rattle.plan_desk.specs.declared.file.DeskFile.TheVariants as desk_file
 use Rattle.rotation_report.specs.RotationRecords.{rotation_text}
 use Rattle.euler_rotation.specs.declared.fleet_rotation.FleetRotation.{FleetRotation}
-use Rattle.plan_search.specs.SolvedBy.{IsSolvedBy}
+use Rattle.fleet_cli.specs.plan_search.SolvedBy.{IsSolvedBy}
 use Rattle.plan_text.specs.Text.{plan_text}
 use Rattle.sched_read.specs.Files.{FilesRead}
 use Rattle.table_maker.specs.Laws.{made_bytes}

@@ -10,3 +10,4 @@ pub mod Ran
 pub mod Reading
 pub mod Run
 pub mod SolvedChecked
+pub mod plan_search

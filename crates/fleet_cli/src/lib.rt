@@ -5,6 +5,7 @@ mod answers;
 mod calling;
 mod commands;
 pub mod laws;
+pub mod plan_search;
 mod running;
 mod solving;
 

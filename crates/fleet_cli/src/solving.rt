@@ -5,16 +5,16 @@ ghost use Rattle.command_words.specs.declared.command.TheConstants.{DEFAULT_OPTI
 ghost use Rattle.fleet_cli.specs.Answer.{GivesSolution, Makes};
 ghost use Rattle.folder_answers.specs.Contents.{five_alone};
 ghost use Rattle.folder_answers.specs.Skeletons.{TablesRead};
-ghost use Rattle.retime_windows.specs.Settled.{CanSettle};
+ghost use Rattle.sched_read.specs.retime_windows.Settled.{CanSettle};
 ghost use Rattle.table_maker.specs.Laws.{made_bytes};
 ghost use Rattle.table_maker.specs.Made.{CanBeMade, made_tables};
 
+use crate::plan_search::solved_by;
 use command_words::{DEFAULT_OPTIONS, SolveOptions};
 use dual_bound::Solved;
 use entries::NoMemory;
 use fleet_model::Tables;
 use folder_answers::{Answer, after_tables, answer_of, load_made, planned_on};
-use plan_search::solved_by;
 use std::alloc::Global;
 use table_maker::{MadeTables, make_tables};
 

@@ -8,7 +8,7 @@ use Rattle.fleet_model.specs.Legal.{IsLegal}
 use Rattle.fleet_model.specs.declared.options.TableOptions.{TableOptions}
 use Rattle.fleet_model.specs.declared.tables.Tables.{Tables}
 use Rattle.plan_text.specs.Reading.{PlanReads}
-use Rattle.retime_windows.specs.Settled.{IsSettled}
+use Rattle.sched_read.specs.retime_windows.Settled.{IsSettled}
 use Rattle.sched_read.specs.Files.{AllBytes, FilesRead}
 use Rattle.folder_answers.specs.Refusals.{RefusesFleet, RefusesPlan, RefusesProof, RefusesTables, RefusesTails, RefusesVerdict, fleet_named}
 use Rattle.tail_dates.specs.TailTable.{TailsRead}

@@ -15,7 +15,7 @@ use Rattle.plan_report.specs.Summary.{summary_text}
 use Rattle.euler_rotation.specs.declared.fleet_rotation.FleetRotation.{FleetRotation}
 use Rattle.plan_rotations.specs.Rotations.{ArePlanRotations}
 use Rattle.plan_text.specs.Text.{plan_text}
-use Rattle.retime_windows.specs.Settled.{IsSettled}
+use Rattle.sched_read.specs.retime_windows.Settled.{IsSettled}
 use Rattle.folder_answers.specs.declared.answer.Answer.{Answer}
 use Rattle.folder_answers.specs.declared.answer.FileText.{FileText}
 use Rattle.folder_answers.specs.declared.status.TheConstants.{DONE, GAP, INFEASIBLE, UNSETTLED}

@@ -6,7 +6,7 @@ ghost use Rattle.fleet_model.specs.Legal.{IsLegal};
 ghost use Rattle.fleet_model.specs.Plain.{IsPlain};
 ghost use Rattle.folder_answers.specs.Commands.{DueOn, DueWith, TellsStarts, due_status};
 ghost use Rattle.folder_answers.specs.Halted.{EitherWay};
-ghost use Rattle.retime_windows.specs.Settled.{CanSettle};
+ghost use Rattle.sched_read.specs.retime_windows.Settled.{CanSettle};
 
 use crate::answer::Answer;
 use crate::halting::Halt;
@@ -17,7 +17,7 @@ use due_report::{are_unplaced, due_lines, placings};
 use entries::NoMemory;
 use fleet_model::{Assignment, Tables};
 use plan_rotations::rotations;
-use retime_windows::settle;
+use sched_read::retime_windows::settle;
 use std::alloc::Global;
 use tail_dates::{Placed, TailState};
 

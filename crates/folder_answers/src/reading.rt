@@ -11,7 +11,7 @@ ghost use Rattle.plan_judge.specs.LegalPlans.{IsLegalPlan};
 ghost use Rattle.folder_answers.specs.Refusals.{RefusesFleet, RefusesPlan, RefusesProof, RefusesTables, RefusesTails, RefusesVerdict, fleet_named};
 ghost use Rattle.folder_answers.specs.Skeletons.{OnPlan};
 ghost use Rattle.plan_text.specs.Reading.{PlanReads};
-ghost use Rattle.retime_windows.specs.Settled.{CanSettle};
+ghost use Rattle.sched_read.specs.retime_windows.Settled.{CanSettle};
 ghost use Rattle.sched_read.specs.Files.{FilesRead, all_bytes};
 ghost use Rattle.tail_dates.specs.TailTable.{TailsRead};
 

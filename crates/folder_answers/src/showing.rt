@@ -9,7 +9,7 @@ ghost use Rattle.fleet_model.specs.Plain.{IsPlain};
 ghost use Rattle.fleet_model.specs.Schedule.{fleets_in, legs_in};
 ghost use Rattle.folder_answers.specs.Skeletons.{OnShown};
 ghost use Rattle.folder_answers.specs.Solution.{ShowsRotations, solved_answer};
-ghost use Rattle.retime_windows.specs.Settled.{CanSettle};
+ghost use Rattle.sched_read.specs.retime_windows.Settled.{CanSettle};
 
 use crate::answer::Answer;
 use crate::solution::{printed_text, solved_files, status_of};
@@ -20,7 +20,7 @@ use entries::{Entries, NoMemory};
 use euler_rotation::FleetRotation;
 use fleet_model::{Assignment, Tables};
 use plan_rotations::rotations;
-use retime_windows::settle;
+use sched_read::retime_windows::settle;
 use std::alloc::Global;
 
 /// The answer of a solution with this plan, and the plan's rotations.

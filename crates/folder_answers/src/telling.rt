@@ -6,7 +6,7 @@ ghost use Rattle.fleet_model.specs.Legal.{IsLegal};
 ghost use Rattle.fleet_model.specs.Plain.{IsPlain};
 ghost use Rattle.folder_answers.specs.Commands.{TailsOn, TellsLines};
 ghost use Rattle.folder_answers.specs.Halted.{EitherWay};
-ghost use Rattle.retime_windows.specs.Settled.{CanSettle};
+ghost use Rattle.sched_read.specs.retime_windows.Settled.{CanSettle};
 
 use crate::answer::Answer;
 use crate::halting::Halt;
@@ -16,8 +16,8 @@ use command_words::{Dates, RotationLimits};
 use entries::NoMemory;
 use fleet_model::{Assignment, Tables};
 use plan_rotations::rotations;
-use retime_windows::settle;
 use rotation_report::tail_lines;
+use sched_read::retime_windows::settle;
 use std::alloc::Global;
 
 /// Tells the tails of a plan by its bytes.

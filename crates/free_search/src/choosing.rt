@@ -2,9 +2,9 @@
 //! pseudo costs: Achterberg, Koch and Martin 2005).
 use crate::parts::gain_of;
 use crate::search::Search;
+use basis_factors::fixed_numbers::{PART_BITS, place_of};
 use dual_pivots::{Ended, Limits};
 use entries::NoMemory;
-use fixed_numbers::{PART_BITS, place_of};
 use search_tree::{GAIN_BITS, Problem, score};
 
 // So many pairs are looked at, and none behind so many in a row that did no better.

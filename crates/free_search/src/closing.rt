@@ -1,12 +1,12 @@
 use crate::choosing::{InPart, push_in_part};
 use crate::search::Search;
-use box_prices::text_lines::push_split;
-use box_prices::{make_proper, push_duals, push_weights};
+use basis_factors::fixed_numbers::{at, filled, put};
 use entries::NoMemory;
 use exact_ends::ExactEnd;
-use fixed_numbers::{at, filled, put};
 use fleet_model::Tables;
 use proof_lines::{Line, push_line};
+use search_tree::box_prices::text_lines::push_split;
+use search_tree::box_prices::{make_proper, push_duals, push_weights};
 use search_tree::{Problem, State, Subproblem};
 use std::alloc::Global;
 

@@ -1,10 +1,10 @@
 use crate::search::Search;
-use box_prices::worths::above;
+use basis_factors::fixed_numbers::at;
 use dual_pivots::Ended;
 use entries::NoMemory;
 use exact_ends::{ExactEnd, exact_end};
-use fixed_numbers::at;
 use search_tree::Problem;
+use search_tree::box_prices::worths::above;
 use std::alloc::Global;
 
 impl Search {

@@ -1,8 +1,8 @@
 use crate::closing::Turn;
 use crate::outcome::Outcome;
 use crate::search::Search;
+use basis_factors::fixed_numbers::NONE;
 use entries::NoMemory;
-use fixed_numbers::NONE;
 use fleet_model::limits::{MAX_CHOICES, MAX_LEGS};
 use fleet_model::{Kept, Step, Tables};
 use presolve::{Trim, trim};

@@ -1,11 +1,11 @@
 use crate::search::Search;
-use box_prices::{make_proper, push_duals, worth};
+use basis_factors::fixed_numbers::{Fixed, NONE, PART_BITS, Scalar, at, put, reset};
 use dual_pivots::Ended;
 use entries::NoMemory;
 use exact_ends::exact_end;
-use fixed_numbers::{Fixed, NONE, PART_BITS, Scalar, at, put, reset};
 use fleet_model::Tables;
 use proof_lines::{Line, push_line};
+use search_tree::box_prices::{make_proper, push_duals, worth};
 use search_tree::{Problem, State};
 use std::alloc::Global;
 

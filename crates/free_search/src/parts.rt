@@ -1,8 +1,8 @@
 use crate::outcome::Outcome;
 use crate::running::parts_of;
 use crate::search::Search;
+use basis_factors::fixed_numbers::PART_BITS;
 use entries::NoMemory;
-use fixed_numbers::PART_BITS;
 use fleet_model::Tables;
 use search_tree::{GAIN_BITS, Problem, Subproblem};
 use std::alloc::Global;

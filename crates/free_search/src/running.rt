@@ -1,7 +1,7 @@
 use crate::search::Search;
+use basis_factors::fixed_numbers::{NONE, PART_BITS, place_of};
 use dual_pivots::{Ended, Limits};
 use entries::NoMemory;
-use fixed_numbers::{NONE, PART_BITS, place_of};
 use search_tree::{Problem, lay_start};
 
 // A thousandth of a unit, in parts: rounded prices may be worth so much less than what they were rounded from.

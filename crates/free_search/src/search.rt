@@ -1,6 +1,6 @@
+use basis_factors::fixed_numbers::Fixed;
 use dual_pivots::{Basis, Saved, Workspace};
 use entries::NoMemory;
-use fixed_numbers::Fixed;
 use search_tree::{Gains, Problem, Slots, Subproblems};
 use std::alloc::Global;
 

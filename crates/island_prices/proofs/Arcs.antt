@@ -18,8 +18,8 @@ use Rattle.fleet_model.specs.Times.{departure, ready_minute}
 use Rattle.fleet_model.specs.declared.tables.Tables.{Tables}
 use Rattle.fleet_model.proofs.Choices.{of_flown}
 use Rattle.fleet_model.proofs.PeriodMinutes.{some_minutes}
-use Rattle.timeline_net.specs.Events.{departure_event, departure_events, events_below, readies_of, ready_event}
-use Rattle.timeline_net.specs.declared.timeline.Event.{Event}
+use Rattle.node_aggregate.specs.timeline_net.Events.{departure_event, departure_events, events_below, readies_of, ready_event}
+use Rattle.node_aggregate.specs.declared.timeline_net.timeline.Event.{Event}
 use Rattle.node_aggregate.specs.Nodes.{AreNodesAt, MayFollow, MayStart, RiseFromZero, days_at, end_in}
 use Rattle.node_aggregate.proofs.Starts.{end_last, end_next, start_within, starts_rise}
 use Rattle.dual_bound.specs.Prices.{AreWithin, max_price, price_of, rent_of}

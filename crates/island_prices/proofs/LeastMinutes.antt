@@ -11,10 +11,10 @@ use Rattle.sums.proofs.Places.{get_or-list_below, length-list_below}
 use Rattle.sums.proofs.Tests.{by_test}
 use Rattle.fleet_model.specs.Schedule.{period_of, stations_in}
 use Rattle.fleet_model.specs.declared.tables.Tables.{Tables}
-use Rattle.island_cut.specs.IslandLaws.{IsIdle}
-use Rattle.island_cut.specs.Islands.{has_islands, idle_at, idle_minutes, idles_below, idles_of, is_idle}
-use Rattle.island_cut.specs.declared.idle_minutes.Idle.{Idle}
-use Rattle.island_cut.proofs.IslandProofs.{some_idle}
+use Rattle.node_aggregate.specs.island_cut.IslandLaws.{IsIdle}
+use Rattle.node_aggregate.specs.island_cut.Islands.{has_islands, idle_at, idle_minutes, idles_below, idles_of, is_idle}
+use Rattle.node_aggregate.specs.declared.island_cut.idle_minutes.Idle.{Idle}
+use Rattle.node_aggregate.proofs.island_cut.IslandProofs.{some_idle}
 use Rattle.island_prices.specs.Least.{least_idle, least_in}
 use Rattle.island_prices.proofs.TakenMoments.{HasPlace, at_end}
 

@@ -10,9 +10,9 @@ use Rattle.sums.proofs.Places.{get_or-list_below}
 use Rattle.sums.proofs.Tests.{by_test, parts_true}
 use Rattle.fleet_model.specs.Schedule.{period_of, stations_in}
 use Rattle.fleet_model.specs.declared.tables.Tables.{Tables}
-use Rattle.island_cut.specs.IslandLaws.{IsIdle}
-use Rattle.island_cut.specs.Islands.{has_islands}
-use Rattle.island_cut.proofs.IslandProofs.{payback_law}
+use Rattle.node_aggregate.specs.island_cut.IslandLaws.{IsIdle}
+use Rattle.node_aggregate.specs.island_cut.Islands.{has_islands}
+use Rattle.node_aggregate.proofs.island_cut.IslandProofs.{payback_law}
 use Rattle.island_prices.specs.Least.{least_idle}
 use Rattle.island_prices.specs.Payback.{PaysBack}
 use Rattle.island_prices.specs.Rises.{rise_in}

@@ -24,8 +24,8 @@ use Rattle.dual_bound.specs.declared.prices.Prices.{Prices}
 use Rattle.dual_bound.proofs.Charges.{flown_worth}
 use Rattle.dual_bound.proofs.NoCharges.{uncharged_more}
 use Rattle.dual_bound.proofs.Duality.{lesser_le}
-use Rattle.island_cut.specs.Spare.{aircraft_in}
-use Rattle.island_cut.specs.IslandLaws.{AreChoicesFor, left_by, ready_by}
+use Rattle.node_aggregate.specs.island_cut.Spare.{aircraft_in}
+use Rattle.node_aggregate.specs.island_cut.IslandLaws.{AreChoicesFor, left_by, ready_by}
 use Rattle.island_prices.specs.Payback.{PaysBack}
 use Rattle.island_prices.proofs.Moves.{once, times}
 

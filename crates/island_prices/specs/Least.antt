@@ -3,8 +3,8 @@ use Rattle.std.specs.Prelude.{ℕ, ◌==◌, if◌then◌else◌, List, [], ◌�
 use Rattle.sums.specs.Places.{list_below}
 use Rattle.fleet_model.specs.Schedule.{stations_in}
 use Rattle.fleet_model.specs.declared.tables.Tables.{Tables}
-use Rattle.island_cut.specs.Islands.{idles_of}
-use Rattle.island_cut.specs.declared.idle_minutes.Idle.{Idle}
+use Rattle.node_aggregate.specs.island_cut.Islands.{idles_of}
+use Rattle.node_aggregate.specs.declared.island_cut.idle_minutes.Idle.{Idle}
 
 -- the minute of a station's first entry, and 0 where there is none; entries rise by station, then minute
 unfoldable pub least_in : List Idle → ℕ → ℕ

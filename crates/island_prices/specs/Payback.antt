@@ -8,7 +8,7 @@ use Rattle.fleet_model.specs.declared.parts.Pair.{Pair}
 use Rattle.fleet_model.specs.declared.tables.Tables.{Tables}
 use Rattle.dual_bound.specs.Prices.{price_of, rent_of}
 use Rattle.dual_bound.specs.declared.prices.Prices.{Prices}
-use Rattle.island_cut.specs.IslandLaws.{AreChoicesFor, IsPaidBack}
+use Rattle.node_aggregate.specs.island_cut.IslandLaws.{AreChoicesFor, IsPaidBack}
 use Rattle.island_prices.specs.Rises.{is_rise_of, rise_in, rise_shift_by}
 use Rattle.island_prices.specs.declared.rises.Rise.{Rise}
 use Rattle.island_prices.specs.declared.rises.Shift.{Shift}

@@ -4,7 +4,7 @@ ghost use Rattle.island_prices.specs.Least.{least_idle, least_in};
 
 use entries::{Entries, NoMemory};
 use fleet_model::Tables;
-use island_cut::{Idle, idle};
+use node_aggregate::island_cut::{Idle, idle};
 use std::alloc::Global;
 
 /// The least idle minute of each station, and 0 where there are no islands.

@@ -6,10 +6,10 @@ use Rattle.fleet_model.specs.declared.parts.Connection.{Connection}
 use Rattle.fleet_model.specs.declared.tables.Tables.{Tables}
 use Rattle.fleet_model.specs.Counts.{choice_at}
 use Rattle.fleet_model.specs.Schedule.{legs_in}
-use Rattle.ground_turns.specs.FirstOut.{AreFirstOut, IsFirstOut}
-use Rattle.ground_turns.specs.Maps.{HasTurn, Holds, IsHeldByMap, arrivals_of, turn_at, turn_to_next, turns_by}
-use Rattle.ground_turns.proofs.FirstOuts.{first_out_fits}
-use Rattle.ground_turns.proofs.FleetTurns.{each_turn, is_map}
+use Rattle.lines_of_flying.specs.ground_turns.FirstOut.{AreFirstOut, IsFirstOut}
+use Rattle.lines_of_flying.specs.ground_turns.Maps.{HasTurn, Holds, IsHeldByMap, arrivals_of, turn_at, turn_to_next, turns_by}
+use Rattle.lines_of_flying.proofs.ground_turns.FirstOuts.{first_out_fits}
+use Rattle.lines_of_flying.proofs.ground_turns.FleetTurns.{each_turn, is_map}
 use Rattle.lines_of_flying.specs.Following.{Follows, next_place}
 use Rattle.lines_of_flying.specs.Successors.{AreSuccessors, RiseByArriving}
 use Rattle.lines_of_flying.proofs.Followers.{given_turn, is_next, next, next_follows, one_follows, partner_follows}

@@ -14,17 +14,17 @@ use Rattle.fleet_model.specs.declared.tables.Tables.{Tables}
 use Rattle.fleet_model.specs.Counts.{choice_at}
 use Rattle.fleet_model.specs.Schedule.{leg_of, leg_on, legs_in, period_of}
 use Rattle.fleet_model.specs.Times.{departure}
-use Rattle.ground_turns.specs.FirstOut.{departure_place, free_departed, free_excess, free_landings, free_need, is_free_departure, is_free_landing, landing_place}
-use Rattle.ground_turns.specs.Maps.{IsNext, HasTurn, IsHeldByMap, IsSuccessorMap, arrivals_of, departures_of, turn_at}
-use Rattle.ground_turns.specs.Turns.{IsTurn}
-use Rattle.ground_turns.proofs.FleetTurns.{pick, picked}
-use Rattle.ground_turns.proofs.FreeTurns.{all_there, by_arriving, by_departing, there, there_is}
-use Rattle.ground_turns.proofs.Places.{departure_is, departure_key, departures_differ, landing_is, landing_key, landings_differ}
-use Rattle.ground_turns.proofs.Ranks.{one_place, place_taken, place_within}
-use Rattle.ground_turns.proofs.Rounds.{bit, bit_times_both, part_at_most}
-use Rattle.ground_turns.proofs.SomeMap.{same_round}
-use Rattle.ground_turns.proofs.Totals.{some_counted}
-use Rattle.ground_turns.proofs.Waits.{over_departures}
+use Rattle.lines_of_flying.specs.ground_turns.FirstOut.{departure_place, free_departed, free_excess, free_landings, free_need, is_free_departure, is_free_landing, landing_place}
+use Rattle.lines_of_flying.specs.ground_turns.Maps.{IsNext, HasTurn, IsHeldByMap, IsSuccessorMap, arrivals_of, departures_of, turn_at}
+use Rattle.lines_of_flying.specs.ground_turns.Turns.{IsTurn}
+use Rattle.lines_of_flying.proofs.ground_turns.FleetTurns.{pick, picked}
+use Rattle.lines_of_flying.proofs.ground_turns.FreeTurns.{all_there, by_arriving, by_departing, there, there_is}
+use Rattle.lines_of_flying.proofs.ground_turns.Places.{departure_is, departure_key, departures_differ, landing_is, landing_key, landings_differ}
+use Rattle.lines_of_flying.proofs.ground_turns.Ranks.{one_place, place_taken, place_within}
+use Rattle.lines_of_flying.proofs.ground_turns.Rounds.{bit, bit_times_both, part_at_most}
+use Rattle.lines_of_flying.proofs.ground_turns.SomeMap.{same_round}
+use Rattle.lines_of_flying.proofs.ground_turns.Totals.{some_counted}
+use Rattle.lines_of_flying.proofs.ground_turns.Waits.{over_departures}
 use Rattle.lines_of_flying.specs.Following.{Follows, IsFirstOutNext, landing_at, next_place}
 
 module _ (t : Tables) (a : List ℕ) (f : ℕ) (given : List Connection) where

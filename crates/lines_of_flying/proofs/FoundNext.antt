@@ -5,7 +5,7 @@ use Rattle.std.proofs.lemmas.Bool.{and_parts, eqb-true}
 use Rattle.fleet_model.specs.declared.parts.Connection.{Connection}
 use Rattle.fleet_model.specs.declared.tables.Tables.{Tables}
 use Rattle.fleet_model.specs.Schedule.{leg_of, legs_in}
-use Rattle.ground_turns.specs.FirstOut.{departure_place, is_free_departure}
+use Rattle.lines_of_flying.specs.ground_turns.FirstOut.{departure_place, is_free_departure}
 use Rattle.lines_of_flying.specs.Following.{IsFirstOutNext, landing_at, next_place}
 
 module _ (t : Tables) (a : List ℕ) (f : ℕ) (given : List Connection) (l q s : ℕ) (there : s ≡ landing_at t l) where

@@ -10,8 +10,8 @@ use Rattle.fleet_model.specs.Schedule.{fleets_in, leg_on, legs_in, period_of}
 use Rattle.fleet_model.specs.Times.{departure, ready_minute}
 use Rattle.fleet_model.proofs.PeriodMinutes.{departs_in}
 use Rattle.fleet_model.proofs.PlainTables.{fleet_pair}
-use Rattle.ground_turns.specs.FirstOut.{free_departed, free_excess, free_landed, free_need, is_free_departure, is_free_landing}
-use Rattle.ground_turns.proofs.Rounds.{bit}
+use Rattle.lines_of_flying.specs.ground_turns.FirstOut.{free_departed, free_excess, free_landed, free_need, is_free_departure, is_free_landing}
+use Rattle.lines_of_flying.proofs.ground_turns.Rounds.{bit}
 use Rattle.stand_counts.proofs.Peaks.{AreMoves, greatest_lead, lead_at, lead_where, leaving_until}
 
 -- the excess at a leg's departure, where that is free and from the station

@@ -4,8 +4,8 @@ use Rattle.std.proofs.lemmas.List.{append-nil, get_or_append_left, get_or_push, 
 use Rattle.std.proofs.lemmas.Bool.{cases_lt, eq-eqb}
 use Rattle.fleet_model.specs.declared.parts.Connection.{Connection}
 use Rattle.fleet_model.specs.Counts.{choice_at}
-use Rattle.ground_turns.specs.Maps.{HasTurn, no_turn, turn_at, turn_to_next, turns_by}
-use Rattle.ground_turns.proofs.FleetTurns.{of_one_more}
+use Rattle.lines_of_flying.specs.ground_turns.Maps.{HasTurn, no_turn, turn_at, turn_to_next, turns_by}
+use Rattle.lines_of_flying.proofs.ground_turns.FleetTurns.{of_one_more}
 
 -- the turns of a list rise by the legs that arrive, and none is of a leg from the bound on
 pub record Rise (turns : List Connection) (bound : ℕ) : Type 0 where

@@ -12,10 +12,10 @@ use Rattle.fleet_model.specs.declared.tables.Tables.{Tables}
 use Rattle.fleet_model.specs.Counts.{weights_of}
 use Rattle.fleet_model.specs.Schedule.{days_in, legs_in}
 use Rattle.fleet_model.specs.Use.{used_of}
-use Rattle.ground_turns.specs.Maps.{IsTour, no_turn, turn_after, turn_at, turns_round}
-use Rattle.ground_turns.specs.Turns.{IsTurn}
-use Rattle.ground_turns.proofs.TourNights.{nights_are_use, nights_long}
-use Rattle.ground_turns.specs.Nights.{nights_in}
+use Rattle.lines_of_flying.specs.ground_turns.Maps.{IsTour, no_turn, turn_after, turn_at, turns_round}
+use Rattle.lines_of_flying.specs.ground_turns.Turns.{IsTurn}
+use Rattle.lines_of_flying.proofs.ground_turns.TourNights.{nights_are_use, nights_long}
+use Rattle.lines_of_flying.specs.ground_turns.Nights.{nights_in}
 use Rattle.lines_of_flying.specs.Lines.{AreLegsOfTables, day_of, days_of_tour, first_day, legs_on_day, line_after, lines_ended, lines_of, nights_after}
 
 -- the legs of a tour are legs of the tables

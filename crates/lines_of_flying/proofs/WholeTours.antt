@@ -18,12 +18,12 @@ use Rattle.fleet_model.proofs.PeriodMinutes.{days_are_period}
 use Rattle.fleet_model.proofs.PlainTables.{plain_departs}
 use Rattle.lines_of_flying.specs.Lines.{BeginsAfterStart, day_of, days_of_tour, first_day, lines_of, nights_after, periods_after}
 use Rattle.lines_of_flying.proofs.TourLines.{first_on, its_day, known_legs, later_day, other_early_day}
-use Rattle.ground_turns.specs.Laws.{TurnByDays}
-use Rattle.ground_turns.specs.Maps.{IsTour, no_turn, periods_in_turn, turn_after, turn_at, turns_round}
-use Rattle.ground_turns.specs.Nights.{nights_in}
-use Rattle.ground_turns.specs.Turns.{departs_at}
-use Rattle.ground_turns.proofs.TourNights.{nights_by_days}
-use Rattle.ground_turns.proofs.Waits.{departs_within}
+use Rattle.lines_of_flying.specs.ground_turns.Laws.{TurnByDays}
+use Rattle.lines_of_flying.specs.ground_turns.Maps.{IsTour, no_turn, periods_in_turn, turn_after, turn_at, turns_round}
+use Rattle.lines_of_flying.specs.ground_turns.Nights.{nights_in}
+use Rattle.lines_of_flying.specs.ground_turns.Turns.{departs_at}
+use Rattle.lines_of_flying.proofs.ground_turns.TourNights.{nights_by_days}
+use Rattle.lines_of_flying.proofs.ground_turns.Waits.{departs_within}
 
 -- one list more
 pub joined_more : (f : ℕ → List ℕ) (n : ℕ) → concat (list_below f (suc n)) ≡ concat (list_below f n) ++ f n

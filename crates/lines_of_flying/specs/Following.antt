@@ -3,8 +3,8 @@ use Rattle.std.specs.Prelude.{◌≡◌, ◌≢◌, ℕ, ◌+◌, ◌%◌, ◌<�
 use Rattle.fleet_model.specs.declared.parts.Connection.{Connection}
 use Rattle.fleet_model.specs.declared.tables.Tables.{Tables}
 use Rattle.fleet_model.specs.Schedule.{leg_of, legs_in}
-use Rattle.ground_turns.specs.FirstOut.{departure_place, free_landings, free_need, is_free_departure, landing_place}
-use Rattle.ground_turns.specs.Maps.{HasTurn, arrivals_of}
+use Rattle.lines_of_flying.specs.ground_turns.FirstOut.{departure_place, free_landings, free_need, is_free_departure, landing_place}
+use Rattle.lines_of_flying.specs.ground_turns.Maps.{HasTurn, arrivals_of}
 
 -- the station where a leg lands
 abbrev pub landing_at : Tables → ℕ → ℕ

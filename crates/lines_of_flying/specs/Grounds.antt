@@ -2,8 +2,8 @@
 use Rattle.std.specs.Prelude.{◌≡◌, ℕ, ◌<◌, ◌≤◌, ◌==◌, Bool, false, List, length, slice_index, slice_index_or}
 use Rattle.fleet_model.specs.Legal.{IsAssignment}
 use Rattle.fleet_model.specs.Schedule.{fleets_in, leg_of, legs_in, stations_in}
-use Rattle.ground_turns.specs.FirstOut.{departure_place, free_departed, free_landed, free_landings, free_need, is_free_departure, is_free_landing, landing_place}
-use Rattle.ground_turns.specs.Maps.{arrivals_of, departures_of}
+use Rattle.lines_of_flying.specs.ground_turns.FirstOut.{departure_place, free_departed, free_landed, free_landings, free_need, is_free_departure, is_free_landing, landing_place}
+use Rattle.lines_of_flying.specs.ground_turns.Maps.{arrivals_of, departures_of}
 use Rattle.lines_of_flying.specs.declared.ground.Ground.{Ground}
 use Rattle.lines_of_flying.specs.declared.places.Places.{Places}
 

@@ -6,8 +6,8 @@ use Rattle.fleet_model.specs.declared.tables.Tables.{Tables}
 use Rattle.fleet_model.specs.Schedule.{leg_on, legs_in}
 use Rattle.fleet_model.specs.Times.{departure, nights_of}
 use Rattle.fleet_model.specs.Period.{day_of_minute}
-use Rattle.ground_turns.specs.Maps.{periods_in_turn, turn_after}
-use Rattle.ground_turns.specs.Turns.{nights_waited}
+use Rattle.lines_of_flying.specs.ground_turns.Maps.{periods_in_turn, turn_after}
+use Rattle.lines_of_flying.specs.ground_turns.Turns.{nights_waited}
 
 -- the nights from a leg of a tour to the next: those in its flight, and those in the wait that follows
 unfoldable pub nights_after : Tables → ℕ → List ℕ → ℕ → ℕ

@@ -3,8 +3,8 @@ use Rattle.std.specs.Prelude.{ℕ, Bool, ◌==◌, ◌&&◌, nat_le}
 use Rattle.fleet_model.specs.Counts.{choice_at}
 use Rattle.fleet_model.specs.Schedule.{leg_of, leg_on}
 use Rattle.fleet_model.specs.Times.{departure, ready_minute}
-use Rattle.ground_turns.specs.FirstOut.{is_before}
-use Rattle.ground_turns.specs.Maps.{arrivals_of, departures_of}
+use Rattle.lines_of_flying.specs.ground_turns.FirstOut.{is_before}
+use Rattle.lines_of_flying.specs.ground_turns.Maps.{arrivals_of, departures_of}
 use Rattle.lines_of_flying.specs.Grounds.{free_departed_by, landed_by, place_of_departure, place_of_landing}
 use Rattle.lines_of_flying.specs.declared.ground.Ground.{Ground}
 use Rattle.lines_of_flying.specs.declared.ground.Movement.{Movement}

@@ -2,8 +2,8 @@
 use Rattle.std.specs.Prelude.{ℕ, ◌<◌, List, length}
 use Rattle.fleet_model.specs.declared.parts.Connection.{Connection}
 use Rattle.fleet_model.specs.declared.tables.Tables.{Tables}
-use Rattle.ground_turns.specs.FirstOut.{AreFirstOut}
-use Rattle.ground_turns.specs.Maps.{Holds, IsFitting, turn_at}
+use Rattle.lines_of_flying.specs.ground_turns.FirstOut.{AreFirstOut}
+use Rattle.lines_of_flying.specs.ground_turns.Maps.{Holds, IsFitting, turn_at}
 
 -- the turns rise by the legs that arrive
 pub record RiseByArriving (turns : List Connection) : Type 0 where

@@ -4,13 +4,13 @@ ghost use Rattle.fleet_model.specs.Counts.{weights_of};
 ghost use Rattle.fleet_model.specs.Legal.{IsAssignment};
 ghost use Rattle.fleet_model.specs.Schedule.{days_in, fleets_in, legs_in};
 ghost use Rattle.fleet_model.specs.Use.{used_of};
-ghost use Rattle.ground_turns.specs.Maps.{IsTour, turn_after};
+ghost use Rattle.lines_of_flying.specs.ground_turns.Maps.{IsTour, turn_after};
 ghost use Rattle.lines_of_flying.specs.Lines.{AreLegsOfTables, BeginsAfterStart, first_day, line_after, lines_ended, lines_of, nights_after, periods_after};
 
+use crate::ground_turns::{crosses, flight, nights_waited};
 use entries::{Entries, NoMemory};
 use fleet_model::period::day_of_minute;
 use fleet_model::{Assignment, Connection, Tables};
-use ground_turns::{crosses, flight, nights_waited};
 use std::alloc::Global;
 
 /// The lines of a tour: the legs of each of its days, in their order. A day ends with each night, in a leg's flight or

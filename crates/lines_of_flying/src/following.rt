@@ -2,7 +2,7 @@
 ghost use Rattle.std.specs.Prelude.{◌≡◌, ◌≢◌, ◌<◌, true, MatchOption};
 ghost use Rattle.fleet_model.specs.Counts.{choice_at};
 ghost use Rattle.fleet_model.specs.Schedule.{legs_in};
-ghost use Rattle.ground_turns.specs.Maps.{HasTurn, IsHeldByMap, arrivals_of};
+ghost use Rattle.lines_of_flying.specs.ground_turns.Maps.{HasTurn, IsHeldByMap, arrivals_of};
 ghost use Rattle.lines_of_flying.specs.Following.{Follows, IsFirstOutNext, next_place};
 ghost use Rattle.lines_of_flying.specs.Grounds.{ArePlaces, IsGround};
 

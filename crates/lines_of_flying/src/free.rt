@@ -1,7 +1,7 @@
 //! Free landings and free departures at a station: those that no given pair has.
 ghost use Rattle.std.specs.Prelude.{◌≡◌, ◌<◌, ◌≤◌};
 ghost use Rattle.fleet_model.specs.Schedule.{legs_in};
-ghost use Rattle.ground_turns.specs.FirstOut.{is_before};
+ghost use Rattle.lines_of_flying.specs.ground_turns.FirstOut.{is_before};
 ghost use Rattle.lines_of_flying.specs.Grounds.{IsGround, landings_at};
 ghost use Rattle.lines_of_flying.specs.Moves.{is_ahead, moves_free, minute_of, place_of};
 
@@ -26,7 +26,7 @@ fn is_before(minute: u16, leg: u32, other_minute: u16, other_leg: u32) -> bool
 }
 
 /// How many free landings there are at a station.
-#[tactic(auto, unfolding(ground_turns::specs::FirstOut::free_landings))]
+#[tactic(auto, unfolding(crate::specs::ground_turns::FirstOut::free_landings))]
 pub(crate) fn landings(ground: &Ground<'_>, station: u32) -> u32
     requires { IsGround ground.now }
     ensures value { result ≡ landings_at ground.now station }

@@ -2,13 +2,13 @@
 ghost use Rattle.std.specs.Prelude.{◌≡◌, ◌<◌, ◌≤◌, ◌==◌, IfOk};
 ghost use Rattle.fleet_model.specs.Legal.{IsAssignment};
 ghost use Rattle.fleet_model.specs.Schedule.{fleets_in, legs_in};
-ghost use Rattle.ground_turns.specs.Maps.{arrivals_of, departures_of};
+ghost use Rattle.lines_of_flying.specs.ground_turns.Maps.{arrivals_of, departures_of};
 ghost use Rattle.lines_of_flying.specs.Grounds.{AreMarks, IsGround};
 ghost use Rattle.lines_of_flying.specs.Moves.{minute_of, pairs_with, moves_at};
 
+use crate::ground_turns::flight;
 use entries::NoMemory;
 use fleet_model::{Assignment, Connection, Tables};
-use ground_turns::flight;
 use std::alloc::Global;
 
 /// What an aircraft does at a station.

@@ -1,10 +1,13 @@
-//! Successor maps that hold given turns, and the lines of a tour.
+//! Turns on the ground, successor maps and tours; maps that hold given turns, the lines of a tour, and cycles joined to one
+//! tour.
 #![tactic(auto)]
 
+pub mod cycle_join;
 pub mod days;
 mod following;
 mod free;
 mod ground;
+pub mod ground_turns;
 pub mod mapping;
 mod needs;
 mod places;

@@ -1,8 +1,8 @@
 ghost use Rattle.std.specs.Prelude.{◌≡◌, ◌<◌, IfOk};
 ghost use Rattle.fleet_model.specs.Legal.{IsAssignment};
 ghost use Rattle.fleet_model.specs.Schedule.{fleets_in};
-ghost use Rattle.ground_turns.specs.FirstOut.{AreFirstOut};
-ghost use Rattle.ground_turns.specs.Maps.{Holds, IsFitting, IsHeldByMap};
+ghost use Rattle.lines_of_flying.specs.ground_turns.FirstOut.{AreFirstOut};
+ghost use Rattle.lines_of_flying.specs.ground_turns.Maps.{Holds, IsFitting, IsHeldByMap};
 ghost use Rattle.lines_of_flying.specs.Grounds.{ArePlaces, IsGround};
 ghost use Rattle.lines_of_flying.specs.Successors.{AreSuccessors, RiseByArriving};
 

@@ -9,7 +9,7 @@ ghost use Rattle.lp_rows.specs.Staying.{passing_below, stays_at};
 use crate::network::Network;
 use entries::NoMemory;
 use fleet_model::{Kept, Tables};
-use island_cut::Idle;
+use node_aggregate::island_cut::Idle;
 use node_aggregate::{idle_minutes, moments};
 use std::alloc::Global;
 

@@ -6,10 +6,10 @@ ghost use Rattle.lp_rows.specs.Layout.{AreByStation, HaveNodes, IsNetwork, start
 
 use entries::{Entries, NoMemory};
 use fleet_model::{Kept, Tables};
+use node_aggregate::timeline_net::events;
 use node_aggregate::{days_at, nodes};
 use std::alloc::Global;
 use std::marker::Model;
-use timeline_net::events;
 
 /// The time-line network of a subproblem: the starts of the nodes of each fleet at each station. Contracts see them
 /// in lists, by fleet, then station.

@@ -9,7 +9,7 @@ use Rattle.fleet_model.specs.declared.tables.Tables.{Tables}
 use Rattle.fleet_model.specs.Kept.{Domains, all_pairs}
 use Rattle.fleet_model.specs.Schedule.{choices_in, legs_in}
 use Rattle.fleet_model.specs.Whole.{KeepAllowed}
-use Rattle.island_cut.proofs.Counted.{none_counted}
+use Rattle.node_aggregate.proofs.island_cut.Counted.{none_counted}
 use Rattle.node_aggregate.specs.KeptIdles.{is_strange, keeps_allowed, strange_on}
 
 pub allowed_tested : (t : Tables) (keeps : Domains) → keeps_allowed t keeps ≡ true → KeepAllowed t keeps

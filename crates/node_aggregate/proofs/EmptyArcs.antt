@@ -12,10 +12,10 @@ use Rattle.fleet_model.specs.Use.{need_of, stand_of}
 use Rattle.node_aggregate.specs.Laws.{WeighKept}
 use Rattle.node_aggregate.specs.Nodes.{end_in}
 use Rattle.node_aggregate.proofs.Starts.{end_last}
-use Rattle.island_cut.specs.Islands.{is_idle}
-use Rattle.island_cut.specs.IslandLaws.{IsIdle}
-use Rattle.island_cut.proofs.Counted.{gives_first}
-use Rattle.island_cut.proofs.IslandProofs.{idle_is_empty}
+use Rattle.node_aggregate.specs.island_cut.Islands.{is_idle}
+use Rattle.node_aggregate.specs.island_cut.IslandLaws.{IsIdle}
+use Rattle.node_aggregate.proofs.island_cut.Counted.{gives_first}
+use Rattle.node_aggregate.proofs.island_cut.IslandProofs.{idle_is_empty}
 use Rattle.node_aggregate.specs.ArcLaws.{GoneIsEmpty}
 use Rattle.node_aggregate.specs.KeptIdles.{idle_in, keeps_allowed}
 use Rattle.node_aggregate.specs.Moments.{moment_in_node, moment_of, moment_round}

@@ -4,10 +4,10 @@ use Rattle.std.specs.Bool.{then_some}
 use Rattle.std.proofs.lemmas.Bool.{cases_lt, ltb-false, ltb-true}
 use Rattle.sums.proofs.Places.{all_nothing, first_found}
 use Rattle.sums.proofs.Tests.{both_true, by_test, never_passes, parts_true}
-use Rattle.timeline_net.specs.declared.timeline.Event.{Event}
-use Rattle.island_cut.specs.declared.idle_minutes.Idle.{Idle}
-use Rattle.island_cut.specs.Islands.{idle_at}
-use Rattle.island_cut.specs.Lookup.{IsFirstIdle}
+use Rattle.node_aggregate.specs.declared.timeline_net.timeline.Event.{Event}
+use Rattle.node_aggregate.specs.declared.island_cut.idle_minutes.Idle.{Idle}
+use Rattle.node_aggregate.specs.island_cut.Islands.{idle_at}
+use Rattle.node_aggregate.specs.island_cut.Lookup.{IsFirstIdle}
 use Rattle.node_aggregate.specs.EventMinutes.{IsFirstAmong, IsLastAmong, IsLater, IsSooner, ListsAt, is_within, minute_at}
 use Rattle.node_aggregate.specs.Moments.{first_minute}
 use Rattle.node_aggregate.proofs.Ends.{within_ends, within_where}

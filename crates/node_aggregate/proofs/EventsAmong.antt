@@ -10,8 +10,8 @@ use Rattle.fleet_model.specs.Kept.{Domains}
 use Rattle.fleet_model.specs.Schedule.{departures_in, leg_at, leg_of, pair_on, period_of}
 use Rattle.fleet_model.specs.Times.{busy_minutes, departure, ready_minute}
 use Rattle.fleet_model.proofs.PeriodMinutes.{departs_always, in_period}
-use Rattle.timeline_net.specs.declared.timeline.Event.{Event}
-use Rattle.timeline_net.specs.Events.{AreEvents, departure_event, departure_events, events_below, readies_of, ready_event}
+use Rattle.node_aggregate.specs.declared.timeline_net.timeline.Event.{Event}
+use Rattle.node_aggregate.specs.timeline_net.Events.{AreEvents, departure_event, departure_events, events_below, readies_of, ready_event}
 use Rattle.node_aggregate.specs.Nodes.{HappensAt}
 
 -- an event that stands where a test passes

@@ -5,7 +5,7 @@ use Rattle.std.proofs.lemmas.Bool.{cases_lt}
 use Rattle.std.proofs.lemmas.Bool.Decides.{nat_tests}
 use Rattle.std.proofs.lemmas.List.{get_or_default}
 use Rattle.sums.proofs.Tests.{parts_true}
-use Rattle.timeline_net.specs.declared.timeline.Event.{Event}
+use Rattle.node_aggregate.specs.declared.timeline_net.timeline.Event.{Event}
 use Rattle.node_aggregate.specs.Nodes.{HappensAt, IsFirstMinute, sooner}
 
 abbrev no_event : Event

@@ -3,7 +3,7 @@ use Rattle.std.proofs.Common.{◌≡◌, ◌≢◌, ℕ, zero, suc, ◌+◌, ◌
 use Rattle.std.proofs.lemmas.Bool.{cases_lt}
 use Rattle.std.proofs.lemmas.Bool.Decides.{nat_tests}
 use Rattle.std.proofs.lemmas.List.{get_or_append_left, get_or_push, length_push}
-use Rattle.timeline_net.specs.declared.timeline.Event.{Event}
+use Rattle.node_aggregate.specs.declared.timeline_net.timeline.Event.{Event}
 use Rattle.node_aggregate.specs.Nodes.{AreNodes, HappensAt, IsDayStart, IsFirst, IsFirstMinute, IsNextStart, MayFollow, MayStart, RiseFromZero, sooner}
 
 pub no_departure : (events : List Event) (start : ℕ) → ((m : ℕ) → start ≤ m → ¬ (HappensAt events false m)) → (m : ℕ) → ¬ (MayStart events start m)

@@ -8,13 +8,13 @@ use Rattle.sums.proofs.Tests.{both_true, by_test, never_passes, parts_true, same
 use Rattle.fleet_model.specs.declared.tables.Tables.{Tables}
 use Rattle.fleet_model.specs.Kept.{Domains}
 use Rattle.fleet_model.specs.Schedule.{period_of, stations_in}
-use Rattle.timeline_net.specs.declared.timeline.Event.{Event}
-use Rattle.timeline_net.specs.Events.{AreEvents}
+use Rattle.node_aggregate.specs.declared.timeline_net.timeline.Event.{Event}
+use Rattle.node_aggregate.specs.timeline_net.Events.{AreEvents}
 use Rattle.node_aggregate.specs.Nodes.{end_in}
-use Rattle.island_cut.specs.declared.idle_minutes.Idle.{Idle}
-use Rattle.island_cut.specs.Islands.{idle_at, idles_of}
-use Rattle.island_cut.specs.Lookup.{IdlesRise}
-use Rattle.island_cut.proofs.InOrder.{idle_listed, idles_rise, listed_idle}
+use Rattle.node_aggregate.specs.declared.island_cut.idle_minutes.Idle.{Idle}
+use Rattle.node_aggregate.specs.island_cut.Islands.{idle_at, idles_of}
+use Rattle.node_aggregate.specs.island_cut.Lookup.{IdlesRise}
+use Rattle.node_aggregate.proofs.island_cut.InOrder.{idle_listed, idles_rise, listed_idle}
 use Rattle.node_aggregate.specs.EventMinutes.{IsFirstAmong, IsLastAmong, ListsAt, is_within, minute_at}
 use Rattle.node_aggregate.specs.KeptIdles.{AreIdleIn, idle_in, idles_in, keeps_allowed}
 use Rattle.node_aggregate.specs.Moments.{first_minute, moment_in_node, moment_of, moment_round}

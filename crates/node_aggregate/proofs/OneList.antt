@@ -6,8 +6,8 @@ use Rattle.std.proofs.lemmas.List.Sorted.{Contains-permutation, IsPermutation-sy
 use Rattle.fleet_model.specs.declared.tables.Tables.{Tables}
 use Rattle.fleet_model.specs.Kept.{Domains}
 use Rattle.fleet_model.specs.Schedule.{departures_in}
-use Rattle.timeline_net.specs.declared.timeline.Event.{Event}
-use Rattle.timeline_net.specs.Events.{events_below}
+use Rattle.node_aggregate.specs.declared.timeline_net.timeline.Event.{Event}
+use Rattle.node_aggregate.specs.timeline_net.Events.{events_below}
 use Rattle.node_aggregate.specs.Laws.{NodesAreOne}
 use Rattle.node_aggregate.specs.Nodes.{AreNodes, AreNodesAt, HappensAt, IsNextStart, MayFollow, MayStart, days_at}
 

@@ -9,11 +9,11 @@ use Rattle.fleet_model.specs.declared.tables.Tables.{Tables}
 use Rattle.fleet_model.specs.Kept.{Domains}
 use Rattle.fleet_model.specs.Schedule.{departures_in, leg_at, leg_of, pair_on}
 use Rattle.fleet_model.specs.Times.{departure, ready_minute}
-use Rattle.timeline_net.specs.declared.timeline.Event.{Event}
-use Rattle.timeline_net.specs.Events.{AreEvents, departure_event, events_below, ready_event}
+use Rattle.node_aggregate.specs.declared.timeline_net.timeline.Event.{Event}
+use Rattle.node_aggregate.specs.timeline_net.Events.{AreEvents, departure_event, events_below, ready_event}
 use Rattle.node_aggregate.specs.Nodes.{HappensAt}
 use Rattle.node_aggregate.proofs.EventsAmong.{departs_at, ready_at}
-use Rattle.island_cut.proofs.Counted.{count_none}
+use Rattle.node_aggregate.proofs.island_cut.Counted.{count_none}
 use Rattle.node_aggregate.specs.EventMinutes.{minute_at, no_event}
 use Rattle.node_aggregate.specs.Waits.{happens_among, is_quiet, lies_between}
 use Rattle.node_aggregate.proofs.QuietMinutes.{departs_elsewhere, ready_elsewhere}

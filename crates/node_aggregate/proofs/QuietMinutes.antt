@@ -11,7 +11,7 @@ use Rattle.fleet_model.specs.Schedule.{departures_in, fleets_in, leg_at, leg_of,
 use Rattle.fleet_model.specs.Times.{departure, ready_minute}
 use Rattle.fleet_model.proofs.Choices.{on_departure}
 use Rattle.node_aggregate.specs.Laws.{WeighKept}
-use Rattle.island_cut.proofs.Counted.{none_counted}
+use Rattle.node_aggregate.proofs.island_cut.Counted.{none_counted}
 use Rattle.node_aggregate.specs.Waits.{happens_among, is_quiet, lies_between}
 
 pub none_happens : (t : Tables) (keeps : Domains) (f s low high : ℕ) → is_quiet t keeps f s low high ≡ true → (d : ℕ) → d < departures_in t → keeps (pair_on t d f) ≡ true → happens_among t s low high (pair_on t d f) ≡ false

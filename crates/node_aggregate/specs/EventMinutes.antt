@@ -1,8 +1,8 @@
 -- Minutes of events, and first minutes among those that pass a test.
 use Rattle.std.specs.Prelude.{◌≡◌, ℕ, ◌<◌, ◌≤◌, ◌&&◌, nat_le, nat_lt, Bool, true, false, List, slice_index_or, Contains}
-use Rattle.island_cut.specs.declared.idle_minutes.Idle.{Idle}
-use Rattle.island_cut.specs.Islands.{idle_at}
-use Rattle.timeline_net.specs.declared.timeline.Event.{Event}
+use Rattle.node_aggregate.specs.declared.island_cut.idle_minutes.Idle.{Idle}
+use Rattle.node_aggregate.specs.island_cut.Islands.{idle_at}
+use Rattle.node_aggregate.specs.declared.timeline_net.timeline.Event.{Event}
 
 abbrev pub no_event : Event
 no_event = record { minute = 0; ready = false; departure = 0 }

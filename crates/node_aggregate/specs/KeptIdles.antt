@@ -4,8 +4,8 @@ use Rattle.sums.specs.Below.{count_below, sum_below}
 use Rattle.fleet_model.specs.declared.tables.Tables.{Tables}
 use Rattle.fleet_model.specs.Kept.{Domains, all_pairs}
 use Rattle.fleet_model.specs.Schedule.{choices_in, leg_on, legs_in}
-use Rattle.island_cut.specs.declared.idle_minutes.Idle.{Idle}
-use Rattle.island_cut.specs.Islands.{idles_of, is_idle}
+use Rattle.node_aggregate.specs.declared.island_cut.idle_minutes.Idle.{Idle}
+use Rattle.node_aggregate.specs.island_cut.Islands.{idles_of, is_idle}
 
 -- the pair is kept and may not be flown
 abbrev pub is_strange : Tables → Domains → ℕ → ℕ → Bool

@@ -7,7 +7,7 @@ use Rattle.fleet_model.specs.Counts.{Weights}
 use Rattle.fleet_model.specs.Kept.{Domains}
 use Rattle.fleet_model.specs.Schedule.{IsPair, fleets_in}
 use Rattle.fleet_model.specs.Use.{excess, need_of}
-use Rattle.timeline_net.specs.declared.timeline.Event.{Event}
+use Rattle.node_aggregate.specs.declared.timeline_net.timeline.Event.{Event}
 use Rattle.node_aggregate.specs.Nodes.{AreNodes, AreNodesAt, end_in}
 
 -- pairs that aren't kept weigh 0

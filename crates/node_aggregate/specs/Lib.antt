@@ -5,3 +5,5 @@ pub mod EventMinutes
 pub mod KeptIdles
 pub mod Moments
 pub mod Waits
+pub mod timeline_net
+pub mod island_cut

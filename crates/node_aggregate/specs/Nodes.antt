@@ -5,8 +5,8 @@ use Rattle.fleet_model.specs.Period.{minutes_of}
 use Rattle.fleet_model.specs.declared.tables.Tables.{Tables}
 use Rattle.fleet_model.specs.Kept.{Domains}
 use Rattle.fleet_model.specs.Schedule.{days_in, last_of, parking_of}
-use Rattle.timeline_net.specs.declared.timeline.Event.{Event}
-use Rattle.timeline_net.specs.Events.{AreEvents}
+use Rattle.node_aggregate.specs.declared.timeline_net.timeline.Event.{Event}
+use Rattle.node_aggregate.specs.timeline_net.Events.{AreEvents}
 
 -- in this minute an aircraft is ready, or one departs
 pub record HappensAt (events : List Event) (ready : Bool) (minute : ℕ) : Type 0 where

@@ -2,11 +2,11 @@ ghost use Rattle.std.specs.Prelude.{◌≡◌, ◌<◌, ◌≤◌, ℕ, length, 
 ghost use Rattle.fleet_model.specs.Schedule.{stations_in};
 ghost use Rattle.node_aggregate.specs.Nodes.{AreNodes, HappensAt, IsDayStart, IsFirst, IsFirstMinute, IsNextStart, MayFollow, MayStart, RiseFromZero, days_at, sooner};
 
+use crate::timeline_net::Event;
 use entries::NoMemory;
 use fleet_model::Tables;
 use fleet_model::period::{day_of_minute, minutes_of};
 use std::alloc::Global;
-use timeline_net::Event;
 
 /// How many days cut the nodes of a station: all of the period where only so many aircraft may stand at a day's end, else the
 /// first alone.

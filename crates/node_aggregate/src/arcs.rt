@@ -2,19 +2,19 @@
 ghost use Rattle.std.specs.Prelude.{◌≡◌, ◌<◌, ◌≤◌, ◌+◌, ◌&&◌, ℕ, Bool, IfOk, if◌then◌else◌, nat_lt, length, slice_index};
 ghost use Rattle.fleet_model.specs.Kept.{Domains, kept_by};
 ghost use Rattle.fleet_model.specs.Schedule.{fleets_in, period_of, stations_in};
-ghost use Rattle.island_cut.specs.Lookup.{IdlesRise};
+ghost use Rattle.node_aggregate.specs.island_cut.Lookup.{IdlesRise};
 ghost use Rattle.node_aggregate.specs.Nodes.{AreNodesAt, end_in};
-ghost use Rattle.timeline_net.specs.Events.{AreEvents};
+ghost use Rattle.node_aggregate.specs.timeline_net.Events.{AreEvents};
 ghost use Rattle.node_aggregate.specs.EventMinutes.{IsFirstAmong, IsLastAmong, IsLater, IsSooner, ListsAt, is_within, minute_at};
 ghost use Rattle.node_aggregate.specs.KeptIdles.{AreIdleIn};
 ghost use Rattle.node_aggregate.specs.Moments.{first_minute, moment_of, moments_of};
 
+use crate::island_cut::{Idle, first_idle};
 use crate::places::node_end;
+use crate::timeline_net::{Event, events};
 use entries::{Entries, NoMemory};
 use fleet_model::{Kept, Tables};
-use island_cut::{Idle, first_idle};
 use std::alloc::Global;
-use timeline_net::{Event, events};
 
 /// The moment of each ground arc of a fleet at a station, in the order of its nodes: the first minute of the arc's wait at
 /// which the station is empty in every mixed plan of the subproblem; none where there is none, and the arc stays. The nodes

@@ -5,9 +5,9 @@ ghost use Rattle.fleet_model.specs.Schedule.{legs_in};
 ghost use Rattle.fleet_model.specs.declared.limits.TheConstants.{MAX_CHOICES};
 ghost use Rattle.node_aggregate.specs.KeptIdles.{AreIdleIn, keeps_allowed, strange_on};
 
+use crate::island_cut::{Idle, idle};
 use entries::{Entries, NoMemory};
 use fleet_model::{Kept, Pair, Tables};
-use island_cut::{Idle, idle};
 use std::alloc::Global;
 
 /// The minutes at which a station is empty in every mixed plan of a subproblem, by station, then minute. None are told

@@ -7,11 +7,11 @@ use Rattle.fleet_model.specs.Kept.{Domains}
 use Rattle.fleet_model.specs.declared.tables.Tables.{Tables}
 use Rattle.row_store.specs.Problem.{IsProblem, first_table}
 use Rattle.row_store.specs.declared.problem.Rows.{Rows}
-use Rattle.end_check.specs.Ends.{IsPricedEnd, IsRefusedEnd}
-use Rattle.end_check.specs.declared.hint.Hint.{Hint}
-use Rattle.end_check.specs.declared.hint.Hint.TheVariants as hint
-use Rattle.end_check.specs.declared.hint.PointHint.{PointHint}
-use Rattle.end_check.specs.declared.hint.RefusalHint.{RefusalHint}
+use Rattle.simplex_frac.specs.end_check.Ends.{IsPricedEnd, IsRefusedEnd}
+use Rattle.simplex_frac.specs.declared.end_check.hint.Hint.{Hint}
+use Rattle.simplex_frac.specs.declared.end_check.hint.Hint.TheVariants as hint
+use Rattle.simplex_frac.specs.declared.end_check.hint.PointHint.{PointHint}
+use Rattle.simplex_frac.specs.declared.end_check.hint.RefusalHint.{RefusalHint}
 use Rattle.lp_rows.specs.Points.{AreLinesOf}
 use Rattle.simplex_frac.specs.Finished.{IsFinished, IsStarted}
 use Rattle.simplex_frac.specs.Outcomes.{TurnsAt}
@@ -25,8 +25,8 @@ use Rattle.price_lift.specs.Ends.{Ends}
 use Rattle.price_lift.specs.Laws.{NoRays}
 use Rattle.price_lift.specs.TooLarge.{best_excess, refusal_excess}
 use Rattle.price_lift.specs.PaidBack.{IsFirstBy, IsLiftErrorBy}
-use Rattle.dual_lift.specs.declared.error.LiftError.{LiftError}
-use Rattle.dual_lift.specs.declared.error.LiftError.TheVariants as lift
+use Rattle.simplex_frac.specs.declared.dual_lift.error.LiftError.{LiftError}
+use Rattle.simplex_frac.specs.declared.dual_lift.error.LiftError.TheVariants as lift
 use Rattle.node_bounding.specs.Relaxed.{IsLiftTold, IsRelaxed}
 use Rattle.price_lift.proofs.Columns.{sides_at_least}
 use Rattle.node_bounding.specs.Runs.{HasEnded, IsLiftRefused, IsOutcomeWithin, RunEnds}

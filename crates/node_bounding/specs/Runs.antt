@@ -13,9 +13,9 @@ use Rattle.simplex_frac.specs.declared.outcome.Outcome.{Outcome}
 use Rattle.simplex_frac.specs.declared.outcome.Outcome.TheVariants as outcome
 use Rattle.price_lift.specs.PaidBack.{IsFirstBy}
 use Rattle.price_lift.specs.TooLarge.{best_excess, refusal_excess}
-use Rattle.dual_lift.specs.declared.error.Excess.{Excess}
-use Rattle.dual_lift.specs.declared.error.LiftError.{LiftError}
-use Rattle.dual_lift.specs.declared.error.LiftError.TheVariants as lift
+use Rattle.simplex_frac.specs.declared.dual_lift.error.Excess.{Excess}
+use Rattle.simplex_frac.specs.declared.dual_lift.error.LiftError.{LiftError}
+use Rattle.simplex_frac.specs.declared.dual_lift.error.LiftError.TheVariants as lift
 
 -- a subproblem that is searched: each leg keeps a pair, and some leg two or more
 pub record IsSearched (t : Tables) (keeps : Domains) : Type 0 where

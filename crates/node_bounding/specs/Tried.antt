@@ -3,12 +3,12 @@ use Rattle.std.specs.Prelude.{Option}
 use Rattle.fleet_model.specs.Kept.{Domains}
 use Rattle.fleet_model.specs.declared.tables.Tables.{Tables}
 use Rattle.row_store.specs.declared.problem.Rows.{Rows}
-use Rattle.end_check.specs.Ends.{IsPricedEnd, IsRefusedEnd}
-use Rattle.end_check.specs.declared.hint.Hint.{Hint}
-use Rattle.end_check.specs.declared.hint.Hint.TheVariants as hint
+use Rattle.simplex_frac.specs.end_check.Ends.{IsPricedEnd, IsRefusedEnd}
+use Rattle.simplex_frac.specs.declared.end_check.hint.Hint.{Hint}
+use Rattle.simplex_frac.specs.declared.end_check.hint.Hint.TheVariants as hint
 use Rattle.lp_rows.specs.Layout.{Starts}
 use Rattle.lp_rows.specs.Points.{AreLinesOf}
-use Rattle.dual_lift.specs.declared.error.Excess.{Excess}
+use Rattle.simplex_frac.specs.declared.dual_lift.error.Excess.{Excess}
 use Rattle.price_lift.specs.BestPoint.{AreRefuting, IsBestPoint}
 use Rattle.price_lift.specs.EndLifts.{end_excess, refusing_excess}
 use Rattle.node_bounding.specs.declared.relaxing.Relaxed.{Relaxed}

@@ -17,12 +17,12 @@ use crate::relaxing::{Relaxed, relax};
 use crate::states::{Fraction, State, Stopped};
 use crate::wholes::{first_partial, flown_parts};
 use dual_bound::{Cause, Prices, Tree, rounded_worth};
-use end_check::EndFinder;
 use entries::NoMemory;
 use fleet_model::{Kept, Pair, Sizes, Tables};
 use lp_rows::Program;
 use plan_judge::LegalPlan;
 use price_lift::BestPoint;
+use simplex_frac::end_check::EndFinder;
 use std::alloc::Global;
 
 /// Examines a subproblem, whose nearest split above has these prices, with at most so many pivots or no budget of

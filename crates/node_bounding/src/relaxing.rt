@@ -6,12 +6,12 @@ ghost use Rattle.node_bounding.specs.Relaxed.{IsLiftTold, IsRelaxed};
 use crate::proved_run::proved_run;
 use crate::trying::{end_of, tried};
 use dual_bound::{Cause, Prices};
-use end_check::EndFinder;
 use entries::NoMemory;
 use fleet_model::{Kept, Tables};
 use lp_rows::Program;
 use price_lift::{BestPoint, LiftError};
 use row_store::Sparse;
+use simplex_frac::end_check::EndFinder;
 use std::alloc::Global;
 
 /// How many steps the search may take after its start where the proved run has no budget: nothing says that it ends.

@@ -8,12 +8,12 @@ ghost use Rattle.price_lift.specs.PaidBack.{IsLiftErrorBy};
 ghost use Rattle.node_bounding.specs.Tried.{EndsLines, IsEndIn, Settles, excess_from};
 
 use crate::relaxing::Relaxed;
-use end_check::{EndFinder, Hint, is_end, refuses};
 use entries::NoMemory;
 use fleet_model::{Kept, Tables};
 use lp_rows::{Outline, Program};
 use price_lift::{LiftError, lift_end, lift_refusing_end};
 use row_store::Rows;
+use simplex_frac::end_check::{EndFinder, Hint, is_end, refuses};
 use std::alloc::Global;
 
 /// The end that `S` finds in a program's lines, with at most so many steps after its start: where steps are allowed, there is a hint,

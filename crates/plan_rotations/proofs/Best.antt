@@ -5,11 +5,11 @@ use Rattle.fleet_model.specs.declared.tables.Tables.{Tables}
 use Rattle.fleet_model.specs.Legal.{IsLegal}
 use Rattle.fleet_model.specs.Schedule.{fleets_in, legs_in}
 use Rattle.fleet_model.specs.Plain.{IsPlain}
-use Rattle.ground_turns.specs.Maps.{IsHeldByMap}
-use Rattle.ground_turns.specs.Throughs.{IsThroughSet, value_of_set}
-use Rattle.ground_turns.proofs.SomeMap.{some_fits}
-use Rattle.through_flights.specs.Choice.{AreThroughsListed, ReachTurns, sum_of}
-use Rattle.through_flights.proofs.NoneMore.{none_more}
+use Rattle.lines_of_flying.specs.ground_turns.Maps.{IsHeldByMap}
+use Rattle.lines_of_flying.specs.ground_turns.Throughs.{IsThroughSet, value_of_set}
+use Rattle.lines_of_flying.proofs.ground_turns.SomeMap.{some_fits}
+use Rattle.plan_rotations.specs.through_flights.Choice.{AreThroughsListed, ReachTurns, sum_of}
+use Rattle.plan_rotations.proofs.through_flights.NoneMore.{none_more}
 use Rattle.plan_rotations.specs.Rotations.{AreWorthMost}
 
 -- what was chosen, with the numbers that show it

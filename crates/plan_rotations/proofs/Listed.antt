@@ -8,10 +8,10 @@ use Rattle.sums.proofs.Tests.{by_test}
 use Rattle.fleet_model.specs.declared.parts.Connection.{Connection}
 use Rattle.fleet_model.specs.declared.tables.Tables.{Tables}
 use Rattle.fleet_model.specs.Schedule.{legs_in}
-use Rattle.ground_turns.specs.Maps.{IsTour}
+use Rattle.lines_of_flying.specs.ground_turns.Maps.{IsTour}
 use Rattle.lines_of_flying.specs.Lines.{AreLegsOfTables}
 use Rattle.sums.proofs.Terms.{few_apart}
-use Rattle.cycle_join.specs.Joins.{IsApart}
+use Rattle.lines_of_flying.specs.cycle_join.Joins.{IsApart}
 use Rattle.euler_rotation.specs.Prefixes.{may_follow, numbered_entries, preorder, preorder_from}
 use Rattle.euler_rotation.specs.Tours.{IsOrder, times_in}
 use Rattle.euler_rotation.proofs.TourTurns.{own_leg, tour_order}

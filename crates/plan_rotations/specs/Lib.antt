@@ -1,1 +1,3 @@
 pub mod Rotations
+pub mod best_matching
+pub mod through_flights

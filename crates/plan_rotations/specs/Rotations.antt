@@ -3,8 +3,8 @@ use Rattle.std.specs.Prelude.{◌≡◌, ℕ, ◌<◌, Bool, true, false, ◌&&�
 use Rattle.fleet_model.specs.declared.parts.Connection.{Connection}
 use Rattle.fleet_model.specs.declared.tables.Tables.{Tables}
 use Rattle.fleet_model.specs.Schedule.{fleets_in}
-use Rattle.ground_turns.specs.Throughs.{IsThroughSet, value_of_set}
-use Rattle.through_flights.specs.Choice.{AreThroughsListed}
+use Rattle.lines_of_flying.specs.ground_turns.Throughs.{IsThroughSet, value_of_set}
+use Rattle.plan_rotations.specs.through_flights.Choice.{AreThroughsListed}
 use Rattle.euler_rotation.specs.Answers.{IsRotation, IsRotationComplete}
 use Rattle.euler_rotation.specs.declared.rotation.Rotation.{Rotation}
 use Rattle.euler_rotation.specs.declared.rotation.Rotation.TheVariants as rotation

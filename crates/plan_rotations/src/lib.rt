@@ -2,7 +2,9 @@
 //! given up, the one without them.
 #![tactic(auto)]
 
+pub mod best_matching;
 pub mod making;
+pub mod through_flights;
 
 pub use euler_rotation::FleetRotation;
 pub use making::rotations;

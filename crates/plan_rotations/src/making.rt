@@ -2,16 +2,16 @@ ghost use Rattle.std.specs.Prelude.{◌≡◌, ◌<◌, ◌≤◌, ◌&&◌, len
 ghost use Rattle.fleet_model.specs.Legal.{IsLegal};
 ghost use Rattle.fleet_model.specs.Schedule.{fleets_in};
 ghost use Rattle.fleet_model.specs.Plain.{IsPlain};
-ghost use Rattle.ground_turns.specs.Maps.{IsHeldByMap};
+ghost use Rattle.lines_of_flying.specs.ground_turns.Maps.{IsHeldByMap};
 ghost use Rattle.euler_rotation.specs.FleetRotations.{AreFlown, AreKept, AreRotations, rotation_of};
 ghost use Rattle.plan_rotations.specs.Rotations.{ArePlanRotations, AreWorthMost, IsMadeIf, IsMadeRotation, IsRotationWith, are_some, is_given_up};
 
+use crate::through_flights::choose;
 use entries::{Entries, NoMemory};
 use euler_rotation::{FleetRotation, Rotation, rotate};
 use fleet_model::{Assignment, Connection, Tables};
 use plan_judge::used;
 use std::alloc::Global;
-use through_flights::choose;
 
 /// The rotation of each fleet of a legal plan on plain tables, in the order of the table: its through pairs of greatest value, what
 /// becomes of the rotation with them and, where no tour or no kept one holds them or the search is given up, what becomes

@@ -11,10 +11,10 @@ use Rattle.fleet_model.specs.declared.tables.Tables.{Tables}
 use Rattle.fleet_model.specs.Kept.{Domains, pairs_kept}
 use Rattle.fleet_model.specs.Schedule.{leg_on}
 use Rattle.row_store.specs.Table.{height_of, right_side, row_at}
-use Rattle.dual_lift.specs.Parts.{AreParts, part_below, part_of}
-use Rattle.dual_lift.specs.Scales.{scale_below}
-use Rattle.dual_lift.proofs.BasicPoints.{HaveColumns, no_part, part_there}
-use Rattle.dual_lift.proofs.LeastScales.{HaveDens, part_is, scale_has, signed_part}
+use Rattle.simplex_frac.specs.dual_lift.Parts.{AreParts, part_below, part_of}
+use Rattle.simplex_frac.specs.dual_lift.Scales.{scale_below}
+use Rattle.simplex_frac.proofs.dual_lift.BasicPoints.{HaveColumns, no_part, part_there}
+use Rattle.simplex_frac.proofs.dual_lift.LeastScales.{HaveDens, part_is, scale_has, signed_part}
 use Rattle.lp_rows.specs.Layout.{Starts, all_kept, concat_below, pair_at_column}
 use Rattle.lp_rows.proofs.ColumnPlaces.{pair_once}
 use Rattle.dual_bound.specs.Mixed.{is_weight_of, weight_after, weight_in}

@@ -18,20 +18,20 @@ use Rattle.fleet_model.specs.Schedule.{legs_in}
 use Rattle.row_store.specs.DualValues.{AreDualValues, weighed}
 use Rattle.row_store.specs.Problem.{MeetsRows}
 use Rattle.row_store.specs.declared.problem.Rows.{Rows}
-use Rattle.end_check.specs.Ends.{AreByLine, IsPricedEnd, IsRefusedEnd, part_in, value_in}
-use Rattle.end_check.specs.declared.hint.PointHint.{PointHint}
-use Rattle.end_check.specs.declared.hint.RefusalHint.{RefusalHint}
+use Rattle.simplex_frac.specs.end_check.Ends.{AreByLine, IsPricedEnd, IsRefusedEnd, part_in, value_in}
+use Rattle.simplex_frac.specs.declared.end_check.hint.PointHint.{PointHint}
+use Rattle.simplex_frac.specs.declared.end_check.hint.RefusalHint.{RefusalHint}
 use Rattle.lp_rows.specs.Layout.{all_kept, concat_below, pair_at_column, starts_in}
 use Rattle.lp_rows.specs.Outline.{IsOutline}
 use Rattle.lp_rows.specs.Points.{AreLinesOf, priced_count}
 use Rattle.lp_rows.specs.declared.outline.Outline.{Outline}
 use Rattle.lp_rows.proofs.Counted.{nodes_are, pairs_are, parks_are}
-use Rattle.dual_lift.specs.Parts.{AreParts}
-use Rattle.dual_lift.specs.TooLarge.{IsLiftError}
-use Rattle.dual_lift.specs.declared.error.Excess.{Excess}
-use Rattle.dual_lift.specs.declared.error.LiftError.{LiftError}
-use Rattle.dual_lift.specs.declared.error.LiftError.TheVariants.{TooLarge}
-use Rattle.dual_lift.proofs.Excesses.{both_well, first_fails, not_excess, then_fails}
+use Rattle.simplex_frac.specs.dual_lift.Parts.{AreParts}
+use Rattle.simplex_frac.specs.dual_lift.TooLarge.{IsLiftError}
+use Rattle.simplex_frac.specs.declared.dual_lift.error.Excess.{Excess}
+use Rattle.simplex_frac.specs.declared.dual_lift.error.LiftError.{LiftError}
+use Rattle.simplex_frac.specs.declared.dual_lift.error.LiftError.TheVariants.{TooLarge}
+use Rattle.simplex_frac.proofs.dual_lift.Excesses.{both_well, first_fails, not_excess, then_fails}
 use Rattle.dual_bound.specs.Fractions.{IsMixedAt, IsWorth}
 use Rattle.dual_bound.specs.OfTables.{IsWeightOf}
 use Rattle.dual_bound.specs.Prices.{max_scale}

@@ -12,7 +12,7 @@ use Rattle.fleet_model.specs.Kept.{Domains, pairs_kept}
 use Rattle.fleet_model.specs.Schedule.{fleets_in, last_of}
 use Rattle.node_aggregate.specs.Nodes.{AreNodesAt}
 use Rattle.node_aggregate.proofs.Starts.{start_within}
-use Rattle.dual_lift.specs.Parts.{AreParts}
+use Rattle.simplex_frac.specs.dual_lift.Parts.{AreParts}
 use Rattle.lp_rows.specs.Layout.{Starts, all_kept, all_nodes, concat_below}
 use Rattle.dual_bound.specs.Prices.{max_scale}
 use Rattle.dual_bound.specs.WrittenOrder.{ArePricesInOrder, IsFigure, IsMixedInOrder, IsWeightInOrder, WeightsFollow}

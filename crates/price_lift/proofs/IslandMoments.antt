@@ -10,9 +10,9 @@ use Rattle.fleet_model.specs.declared.parts.Pair.{Pair}
 use Rattle.fleet_model.specs.declared.tables.Tables.{Tables}
 use Rattle.node_aggregate.specs.Nodes.{days_at, end_in}
 use Rattle.node_aggregate.proofs.Starts.{starts_rise}
-use Rattle.island_cut.specs.IslandLaws.{IsIdle}
-use Rattle.island_cut.specs.Islands.{has_islands, is_idle}
-use Rattle.island_cut.proofs.IslandProofs.{islands_tested}
+use Rattle.node_aggregate.specs.island_cut.IslandLaws.{IsIdle}
+use Rattle.node_aggregate.specs.island_cut.Islands.{has_islands, is_idle}
+use Rattle.node_aggregate.proofs.island_cut.IslandProofs.{islands_tested}
 use Rattle.node_aggregate.specs.Waits.{is_quiet, lies_between}
 use Rattle.node_aggregate.proofs.AllowedPairs.{allowed_tested}
 use Rattle.node_aggregate.proofs.EmptyArcs.{IsMoment, moment_is}

@@ -16,7 +16,7 @@ use Rattle.fleet_model.specs.Schedule.{fleets_in, legs_in}
 use Rattle.row_store.specs.Table.{HasColumns, height_of, row_at}
 use Rattle.row_store.specs.declared.problem.Rows.{Rows}
 use Rattle.simplex_frac.specs.ReachedTables.{weighed}
-use Rattle.dual_lift.specs.LastTables.{AreDualValues, IsReachedTable, WeighMore}
+use Rattle.simplex_frac.specs.dual_lift.LastTables.{AreDualValues, IsReachedTable, WeighMore}
 use Rattle.lp_rows.specs.declared.kinds.Column.{Column}
 use Rattle.lp_rows.specs.Entries.{column_cost, entry_of}
 use Rattle.lp_rows.specs.Layout.{IsNetwork, Starts, all_nodes, starts_in}
@@ -31,15 +31,15 @@ use Rattle.dual_bound.specs.Worth.{worth_of}
 use Rattle.dual_bound.specs.declared.prices.Prices.{Prices}
 use Rattle.price_lift.specs.Duals.{dual_value_in, priced_lines}
 use Rattle.price_lift.specs.Prices.{AreByLines}
-use Rattle.dual_lift.specs.TooLarge.{lowest_value_excess}
-use Rattle.dual_lift.proofs.BasicPoints.{HaveColumns}
-use Rattle.dual_lift.proofs.LeastScales.{HaveDens}
+use Rattle.simplex_frac.specs.dual_lift.TooLarge.{lowest_value_excess}
+use Rattle.simplex_frac.proofs.dual_lift.BasicPoints.{HaveColumns}
+use Rattle.simplex_frac.proofs.dual_lift.LeastScales.{HaveDens}
 use Rattle.price_lift.specs.TooLarge.{prices_excess}
-use Rattle.dual_lift.proofs.BestDuals.{lines_in}
+use Rattle.simplex_frac.proofs.dual_lift.BestDuals.{lines_in}
 use Rattle.price_lift.proofs.Columns.{cost_of_column, weighed_column, weighed_sides}
 use Rattle.lp_rows.proofs.ColumnPlaces.{column_number}
 use Rattle.price_lift.proofs.DownColumns.{down}
-use Rattle.dual_lift.proofs.Excesses.{first_none, not_excess, second_none}
+use Rattle.simplex_frac.proofs.dual_lift.Excesses.{first_none, not_excess, second_none}
 use Rattle.price_lift.proofs.Lagrangian.{are_within, rise_by_charges, through_nodes, worth_reaches}
 use Rattle.price_lift.proofs.Networks.{columns_long, same_arcs, same_nodes}
 use Rattle.price_lift.proofs.PaidLifts.{ArePricesLow}

@@ -5,16 +5,16 @@ use Rattle.frac_row.specs.declared.row.FracRow.{FracRow}
 use Rattle.fleet_model.specs.declared.tables.Tables.{Tables}
 use Rattle.fleet_model.specs.Kept.{Domains}
 use Rattle.fleet_model.specs.Schedule.{legs_in}
-use Rattle.dual_lift.specs.Duals.{real_columns}
-use Rattle.dual_lift.specs.Readings.{duals_by, duals_excess}
-use Rattle.dual_lift.specs.TooLarge.{IsLiftError, best_value_excess, phases_excess, refusal_value_excess, scale_excess}
-use Rattle.dual_lift.specs.declared.error.Excess.{Excess}
-use Rattle.dual_lift.specs.declared.error.LiftError.{LiftError}
-use Rattle.dual_lift.specs.declared.mixture.Mixture.{Mixture}
-use Rattle.dual_lift.specs.declared.reading.Reading.{Reading}
-use Rattle.dual_lift.specs.declared.reading.Reading.TheVariants.{BothRows, PhaseRow}
-use Rattle.dual_lift.specs.declared.error.LiftError.TheVariants.{NoMemory, TooLarge}
-use Rattle.dual_lift.proofs.Excesses.{first_none}
+use Rattle.simplex_frac.specs.dual_lift.Duals.{real_columns}
+use Rattle.simplex_frac.specs.dual_lift.Readings.{duals_by, duals_excess}
+use Rattle.simplex_frac.specs.dual_lift.TooLarge.{IsLiftError, best_value_excess, phases_excess, refusal_value_excess, scale_excess}
+use Rattle.simplex_frac.specs.declared.dual_lift.error.Excess.{Excess}
+use Rattle.simplex_frac.specs.declared.dual_lift.error.LiftError.{LiftError}
+use Rattle.simplex_frac.specs.declared.dual_lift.mixture.Mixture.{Mixture}
+use Rattle.simplex_frac.specs.declared.dual_lift.reading.Reading.{Reading}
+use Rattle.simplex_frac.specs.declared.dual_lift.reading.Reading.TheVariants.{BothRows, PhaseRow}
+use Rattle.simplex_frac.specs.declared.dual_lift.error.LiftError.TheVariants.{NoMemory, TooLarge}
+use Rattle.simplex_frac.proofs.dual_lift.Excesses.{first_none}
 use Rattle.lp_rows.specs.Layout.{IsNetwork, Starts}
 use Rattle.price_lift.specs.PaidBack.{FitsBy, IsLiftErrorBy, payback_excess_by}
 use Rattle.price_lift.specs.Duals.{best_duals, refusal_duals}

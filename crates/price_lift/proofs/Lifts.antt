@@ -13,19 +13,19 @@ use Rattle.lp_rows.specs.Outline.{IsOutline, column_count}
 use Rattle.lp_rows.specs.Points.{priced_count}
 use Rattle.lp_rows.specs.declared.outline.Outline.{Outline}
 use Rattle.lp_rows.proofs.Counted.{pairs_are, parks_are}
-use Rattle.dual_lift.specs.Duals.{cost_den}
-use Rattle.dual_lift.specs.LastTables.{IsEndBy, WeighTheCost, counts_costs}
-use Rattle.dual_lift.specs.Readings.{IsReadingOf, duals_by, duals_excess, scale_by, value_by}
-use Rattle.dual_lift.specs.TooLarge.{IsLiftError}
-use Rattle.dual_lift.specs.declared.error.LiftError.{LiftError}
-use Rattle.dual_lift.proofs.BasicPoints.{few_parts}
-use Rattle.dual_lift.proofs.Excesses.{both_well, second_none, then_fails}
-use Rattle.dual_lift.specs.declared.reading.Reading.{Reading}
-use Rattle.dual_lift.specs.declared.reading.Reading.TheVariants.{BothRows, PhaseRow}
-use Rattle.dual_lift.specs.Parts.{AreParts, HaveParts, part_below}
-use Rattle.dual_lift.specs.Scales.{scale_below}
-use Rattle.dual_lift.proofs.DualRows.{dual_there, duals_den, duals_wide}
-use Rattle.dual_lift.proofs.EndDuals.{are_duals, best_weighs, phases_weigh, read_so}
+use Rattle.simplex_frac.specs.dual_lift.Duals.{cost_den}
+use Rattle.simplex_frac.specs.dual_lift.LastTables.{IsEndBy, WeighTheCost, counts_costs}
+use Rattle.simplex_frac.specs.dual_lift.Readings.{IsReadingOf, duals_by, duals_excess, scale_by, value_by}
+use Rattle.simplex_frac.specs.dual_lift.TooLarge.{IsLiftError}
+use Rattle.simplex_frac.specs.declared.dual_lift.error.LiftError.{LiftError}
+use Rattle.simplex_frac.proofs.dual_lift.BasicPoints.{few_parts}
+use Rattle.simplex_frac.proofs.dual_lift.Excesses.{both_well, second_none, then_fails}
+use Rattle.simplex_frac.specs.declared.dual_lift.reading.Reading.{Reading}
+use Rattle.simplex_frac.specs.declared.dual_lift.reading.Reading.TheVariants.{BothRows, PhaseRow}
+use Rattle.simplex_frac.specs.dual_lift.Parts.{AreParts, HaveParts, part_below}
+use Rattle.simplex_frac.specs.dual_lift.Scales.{scale_below}
+use Rattle.simplex_frac.proofs.dual_lift.DualRows.{dual_there, duals_den, duals_wide}
+use Rattle.simplex_frac.proofs.dual_lift.EndDuals.{are_duals, best_weighs, phases_weigh, read_so}
 use Rattle.dual_bound.specs.Fractions.{IsMixedAt, IsWorth}
 use Rattle.dual_bound.specs.OfTables.{IsMixedOf, IsWeightOf}
 use Rattle.dual_bound.specs.Prices.{ArePrices, max_scale}

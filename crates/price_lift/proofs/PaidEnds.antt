@@ -9,12 +9,12 @@ use Rattle.row_store.specs.Table.{height_of}
 use Rattle.lp_rows.specs.Layout.{starts_in}
 use Rattle.lp_rows.specs.Outline.{IsOutline}
 use Rattle.lp_rows.specs.declared.outline.Outline.{Outline}
-use Rattle.dual_lift.specs.LastTables.{counts_costs}
-use Rattle.dual_lift.specs.Readings.{duals_by, value_by}
-use Rattle.dual_lift.specs.TooLarge.{IsLiftError}
-use Rattle.dual_lift.specs.declared.error.LiftError.{LiftError}
-use Rattle.dual_lift.specs.declared.reading.Reading.{Reading}
-use Rattle.dual_lift.proofs.Excesses.{both_well, then_fails}
+use Rattle.simplex_frac.specs.dual_lift.LastTables.{counts_costs}
+use Rattle.simplex_frac.specs.dual_lift.Readings.{duals_by, value_by}
+use Rattle.simplex_frac.specs.dual_lift.TooLarge.{IsLiftError}
+use Rattle.simplex_frac.specs.declared.dual_lift.error.LiftError.{LiftError}
+use Rattle.simplex_frac.specs.declared.dual_lift.reading.Reading.{Reading}
+use Rattle.simplex_frac.proofs.dual_lift.Excesses.{both_well, then_fails}
 use Rattle.dual_bound.specs.declared.mixed.Mixed.{Mixed}
 use Rattle.dual_bound.specs.declared.prices.Prices.{Prices}
 use Rattle.price_lift.specs.ArcRises.{outline_rises}

@@ -12,8 +12,8 @@ use Rattle.dual_bound.specs.Prices.{ArePrices, AreWithin, IsScale, price_of, ren
 use Rattle.dual_bound.specs.Worth.{worth_of}
 use Rattle.dual_bound.specs.WrittenOrder.{ArePricesInOrder}
 use Rattle.dual_bound.specs.declared.prices.Prices.{Prices}
-use Rattle.island_cut.specs.Islands.{has_islands}
-use Rattle.island_cut.proofs.IslandProofs.{islands_tested}
+use Rattle.node_aggregate.specs.island_cut.Islands.{has_islands}
+use Rattle.node_aggregate.proofs.island_cut.IslandProofs.{islands_tested}
 use Rattle.island_prices.specs.Arcs.{AreAllNodes, AreArcRises, AreByNodes, AreMoments, DoStayLow, rise_over}
 use Rattle.island_prices.specs.Least.{least_idle}
 use Rattle.island_prices.specs.Paid.{first_beyond, paid_price, paid_prices, paid_rent}

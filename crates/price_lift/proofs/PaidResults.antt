@@ -6,7 +6,7 @@ use Rattle.fleet_model.specs.declared.tables.Tables.{Tables}
 use Rattle.lp_rows.specs.Layout.{starts_in}
 use Rattle.lp_rows.specs.Outline.{IsOutline}
 use Rattle.lp_rows.specs.declared.outline.Outline.{Outline}
-use Rattle.dual_lift.specs.TooLarge.{IsLiftError}
+use Rattle.simplex_frac.specs.dual_lift.TooLarge.{IsLiftError}
 use Rattle.dual_bound.specs.Prices.{AreWithin}
 use Rattle.dual_bound.specs.declared.prices.Prices.{Prices}
 use Rattle.island_prices.specs.Least.{least_idle}

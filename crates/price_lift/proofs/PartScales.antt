@@ -7,10 +7,10 @@ use Rattle.sums.proofs.Places.{get_or-list_below, length-list_below}
 use Rattle.frac_row.specs.Row.{common_divisor, number_of}
 use Rattle.frac_row.specs.declared.row.FracRow.{FracRow}
 use Rattle.frac_row.proofs.Rows.{common_divisor_positive}
-use Rattle.end_check.specs.Ends.{part_in}
+use Rattle.simplex_frac.specs.end_check.Ends.{part_in}
 use Rattle.dual_bound.specs.Prices.{max_scale}
-use Rattle.dual_lift.specs.TooLarge.{excess_if}
-use Rattle.dual_lift.proofs.LowestTerms.{den_over}
+use Rattle.simplex_frac.specs.dual_lift.TooLarge.{excess_if}
+use Rattle.simplex_frac.proofs.dual_lift.LowestTerms.{den_over}
 use Rattle.price_lift.specs.EndLifts.{first_parts, parts_excess}
 
 module _ (point : List ℕ) (scale count : ℕ) where

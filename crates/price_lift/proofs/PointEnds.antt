@@ -9,11 +9,11 @@ use Rattle.simplex_frac.specs.BasicPoints.{IsBasicPoint, MeetsAtCost}
 use Rattle.lp_rows.specs.Layout.{Starts, pair_at_column}
 use Rattle.lp_rows.specs.Points.{AreLinesOf}
 use Rattle.lp_rows.proofs.PairParts.{is_pair, part_at}
-use Rattle.dual_lift.specs.LastTables.{HasBasicPoint, IsReachedTable}
-use Rattle.dual_lift.specs.Parts.{HaveParts, part_below}
-use Rattle.dual_lift.specs.Scales.{scale_below}
-use Rattle.dual_lift.proofs.BasicPoints.{den_divides, dens_below, dens_positive, no_point, part_there, point_below, point_parts, point_there, raw_is, raw_of}
-use Rattle.dual_lift.proofs.LeastScales.{scale_has, scale_positive, signed_part}
+use Rattle.simplex_frac.specs.dual_lift.LastTables.{HasBasicPoint, IsReachedTable}
+use Rattle.simplex_frac.specs.dual_lift.Parts.{HaveParts, part_below}
+use Rattle.simplex_frac.specs.dual_lift.Scales.{scale_below}
+use Rattle.simplex_frac.proofs.dual_lift.BasicPoints.{den_divides, dens_below, dens_positive, no_point, part_there, point_below, point_parts, point_there, raw_is, raw_of}
+use Rattle.simplex_frac.proofs.dual_lift.LeastScales.{scale_has, scale_positive, signed_part}
 use Rattle.dual_bound.specs.Prices.{max_scale}
 use Rattle.price_lift.proofs.LastTables.{have_dens, height_is, own_columns}
 use Rattle.price_lift.proofs.PointPlans.{plan, share}

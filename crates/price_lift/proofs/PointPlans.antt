@@ -26,7 +26,7 @@ use Rattle.lp_rows.specs.Points.{AreLinesOf, pair_part}
 use Rattle.lp_rows.proofs.ColumnPlaces.{pair_column}
 use Rattle.lp_rows.proofs.PairParts.{part_at, same_parts}
 use Rattle.lp_rows.proofs.Places.{nothing_there}
-use Rattle.dual_lift.specs.Parts.{AreParts}
+use Rattle.simplex_frac.specs.dual_lift.Parts.{AreParts}
 use Rattle.dual_bound.specs.Fractions.{IsMixedAt, IsWeight, IsWorth, parts_in}
 use Rattle.dual_bound.specs.Mixed.{weight_in}
 use Rattle.dual_bound.specs.Prices.{ArePrices, IsScale, max_scale}

@@ -28,12 +28,12 @@ use Rattle.lp_rows.specs.Layout.{program_columns}
 use Rattle.lp_rows.specs.Outline.{IsOutline, column_count}
 use Rattle.lp_rows.specs.declared.outline.Outline.{Outline}
 use Rattle.price_lift.proofs.LastTables.{counted_columns}
-use Rattle.dual_lift.specs.LastTables.{HasBasicPoint, IsReachedTable}
-use Rattle.dual_lift.specs.Mixture.{HasPhases, IsMixture}
-use Rattle.dual_lift.specs.declared.mixture.Mixture.{Mixture}
-use Rattle.dual_lift.specs.declared.reading.Reading.TheVariants.{BothRows, PhaseRow}
-use Rattle.dual_lift.proofs.EndDuals.{best_has_phases}
-use Rattle.dual_lift.proofs.Reached.{known}
+use Rattle.simplex_frac.specs.dual_lift.LastTables.{HasBasicPoint, IsReachedTable}
+use Rattle.simplex_frac.specs.dual_lift.Mixture.{HasPhases, IsMixture}
+use Rattle.simplex_frac.specs.declared.dual_lift.mixture.Mixture.{Mixture}
+use Rattle.simplex_frac.specs.declared.dual_lift.reading.Reading.TheVariants.{BothRows, PhaseRow}
+use Rattle.simplex_frac.proofs.dual_lift.EndDuals.{best_has_phases}
+use Rattle.simplex_frac.proofs.dual_lift.Reached.{known}
 use Rattle.price_lift.specs.Ends.{Ends}
 use Rattle.price_lift.specs.LastTables.{IsPointBy, IsRefusalBy}
 use Rattle.price_lift.proofs.Columns.{sides_at_least}

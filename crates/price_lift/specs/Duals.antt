@@ -7,7 +7,7 @@ use Rattle.frac_row.specs.declared.row.FracRow.{FracRow}
 use Rattle.fleet_model.specs.Schedule.{legs_in}
 use Rattle.fleet_model.specs.declared.tables.Tables.{Tables}
 use Rattle.row_store.specs.Table.{height_of}
-use Rattle.dual_lift.specs.Duals.{best_scale, best_value, phase_den, phase_value}
+use Rattle.simplex_frac.specs.dual_lift.Duals.{best_scale, best_value, phase_den, phase_value}
 
 abbrev pub priced_lines : Tables → List FracRow → ℕ
 priced_lines t table = height_of table - legs_in t

@@ -6,11 +6,11 @@ use Rattle.frac_row.specs.declared.row.FracRow.{FracRow}
 use Rattle.fleet_model.specs.Kept.{Domains, pairs_kept}
 use Rattle.fleet_model.specs.Schedule.{legs_in}
 use Rattle.fleet_model.specs.declared.tables.Tables.{Tables}
-use Rattle.end_check.specs.Ends.{part_in}
-use Rattle.end_check.specs.declared.hint.PointHint.{PointHint}
-use Rattle.end_check.specs.declared.hint.RefusalHint.{RefusalHint}
-use Rattle.dual_lift.specs.TooLarge.{excess_if}
-use Rattle.dual_lift.specs.declared.error.Excess.{Excess}
+use Rattle.simplex_frac.specs.end_check.Ends.{part_in}
+use Rattle.simplex_frac.specs.declared.end_check.hint.PointHint.{PointHint}
+use Rattle.simplex_frac.specs.declared.end_check.hint.RefusalHint.{RefusalHint}
+use Rattle.simplex_frac.specs.dual_lift.TooLarge.{excess_if}
+use Rattle.simplex_frac.specs.declared.dual_lift.error.Excess.{Excess}
 use Rattle.fleet_model.specs.declared.parts.Pair.{Pair}
 use Rattle.lp_rows.specs.Layout.{Starts, all_kept, concat_below}
 use Rattle.dual_bound.specs.Prices.{max_scale}

@@ -7,10 +7,10 @@ use Rattle.fleet_model.specs.Schedule.{legs_in}
 use Rattle.fleet_model.specs.declared.tables.Tables.{Tables}
 use Rattle.row_store.specs.declared.problem.Rows.{Rows}
 use Rattle.lp_rows.specs.Points.{AreLinesOf}
-use Rattle.dual_lift.specs.LastTables.{HasBasicPoint, IsEndBy, IsReachedTable, counts_costs}
-use Rattle.dual_lift.specs.Readings.{duals_by, duals_excess}
-use Rattle.dual_lift.specs.declared.error.Excess.{Excess}
-use Rattle.dual_lift.specs.declared.reading.Reading.{Reading}
+use Rattle.simplex_frac.specs.dual_lift.LastTables.{HasBasicPoint, IsEndBy, IsReachedTable, counts_costs}
+use Rattle.simplex_frac.specs.dual_lift.Readings.{duals_by, duals_excess}
+use Rattle.simplex_frac.specs.declared.dual_lift.error.Excess.{Excess}
+use Rattle.simplex_frac.specs.declared.dual_lift.reading.Reading.{Reading}
 use Rattle.lp_rows.specs.Layout.{Starts}
 use Rattle.price_lift.specs.PaidBack.{payback_excess_by}
 use Rattle.price_lift.specs.TooLarge.{point_ends, prices_excess}

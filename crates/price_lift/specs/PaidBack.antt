@@ -5,9 +5,9 @@ use Rattle.frac_row.specs.declared.row.FracRow.{FracRow}
 use Rattle.fleet_model.specs.Kept.{Domains}
 use Rattle.fleet_model.specs.Schedule.{fleets_in}
 use Rattle.fleet_model.specs.declared.tables.Tables.{Tables}
-use Rattle.dual_lift.specs.declared.error.Excess.{Excess}
-use Rattle.dual_lift.specs.declared.error.LiftError.{LiftError}
-use Rattle.dual_lift.specs.declared.error.LiftError.TheVariants as lift
+use Rattle.simplex_frac.specs.declared.dual_lift.error.Excess.{Excess}
+use Rattle.simplex_frac.specs.declared.dual_lift.error.LiftError.{LiftError}
+use Rattle.simplex_frac.specs.declared.dual_lift.error.LiftError.TheVariants as lift
 use Rattle.lp_rows.specs.Layout.{IsNetwork, Starts, moment_at, node_of_place}
 use Rattle.dual_bound.specs.declared.prices.Prices.{Prices}
 use Rattle.island_prices.specs.Arcs.{ArcMoments}

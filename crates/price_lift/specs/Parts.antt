@@ -4,8 +4,8 @@ use Rattle.frac_row.specs.declared.row.FracRow.{FracRow}
 use Rattle.fleet_model.specs.Schedule.{leg_on}
 use Rattle.fleet_model.specs.declared.parts.Pair.{Pair}
 use Rattle.row_store.specs.Table.{height_of}
-use Rattle.dual_lift.specs.Parts.{AreParts, part_below}
-use Rattle.dual_lift.specs.Scales.{scale_below}
+use Rattle.simplex_frac.specs.dual_lift.Parts.{AreParts, part_below}
+use Rattle.simplex_frac.specs.dual_lift.Scales.{scale_below}
 use Rattle.lp_rows.specs.Layout.{concat_below}
 use Rattle.dual_bound.specs.Prices.{max_scale}
 use Rattle.dual_bound.specs.declared.mixed.Mixed.{Mixed}

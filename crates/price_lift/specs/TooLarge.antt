@@ -6,9 +6,9 @@ use Rattle.fleet_model.specs.Kept.{Domains, pairs_kept}
 use Rattle.fleet_model.specs.Schedule.{legs_in}
 use Rattle.fleet_model.specs.declared.tables.Tables.{Tables}
 use Rattle.row_store.specs.Table.{height_of}
-use Rattle.dual_lift.specs.Duals.{real_columns}
-use Rattle.dual_lift.specs.TooLarge.{best_value_excess, least_scale_excess, lowest_excess, phases_excess, refusal_value_excess, scale_excess}
-use Rattle.dual_lift.specs.declared.error.Excess.{Excess}
+use Rattle.simplex_frac.specs.dual_lift.Duals.{real_columns}
+use Rattle.simplex_frac.specs.dual_lift.TooLarge.{best_value_excess, least_scale_excess, lowest_excess, phases_excess, refusal_value_excess, scale_excess}
+use Rattle.simplex_frac.specs.declared.dual_lift.error.Excess.{Excess}
 use Rattle.dual_bound.specs.Prices.{max_price, max_scale}
 use Rattle.lp_rows.specs.Layout.{Starts}
 use Rattle.price_lift.specs.PaidBack.{payback_excess_by}

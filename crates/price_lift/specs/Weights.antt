@@ -6,7 +6,7 @@ use Rattle.fleet_model.specs.Schedule.{IsPair}
 use Rattle.fleet_model.specs.declared.parts.Pair.{Pair}
 use Rattle.fleet_model.specs.declared.tables.Tables.{Tables}
 use Rattle.row_store.specs.Table.{height_of, right_side, row_at}
-use Rattle.dual_lift.specs.Scales.{scale_below}
+use Rattle.simplex_frac.specs.dual_lift.Scales.{scale_below}
 use Rattle.lp_rows.specs.Layout.{pair_at_column}
 use Rattle.dual_bound.specs.Mixed.{weight_in}
 use Rattle.dual_bound.specs.declared.mixed.Mixed.{Mixed}

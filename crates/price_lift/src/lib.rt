@@ -14,7 +14,7 @@ pub mod stepping;
 pub mod weighing;
 
 pub use best_point::BestPoint;
-pub use dual_lift::LiftError;
 pub use end_lifts::{lift_end, lift_refusing_end};
 pub use lift::{Lifted, lift_best, lift_refusal};
 pub use lifting::{lift_best_with, lift_refusal_with};
+pub use simplex_frac::dual_lift::LiftError;

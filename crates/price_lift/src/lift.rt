@@ -16,10 +16,10 @@ ghost use Rattle.price_lift.specs.Weights.{AreBasicWeights};
 use crate::best_point::BestPoint;
 use crate::lifting::{lift_best_with, lift_refusal_with};
 use dual_bound::{Mixed, Prices};
-use dual_lift::LiftError;
 use fleet_model::{Kept, Tables};
 use lp_rows::Outline;
 use row_store::RowStore;
+use simplex_frac::dual_lift::LiftError;
 use std::alloc::Global;
 
 /// What the last table of a run says of its subproblem.

@@ -5,8 +5,8 @@ ghost use Rattle.fleet_model.specs.Schedule.{legs_in};
 ghost use Rattle.simplex_frac.specs.declared.turn.Turn.TheVariants as turns;
 ghost use Rattle.lp_rows.specs.Layout.{starts_in};
 ghost use Rattle.lp_rows.specs.Outline.{IsOutline};
-ghost use Rattle.dual_lift.specs.Readings.{duals_by, duals_excess};
-ghost use Rattle.dual_lift.specs.TooLarge.{IsLiftError, refusal_value_excess};
+ghost use Rattle.simplex_frac.specs.dual_lift.Readings.{duals_by, duals_excess};
+ghost use Rattle.simplex_frac.specs.dual_lift.TooLarge.{IsLiftError, refusal_value_excess};
 ghost use Rattle.price_lift.specs.Duals.{best_duals, refusal_duals};
 ghost use Rattle.price_lift.specs.Ends.{Ends};
 ghost use Rattle.price_lift.specs.LastTables.{IsLastBy, IsPointBy, IsRefusalBy, none_excess, point_excess, prices_excess_by};
@@ -20,10 +20,10 @@ use crate::paying::paid_back;
 use crate::pricing::prices_of;
 use crate::weighing::basic_mixed;
 use dual_bound::Prices;
-use dual_lift::{LiftError, Mixture, Reading, duals};
 use fleet_model::{Kept, Tables};
 use lp_rows::Outline;
 use row_store::RowStore;
+use simplex_frac::dual_lift::{LiftError, Mixture, Reading, duals};
 use std::alloc::Global;
 
 /// `lift_best` by the outline of the kept pairs.

@@ -5,8 +5,8 @@ ghost use Rattle.dual_bound.specs.Prices.{max_price, max_scale};
 ghost use Rattle.price_lift.specs.TooLarge.{prices_excess};
 
 use dual_bound::prices::{MAX_PRICE, MAX_SCALE};
-use dual_lift::{Excess, Limits};
 use frac_row::FracRow;
+use simplex_frac::dual_lift::{Excess, Limits};
 
 /// The same values in lowest terms, where their scale and they themselves are within the limits of prices. They are those
 /// of the lines from the first given one on.
@@ -17,7 +17,7 @@ pub(crate) fn lowest(first: u32, duals: FracRow) -> Result<FracRow, Excess>
         (λ lowest. (prices_excess first duals ≡ None) × (lowest ≡ reduced duals))
         (λ excess. prices_excess first duals ≡ Some excess) }
 {
-    dual_lift::lowest(first, duals, &price_limits())
+    simplex_frac::dual_lift::lowest(first, duals, &price_limits())
 }
 
 /// Whether values over a scale are within the limits of prices in lowest terms. Takes no memory.
@@ -28,7 +28,7 @@ pub(crate) fn fits(first: u32, values: &[i128], scale: &i128) -> Result<(), Exce
         (λ _. prices_excess first (record { numbers = values.now; den = scale.now }) ≡ None)
         (λ excess. prices_excess first (record { numbers = values.now; den = scale.now }) ≡ Some excess) }
 {
-    dual_lift::fits(first, values, scale, &price_limits())
+    simplex_frac::dual_lift::fits(first, values, scale, &price_limits())
 }
 
 // The limits of prices.

@@ -2,19 +2,19 @@
 ghost use Rattle.std.specs.Prelude.{◌≡◌, ◌<◌, ◌++◌, length, None, IfOk, OnOk, MatchResult};
 ghost use Rattle.fleet_model.specs.Kept.{Domains};
 ghost use Rattle.lp_rows.specs.Outline.{IsOutline};
-ghost use Rattle.dual_lift.specs.TooLarge.{IsLiftError};
+ghost use Rattle.simplex_frac.specs.dual_lift.TooLarge.{IsLiftError};
 ghost use Rattle.dual_bound.specs.Prices.{AreWithin};
 ghost use Rattle.price_lift.specs.ArcRises.{outline_rises, rise_of_number};
 ghost use Rattle.price_lift.specs.PaidBack.{lift_error, paid_back, payback_excess};
 ghost use Rattle.price_lift.specs.Wanted.{handed_on};
 
 use dual_bound::{PriceFinder, Prices};
-use dual_lift::LiftError;
-use dual_lift::error::PAYBACK_STEP;
 use entries::NoMemory;
 use fleet_model::Tables;
 use island_prices::{Arc, PaybackError, Rise, least_idle, pay_back, push_rise};
 use lp_rows::Outline;
+use simplex_frac::dual_lift::LiftError;
+use simplex_frac::dual_lift::error::PAYBACK_STEP;
 use std::alloc::Global;
 
 /// The prices after each rise over an arc that went is paid back, where rents and prices are within their limits then. They

@@ -6,7 +6,7 @@ ghost use Rattle.frac_row.specs.Row.{IsRow, reduced, width_of};
 ghost use Rattle.fleet_model.specs.Schedule.{fleets_in, legs_in};
 ghost use Rattle.lp_rows.specs.Layout.{concat_below, starts_in};
 ghost use Rattle.lp_rows.specs.Outline.{IsOutlineOver};
-ghost use Rattle.dual_lift.specs.TooLarge.{IsLiftError};
+ghost use Rattle.simplex_frac.specs.dual_lift.TooLarge.{IsLiftError};
 ghost use Rattle.price_lift.specs.Steps.{charge_in, charge_where, prices_by};
 ghost use Rattle.price_lift.specs.TooLarge.{prices_excess};
 ghost use Rattle.price_lift.specs.Wanted.{IsWantedBehind};
@@ -14,12 +14,12 @@ ghost use Rattle.price_lift.specs.Wanted.{IsWantedBehind};
 use crate::lowest::lowest;
 use crate::stepping::price_steps;
 use dual_bound::{Charge, Prices};
-use dual_lift::LiftError;
-use dual_lift::numbers::opposite;
 use entries::{Entries, NoMemory};
 use fleet_model::Tables;
 use frac_row::FracRow;
 use lp_rows::{Outline, Park};
+use simplex_frac::dual_lift::LiftError;
+use simplex_frac::dual_lift::numbers::opposite;
 use std::alloc::Global;
 
 /// The prices of dual values in lowest terms, where they are within their limits. There is one for each line with a

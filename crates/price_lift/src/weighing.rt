@@ -5,20 +5,20 @@ ghost use Rattle.row_store.specs.Table.{HasColumns, height_of};
 ghost use Rattle.lp_rows.specs.Layout.{concat_below};
 ghost use Rattle.lp_rows.specs.Outline.{column_count};
 ghost use Rattle.dual_bound.specs.Prices.{max_scale};
-ghost use Rattle.dual_lift.specs.Parts.{HaveParts};
-ghost use Rattle.dual_lift.specs.Scales.{scale_below};
-ghost use Rattle.dual_lift.specs.TooLarge.{IsLiftError};
+ghost use Rattle.simplex_frac.specs.dual_lift.Parts.{HaveParts};
+ghost use Rattle.simplex_frac.specs.dual_lift.Scales.{scale_below};
+ghost use Rattle.simplex_frac.specs.dual_lift.TooLarge.{IsLiftError};
 ghost use Rattle.price_lift.specs.Parts.{IsBasicMixed, weight_where, weights_at};
 ghost use Rattle.price_lift.specs.TooLarge.{weights_excess};
 ghost use Rattle.price_lift.specs.Wanted.{IsWantedBehind};
 
 use dual_bound::prices::MAX_SCALE;
 use dual_bound::{Mixed, Weight};
-use dual_lift::{LiftError, column_parts, least_scale};
 use entries::{Entries, NoMemory};
 use fleet_model::Pair;
 use lp_rows::Outline;
 use row_store::RowStore;
+use simplex_frac::dual_lift::{LiftError, column_parts, least_scale};
 use std::alloc::Global;
 
 /// The weights of the basic pairs, over the least scale that makes them whole.

@@ -13,12 +13,12 @@ use Rattle.fleet_model.specs.Times.{departure}
 use Rattle.fleet_model.specs.Use.{used_of}
 use Rattle.fleet_model.proofs.PeriodMinutes.{days_are_period, some_days}
 use Rattle.fleet_model.proofs.PlainTables.{plain_departs}
-use Rattle.ground_turns.specs.Laws.{TurnByDays}
-use Rattle.ground_turns.specs.Maps.{IsTour, no_turn, periods_in_turn, turn_after, turn_at, turns_round}
-use Rattle.ground_turns.specs.Nights.{nights_in}
-use Rattle.ground_turns.specs.Turns.{departs_at}
-use Rattle.ground_turns.proofs.TourNights.{nights_by_days}
-use Rattle.ground_turns.proofs.Places.{lower_row}
+use Rattle.lines_of_flying.specs.ground_turns.Laws.{TurnByDays}
+use Rattle.lines_of_flying.specs.ground_turns.Maps.{IsTour, no_turn, periods_in_turn, turn_after, turn_at, turns_round}
+use Rattle.lines_of_flying.specs.ground_turns.Nights.{nights_in}
+use Rattle.lines_of_flying.specs.ground_turns.Turns.{departs_at}
+use Rattle.lines_of_flying.proofs.ground_turns.TourNights.{nights_by_days}
+use Rattle.lines_of_flying.proofs.ground_turns.Places.{lower_row}
 use Rattle.lines_of_flying.specs.Lines.{BeginsAfterStart, day_of, days_of_tour, legs_on_day, lines_of, nights_after, periods_after}
 use Rattle.lines_of_flying.proofs.TourLines.{days_are_use, known_legs}
 use Rattle.lines_of_flying.proofs.WholeTours.{joined_all, joined_more, lines_are_tour}

@@ -15,11 +15,11 @@ use Rattle.euler_rotation.specs.declared.rotation.Rotation.TheVariants as rotati
 use Rattle.fleet_model.specs.declared.parts.Connection.{Connection}
 use Rattle.fleet_model.specs.declared.tables.Tables.{Tables}
 use Rattle.fleet_model.specs.Schedule.{fleet_of, fleets_in, leg_of, legs_in, no_fleet, no_leg, no_station, station_of, stations_in}
-use Rattle.ground_turns.specs.Maps.{turn_after}
-use Rattle.ground_turns.specs.Nights.{is_short, night_of_stay, nights_in_turn}
-use Rattle.ground_turns.specs.Turns.{station_at}
-use Rattle.ground_turns.specs.declared.nights.Night.{Night}
-use Rattle.ground_turns.specs.declared.nights.Night.TheVariants as night
+use Rattle.lines_of_flying.specs.ground_turns.Maps.{turn_after}
+use Rattle.lines_of_flying.specs.ground_turns.Nights.{is_short, night_of_stay, nights_in_turn}
+use Rattle.lines_of_flying.specs.ground_turns.Turns.{station_at}
+use Rattle.lines_of_flying.specs.declared.ground_turns.nights.Night.{Night}
+use Rattle.lines_of_flying.specs.declared.ground_turns.nights.Night.TheVariants as night
 use Rattle.lines_of_flying.specs.Lines.{AreLegsOfTables}
 use Rattle.plan_text.proofs.NameText.{name_is_plain}
 use Rattle.plan_text.specs.CsvText.{csv_text}

@@ -6,11 +6,11 @@ use Rattle.fleet_model.specs.declared.parts.Connection.{Connection}
 use Rattle.fleet_model.specs.declared.tables.Tables.{Tables}
 use Rattle.fleet_model.specs.Schedule.{leg_on, station_of}
 use Rattle.fleet_model.specs.Times.{nights_of}
-use Rattle.ground_turns.specs.Maps.{turn_after}
-use Rattle.ground_turns.specs.Nights.{is_short, night_of_stay, nights_in_turn}
-use Rattle.ground_turns.specs.Turns.{nights_waited, station_at}
-use Rattle.ground_turns.specs.declared.nights.Night.{Night}
-use Rattle.ground_turns.specs.declared.nights.Night.TheVariants as night
+use Rattle.lines_of_flying.specs.ground_turns.Maps.{turn_after}
+use Rattle.lines_of_flying.specs.ground_turns.Nights.{is_short, night_of_stay, nights_in_turn}
+use Rattle.lines_of_flying.specs.ground_turns.Turns.{nights_waited, station_at}
+use Rattle.lines_of_flying.specs.declared.ground_turns.nights.Night.{Night}
+use Rattle.lines_of_flying.specs.declared.ground_turns.nights.Night.TheVariants as night
 use Rattle.plan_text.proofs.CsvWriting.{text_more, written_more}
 use Rattle.plan_text.specs.CsvText.{HasWritten, TextWriter, csv_text, written_text}
 use Rattle.rotation_report.specs.RotationRecords.{Row, begun_tour_rows, fleet_records, fleets_records, leg_row, night_row, rotation_header, round_records, row_record, short_no, yes_no}

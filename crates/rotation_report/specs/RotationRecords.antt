@@ -8,10 +8,10 @@ use Rattle.euler_rotation.specs.declared.rotation.Rotation.TheVariants as rotati
 use Rattle.fleet_model.specs.declared.parts.Connection.{Connection}
 use Rattle.fleet_model.specs.declared.tables.Tables.{Tables}
 use Rattle.fleet_model.specs.Schedule.{fleet_of, leg_of, station_of}
-use Rattle.ground_turns.specs.Maps.{turn_after}
-use Rattle.ground_turns.specs.Nights.{nights_in_turn}
-use Rattle.ground_turns.specs.declared.nights.Night.{Night}
-use Rattle.ground_turns.specs.declared.nights.Night.TheVariants as night
+use Rattle.lines_of_flying.specs.ground_turns.Maps.{turn_after}
+use Rattle.lines_of_flying.specs.ground_turns.Nights.{nights_in_turn}
+use Rattle.lines_of_flying.specs.declared.ground_turns.nights.Night.{Night}
+use Rattle.lines_of_flying.specs.declared.ground_turns.nights.Night.TheVariants as night
 use Rattle.lines_of_flying.specs.Lines.{days_of_tour, nights_after}
 use Rattle.euler_rotation.specs.FleetRotations.{rotation_of}
 use Rattle.euler_rotation.specs.declared.fleet_rotation.FleetRotation.{FleetRotation}

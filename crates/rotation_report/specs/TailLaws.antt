@@ -8,7 +8,7 @@ use Rattle.fleet_model.specs.Use.{used_of}
 use Rattle.fleet_model.specs.Schedule.{days_in, leg_on}
 use Rattle.fleet_model.specs.Times.{departure}
 use Rattle.fleet_model.specs.Period.{day_of_minute}
-use Rattle.ground_turns.specs.Maps.{IsTour}
+use Rattle.lines_of_flying.specs.ground_turns.Maps.{IsTour}
 use Rattle.lines_of_flying.specs.Lines.{BeginsAfterStart, lines_of}
 use Rattle.rotation_report.specs.Tails.{days_lines, line_on, lines_by}
 use Rattle.rotation_report.specs.declared.flying.FleetLines.{FleetLines}

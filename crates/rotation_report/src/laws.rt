@@ -4,7 +4,7 @@ ghost use Rattle.std.specs.List.{flat_map};
 ghost use Rattle.calendar_dates.specs.Days.{Day};
 ghost use Rattle.csv.specs.Writing.{default_writer, row_text};
 ghost use Rattle.fleet_model.specs.declared.tables.Tables.{Tables};
-ghost use Rattle.ground_turns.specs.Maps.{IsTour};
+ghost use Rattle.lines_of_flying.specs.ground_turns.Maps.{IsTour};
 ghost use Rattle.lines_of_flying.specs.Lines.{days_of_tour};
 ghost use Rattle.euler_rotation.specs.FleetRotations.{AllTellUse, AreRotations, TellsUse, all_told_by_plan, told_by_plan};
 ghost use Rattle.euler_rotation.specs.declared.fleet_rotation.FleetRotation.{FleetRotation};

@@ -2,8 +2,8 @@
 ghost use Rattle.std.specs.Prelude.{◌≡◌, ◌<◌, ◌≤◌, [], ◌∷◌, OnOk, codes, if◌then◌else◌, length, map, replicate};
 ghost use Rattle.fleet_model.specs.Schedule.{fleets_in, leg_on, legs_in};
 ghost use Rattle.fleet_model.specs.Times.{nights_of};
-ghost use Rattle.ground_turns.specs.Maps.{turn_after};
-ghost use Rattle.ground_turns.specs.Nights.{nights_in_turn};
+ghost use Rattle.lines_of_flying.specs.ground_turns.Maps.{turn_after};
+ghost use Rattle.lines_of_flying.specs.ground_turns.Nights.{nights_in_turn};
 ghost use Rattle.lines_of_flying.specs.Lines.{days_of_tour};
 ghost use Rattle.plan_text.specs.CsvText.{IsBetweenRecords};
 ghost use Rattle.rotation_report.specs.RoundRows.{HasRows};
@@ -14,7 +14,7 @@ use crate::record_writer::{Round, put_numbers, put_row};
 use csv::Writer;
 use entries::NoMemory;
 use fleet_model::Tables;
-use ground_turns::{flight, is_short};
+use lines_of_flying::ground_turns::{flight, is_short};
 use lines_of_flying::{nights_after, turn_after};
 use std::alloc::Global;
 

@@ -6,12 +6,12 @@ use Rattle.fleet_model.specs.declared.options.TableOptions.{TableOptions}
 use Rattle.fleet_model.specs.declared.refusals.TableFile.{TableFile}
 use Rattle.fleet_model.specs.declared.refusals.TableFile.TheVariants as file
 use Rattle.fleet_model.specs.declared.tables.Tables.{Tables}
-use Rattle.optional_legs.specs.Adding.{ReadsOptional}
-use Rattle.optional_legs.specs.Optional.{OptionalBad}
-use Rattle.optional_legs.proofs.ReadLaws as skips
-use Rattle.retime_windows.specs.Times.{ReadsWindows}
-use Rattle.retime_windows.specs.Windows.{WindowsBad}
-use Rattle.retime_windows.proofs.ReadLaws as windows
+use Rattle.sched_read.specs.optional_legs.Adding.{ReadsOptional}
+use Rattle.sched_read.specs.optional_legs.Optional.{OptionalBad}
+use Rattle.sched_read.proofs.optional_legs.ReadLaws as skips
+use Rattle.sched_read.specs.retime_windows.Times.{ReadsWindows}
+use Rattle.sched_read.specs.retime_windows.Windows.{WindowsBad}
+use Rattle.sched_read.proofs.retime_windows.ReadLaws as windows
 use Rattle.sched_read.specs.Laws.{SameFault}
 use Rattle.sched_read.specs.Reading.{BadAt, Reads}
 use Rattle.sched_read.proofs.ReadEnds as ends

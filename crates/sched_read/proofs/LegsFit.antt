@@ -6,7 +6,7 @@ use Rattle.std.proofs.lemmas.Bool.{eqb-false}
 use Rattle.std.proofs.lemmas.Int.{ints}
 use Rattle.std.proofs.lemmas.List.{length-map}
 use Rattle.std.proofs.Math.Nat.{mod-lt}
-use Rattle.fleet_tables.specs.Costs.{flight_of}
+use Rattle.table_rows.specs.fleet_tables.Costs.{flight_of}
 use Rattle.csv_fields.specs.declared.fault.FieldFault.{FieldFault}
 use Rattle.csv_fields.specs.Name.{name_of, station_code_of}
 use Rattle.csv_fields.specs.Number.{whole_of}
@@ -24,7 +24,7 @@ use Rattle.table_rows.specs.Names.{is_among, number_of_name}
 use Rattle.table_rows.specs.Rows.{Fields, RowsRead}
 use Rattle.table_rows.specs.declared.forms.Form.{Form}
 use Rattle.table_rows.specs.declared.forms.Form.TheVariants as form
-use Rattle.station_table.specs.Stations.{code_of}
+use Rattle.table_rows.specs.station_table.Stations.{code_of}
 use Rattle.table_rows.proofs.Kept.{front_differ, front_each, front_few}
 use Rattle.table_rows.proofs.ReadParts.{form_ok, known_ok, name_form, not_refused, number_within, room_left, same_answer, whole_within, width_ok}
 use Rattle.sched_read.specs.Legs.{ArePlain, LegsRead, block_between, day_read, from_period_start, leg_between, leg_fields, leg_headers, leg_read, period_minutes}

@@ -9,8 +9,8 @@ use Rattle.fleet_model.specs.declared.refusals.TableFile.{TableFile}
 use Rattle.fleet_model.specs.declared.refusals.TableFile.TheVariants as file
 use Rattle.fleet_model.specs.declared.tables.Tables.{Tables}
 use Rattle.fleet_model.proofs.TablesSame.{tables_same}
-use Rattle.optional_legs.specs.Adding.{ReadsOptional}
-use Rattle.retime_windows.specs.Times.{ReadsWindows, leg_in_windows}
+use Rattle.sched_read.specs.optional_legs.Adding.{ReadsOptional}
+use Rattle.sched_read.specs.retime_windows.Times.{ReadsWindows, leg_in_windows}
 use Rattle.sched_read.proofs.OtherSettings.{bad_by_day, reads_by_day, with_settings}
 use Rattle.sums.specs.Places.{list_below}
 use Rattle.sched_read.specs.Files.{AllBytes, FilesBad, FilesRead, MovedRead, WhereAsked}

@@ -12,7 +12,7 @@ use Rattle.fleet_model.specs.declared.refusals.TableFile.TheVariants as file
 use Rattle.fleet_model.specs.declared.tables.Tables.{Tables}
 use Rattle.sched_read.specs.Legs.{LegsBad, LegsRead, leg_read}
 use Rattle.sched_read.specs.Reading.{BadAt, ReadCosts, ReadLegs, Reads, TableBytes}
-use Rattle.station_table.specs.Stations.{code_of}
+use Rattle.table_rows.specs.station_table.Stations.{code_of}
 use Rattle.table_rows.specs.Rows.{Fields}
 
 -- the lists of tables, by other settings of as many days

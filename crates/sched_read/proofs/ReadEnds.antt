@@ -10,10 +10,10 @@ use Rattle.fleet_model.specs.declared.parts.Settings.{Settings}
 use Rattle.fleet_model.specs.declared.parts.Station.{Station}
 use Rattle.fleet_model.specs.declared.parts.Through.{Through}
 use Rattle.fleet_model.specs.declared.refusals.TableFile.TheVariants as file
-use Rattle.fleet_tables.specs.Costs.{cost_header, cost_key, cost_read, flight_of}
-use Rattle.fleet_tables.specs.Fleets.{fleet_header, fleet_name_of, fleet_read}
-use Rattle.fleet_tables.proofs.CostsFit.{costs_keep}
-use Rattle.fleet_tables.proofs.FleetsFit.{fleets_keep}
+use Rattle.table_rows.specs.fleet_tables.Costs.{cost_header, cost_key, cost_read, flight_of}
+use Rattle.table_rows.specs.fleet_tables.Fleets.{fleet_header, fleet_name_of, fleet_read}
+use Rattle.table_rows.proofs.fleet_tables.CostsFit.{costs_keep}
+use Rattle.table_rows.proofs.fleet_tables.FleetsFit.{fleets_keep}
 use Rattle.sched_read.specs.Laws.{HaveFirstFault, ReadAsTables}
 use Rattle.sched_read.specs.Legs.{leg_headers, leg_read}
 use Rattle.sched_read.specs.Reading.{ReadCosts, TableBytes}
@@ -21,8 +21,8 @@ use Rattle.sched_read.specs.Throughs.{ThroughsBad, ThroughsRead, connection_of, 
 use Rattle.sched_read.proofs.LegsFit.{headers_differ, legs_keep, legs_plain}
 use Rattle.sched_read.proofs.TablesFit.{tables_fit}
 use Rattle.sched_read.proofs.ThroughsFit.{throughs_keep}
-use Rattle.station_table.specs.Stations.{code_of, station_headers, station_read}
-use Rattle.station_table.proofs.StationsFit.{stations_differ, stations_keep}
+use Rattle.table_rows.specs.station_table.Stations.{code_of, station_headers, station_read}
+use Rattle.table_rows.proofs.station_table.StationsFit.{stations_differ, stations_keep}
 use Rattle.table_rows.proofs.FormReading.{form_end_exists}
 use Rattle.table_rows.proofs.OneReading.{table_end_exists}
 

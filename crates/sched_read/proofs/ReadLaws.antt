@@ -12,15 +12,15 @@ use Rattle.fleet_model.specs.declared.parts.Through.{Through}
 use Rattle.fleet_model.specs.declared.refusals.TableFile.{TableFile}
 use Rattle.fleet_model.specs.declared.refusals.TableFile.TheVariants as file
 use Rattle.fleet_model.specs.declared.tables.Tables.{Tables}
-use Rattle.fleet_tables.specs.Costs.{CostsBad, CostsRead, cost_header, cost_key, cost_read, flight_of}
-use Rattle.fleet_tables.specs.Fleets.{FleetsBad, FleetsRead, fleet_header, fleet_name_of, fleet_read}
+use Rattle.table_rows.specs.fleet_tables.Costs.{CostsBad, CostsRead, cost_header, cost_key, cost_read, flight_of}
+use Rattle.table_rows.specs.fleet_tables.Fleets.{FleetsBad, FleetsRead, fleet_header, fleet_name_of, fleet_read}
 use Rattle.sched_read.specs.Laws.{SameFault}
 use Rattle.sched_read.specs.Legs.{LegsBad, LegsRead, leg_headers, leg_read}
 use Rattle.sched_read.specs.Reading.{BadAt, ReadCosts, ReadFleets, ReadLegs, Reads, TableBytes}
 use Rattle.sched_read.specs.Throughs.{ThroughTableBad, ThroughTableReads, ThroughsBad, ThroughsRead, connection_of, through_header, through_read}
 use Rattle.sched_read.proofs.LegsFit.{headers_differ}
-use Rattle.station_table.specs.Stations.{StationsBad, StationsRead, code_of, station_headers, station_read}
-use Rattle.station_table.proofs.StationsFit.{stations_differ}
+use Rattle.table_rows.specs.station_table.Stations.{StationsBad, StationsRead, code_of, station_headers, station_read}
+use Rattle.table_rows.proofs.station_table.StationsFit.{stations_differ}
 use Rattle.table_rows.proofs.FormReading.{form_bad_same, form_reads_no_fault, form_reads_same}
 use Rattle.table_rows.proofs.OneReading.{table_bad_same, table_reads_no_fault, table_reads_same}
 

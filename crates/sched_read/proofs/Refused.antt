@@ -9,8 +9,8 @@ use Rattle.fleet_model.specs.declared.parts.Station.{Station}
 use Rattle.fleet_model.specs.declared.refusals.LoadError.{LoadError}
 use Rattle.fleet_model.specs.declared.refusals.LoadError.TheVariants as load
 use Rattle.fleet_model.specs.declared.refusals.TableFile.TheVariants as file
-use Rattle.fleet_tables.specs.Costs.{CostsBad, flight_of}
-use Rattle.fleet_tables.specs.Fleets.{fleet_name_of}
+use Rattle.table_rows.specs.fleet_tables.Costs.{CostsBad, flight_of}
+use Rattle.table_rows.specs.fleet_tables.Fleets.{fleet_name_of}
 use Rattle.sched_read.specs.Reading.{IsFirstBad, ReadCosts, ReadLegs, TableBytes}
 use Rattle.sched_read.specs.Throughs.{ThroughsBad}
 use Rattle.table_rows.specs.Outcome.{IsFirstFault}

@@ -3,11 +3,11 @@ use Rattle.std.proofs.Common.{All, map, sym, subst, ◌∙◌}
 use Rattle.csv_fields.specs.Record.{records_of}
 use Rattle.fleet_model.specs.Limits.{IsCostUpTo}
 use Rattle.fleet_model.specs.declared.tables.Tables.{Tables}
-use Rattle.fleet_tables.proofs.CostsFit.{costs_named}
-use Rattle.fleet_tables.specs.Fleets.{fleet_name_of}
-use Rattle.fleet_tables.specs.Costs.{flight_of}
-use Rattle.optional_legs.specs.Adding.{ReadsOptional}
-use Rattle.retime_windows.specs.Times.{ReadsWindows}
+use Rattle.table_rows.proofs.fleet_tables.CostsFit.{costs_named}
+use Rattle.table_rows.specs.fleet_tables.Fleets.{fleet_name_of}
+use Rattle.table_rows.specs.fleet_tables.Costs.{flight_of}
+use Rattle.sched_read.specs.optional_legs.Adding.{ReadsOptional}
+use Rattle.sched_read.specs.retime_windows.Times.{ReadsWindows}
 use Rattle.sched_read.specs.FileLaws.{PlansSettle}
 use Rattle.sched_read.proofs.Steps.{kept_by_step}
 

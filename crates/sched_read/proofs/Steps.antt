@@ -6,10 +6,10 @@ use Rattle.fleet_model.specs.declared.refusals.LoadError.{LoadError}
 use Rattle.fleet_model.specs.declared.refusals.LoadError.TheVariants as load
 use Rattle.fleet_model.specs.declared.refusals.TableFile.TheVariants as file
 use Rattle.fleet_model.specs.declared.tables.Tables.{Tables}
-use Rattle.optional_legs.specs.Adding.{ReadsOptional}
-use Rattle.optional_legs.specs.Optional.{OptionalBad}
-use Rattle.retime_windows.specs.Times.{ReadsWindows}
-use Rattle.retime_windows.specs.Windows.{WindowsBad}
+use Rattle.sched_read.specs.optional_legs.Adding.{ReadsOptional}
+use Rattle.sched_read.specs.optional_legs.Optional.{OptionalBad}
+use Rattle.sched_read.specs.retime_windows.Times.{ReadsWindows}
+use Rattle.sched_read.specs.retime_windows.Windows.{WindowsBad}
 use Rattle.sched_read.specs.Reading.{Reads}
 use Rattle.sched_read.specs.Files.{AllBytes, FilesBad, FilesRead, IsFirstBad, MovedRead, WhereAsked}
 use Rattle.table_rows.specs.Outcome.{IsFirstFault}

@@ -2,7 +2,7 @@
 use Rattle.std.proofs.Common.{◌≡◌, ◌<◌, ◌&&◌, ℕ, pos, false, not, nat_le, List, [], ◌∷◌, length, map, slice_index_or, Ok, refl, subst, inl, inr, arith}
 use Rattle.std.proofs.lemmas.List.{length-map}
 use Rattle.std.specs.Str.{is_utf8}
-use Rattle.fleet_tables.specs.Costs.{flight_of}
+use Rattle.table_rows.specs.fleet_tables.Costs.{flight_of}
 use Rattle.csv_fields.specs.Name.{name_of}
 use Rattle.csv_fields.specs.Number.{whole_of}
 use Rattle.csv_fields.specs.Record.{records_of}

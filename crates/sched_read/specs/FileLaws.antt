@@ -4,7 +4,7 @@ use Rattle.fleet_model.specs.Limits.{AreSettings}
 use Rattle.fleet_model.specs.declared.options.TableOptions.{TableOptions}
 use Rattle.fleet_model.specs.declared.refusals.TableFile.{TableFile}
 use Rattle.fleet_model.specs.declared.tables.Tables.{Tables}
-use Rattle.retime_windows.specs.Settled.{CanSettle}
+use Rattle.sched_read.specs.retime_windows.Settled.{CanSettle}
 use Rattle.sched_read.specs.Laws.{SameFault}
 use Rattle.sched_read.specs.Files.{AllBytes, FilesBad, FilesRead}
 

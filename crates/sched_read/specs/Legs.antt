@@ -2,7 +2,7 @@
 use Rattle.std.specs.Prelude.{ℕ, pos, ◌+◌, ◌-◌, ◌*◌, ◌%◌, not, ◌==◌, nat_le, List, ◌∷◌, [], length, codes, Option, None, option_map, Result, Ok}
 use Rattle.std.specs.List.{list_all}
 use Rattle.std.specs.Str.{is_utf8}
-use Rattle.fleet_tables.specs.Costs.{flight_of}
+use Rattle.table_rows.specs.fleet_tables.Costs.{flight_of}
 use Rattle.csv_fields.specs.declared.fault.FieldFault.{FieldFault}
 use Rattle.csv_fields.specs.Name.{name_of, station_code_of}
 use Rattle.csv_fields.specs.Number.{whole_of}

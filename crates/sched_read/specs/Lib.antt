@@ -4,3 +4,5 @@ pub mod Reading
 pub mod Throughs
 pub mod Files
 pub mod FileLaws
+pub mod retime_windows
+pub mod optional_legs

@@ -11,11 +11,11 @@ use Rattle.fleet_model.specs.declared.refusals.LoadError.{LoadError}
 use Rattle.fleet_model.specs.declared.refusals.LoadError.TheVariants as load
 use Rattle.fleet_model.specs.declared.refusals.TableFile.{TableFile}
 use Rattle.fleet_model.specs.declared.refusals.TableFile.TheVariants as file
-use Rattle.fleet_tables.specs.Costs.{CostsBad, CostsRead, flight_of}
-use Rattle.fleet_tables.specs.Fleets.{FleetsBad, FleetsRead, fleet_name_of}
+use Rattle.table_rows.specs.fleet_tables.Costs.{CostsBad, CostsRead, flight_of}
+use Rattle.table_rows.specs.fleet_tables.Fleets.{FleetsBad, FleetsRead, fleet_name_of}
 use Rattle.sched_read.specs.Legs.{LegsBad, LegsRead}
 use Rattle.sched_read.specs.Throughs.{ThroughsBad, ThroughsRead}
-use Rattle.station_table.specs.Stations.{StationsBad, StationsRead, code_of}
+use Rattle.table_rows.specs.station_table.Stations.{StationsBad, StationsRead, code_of}
 
 -- the bytes of the five files
 pub record TableBytes : Type 0 where

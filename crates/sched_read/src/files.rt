@@ -4,10 +4,10 @@ ghost use Rattle.sched_read.specs.Reading.{TableBytes};
 ghost use Rattle.sched_read.specs.Files.{AllBytes, FilesRead, IsFirstBad, MovedRead, all_bytes};
 
 use crate::loading::load;
+use crate::optional_legs::add_optional;
+use crate::retime_windows::add_windows;
 use entries::Entries;
 use fleet_model::{LoadError, TableOptions, Tables};
-use optional_legs::add_optional;
-use retime_windows::add_windows;
 use std::alloc::Global;
 
 /// The bytes of the files of tables. Those that aren't asked for are not looked at.

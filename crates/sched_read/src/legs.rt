@@ -1,13 +1,13 @@
 ghost use Rattle.std.specs.Prelude.{◌≡◌, ◌≢◌, ◌≤◌, ◌<◌, [], AllPairs, IfOk, MatchResult, length, map, option_map};
 ghost use Rattle.std.specs.List.{list_all};
 ghost use Rattle.std.specs.Str.{is_utf8};
-ghost use Rattle.fleet_tables.specs.Costs.{flight_of};
+ghost use Rattle.table_rows.specs.fleet_tables.Costs.{flight_of};
 ghost use Rattle.csv_fields.specs.Record.{records_of};
 ghost use Rattle.fleet_model.specs.Limits.{AreLegs, AreSettings};
 ghost use Rattle.fleet_model.specs.declared.limits.TheConstants.{MAX_STATIONS, MINUTES_PER_DAY};
 ghost use Rattle.fleet_model.specs.declared.refusals.TableFile.TheVariants as file;
 ghost use Rattle.sched_read.specs.Legs.{ArePlain, LegsBad, LegsRead, block_between, day_read, from_period_start, leg_fields, leg_read};
-ghost use Rattle.station_table.specs.Stations.{code_of};
+ghost use Rattle.table_rows.specs.station_table.Stations.{code_of};
 ghost use Rattle.table_rows.specs.Outcome.{IsFirstFault};
 ghost use Rattle.table_rows.specs.Rows.{RowsBad, RowsRead, fields_in, rows_in};
 

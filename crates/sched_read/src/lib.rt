@@ -6,6 +6,8 @@ pub mod files;
 pub mod laws;
 pub mod legs;
 pub mod loading;
+pub mod optional_legs;
+pub mod retime_windows;
 pub mod throughs;
 
 pub use files::{TableTexts, load_files};

@@ -6,9 +6,9 @@ use crate::legs::read_legs;
 use crate::throughs::read_throughs;
 use entries::Entries;
 use fleet_model::{Costs, LoadError, Settings, Tables, departures_of};
-use fleet_tables::{read_costs, read_fleets};
-use station_table::read_stations;
 use std::alloc::Global;
+use table_rows::fleet_tables::{read_costs, read_fleets};
+use table_rows::station_table::read_stations;
 
 /// The tables that five files hold, or their first fault: files are judged in the order of the parameters, in a
 /// file the first bad record decides, and in a record the least kind. Each leg departs at its own time alone and must be flown.

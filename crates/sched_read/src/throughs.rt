@@ -1,5 +1,5 @@
 ghost use Rattle.std.specs.Prelude.{◌≡◌, ◌≢◌, ◌≤◌, [], AllPairs, IfOk, MatchResult, length, map};
-ghost use Rattle.fleet_tables.specs.Costs.{flight_of};
+ghost use Rattle.table_rows.specs.fleet_tables.Costs.{flight_of};
 ghost use Rattle.csv_fields.specs.Record.{records_of};
 ghost use Rattle.fleet_model.specs.Limits.{AreThroughs};
 ghost use Rattle.fleet_model.specs.declared.limits.TheConstants.{MAX_LEGS};

@@ -1,6 +1,6 @@
 //! By how much pairs raised what a subproblem costs when it was split by them (pseudo costs: Bénichou and others 1971).
+use basis_factors::fixed_numbers::{PART_BITS, at, put};
 use entries::NoMemory;
-use fixed_numbers::{PART_BITS, at, put};
 use std::alloc::Global;
 
 /// So many parts of a unit are reckoned with.

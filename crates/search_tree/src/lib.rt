@@ -1,7 +1,9 @@
-//! The tree of a free search: the lines that serve all its subproblems and the basis to start from, the subproblems with their lines of
-//! the text, the bases of those that wait, by how much splits raised them, and the texts of the whole.
+//! The tree of a free search: prices of its subproblems; the lines that serve all of them and the basis to start from, the
+//! subproblems with their lines of the text, the bases of those that wait, by how much splits raised them, and the texts of
+//! the whole.
 #![tactic(auto)]
 
+pub mod box_prices;
 pub mod gains;
 pub mod problem;
 pub mod slots;

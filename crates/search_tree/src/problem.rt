@@ -1,5 +1,5 @@
+use crate::box_prices::PricedLines;
 use crate::whole_lines::{WholeLines, whole_lines};
-use box_prices::PricedLines;
 use dual_pivots::Lines;
 use entries::NoMemory;
 use fleet_model::{Kept, Tables};

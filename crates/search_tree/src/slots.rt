@@ -1,5 +1,5 @@
+use basis_factors::fixed_numbers::{Fixed, NONE, put};
 use entries::NoMemory;
-use fixed_numbers::{Fixed, NONE, put};
 use std::alloc::Global;
 
 // How many lines all slots may have together: 100 MB of columns and weights.

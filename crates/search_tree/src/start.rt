@@ -1,7 +1,7 @@
+use crate::box_prices::PricedLines;
 use crate::problem::Problem;
-use box_prices::PricedLines;
+use basis_factors::fixed_numbers::{Fixed, NONE, PART_BITS, at, place_of, put, reset};
 use entries::NoMemory;
-use fixed_numbers::{Fixed, NONE, PART_BITS, at, place_of, put, reset};
 
 /// The basis to start from where nothing is known, by lines, with the weights of its rows.
 ///

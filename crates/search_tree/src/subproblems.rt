@@ -1,5 +1,5 @@
+use basis_factors::fixed_numbers::{NONE, put};
 use entries::NoMemory;
-use fixed_numbers::{NONE, put};
 use std::alloc::Global;
 
 /// What became of a subproblem.
@@ -72,7 +72,7 @@ impl Subproblems {
 
     /// Puts down one more, and answers its number.
     pub fn push(&mut self, made: Subproblem) -> Result<u32, NoMemory> {
-        let number = fixed_numbers::place_of(self.all.len());
+        let number = basis_factors::fixed_numbers::place_of(self.all.len());
         self.all.push(made)?;
         Ok(number)
     }
@@ -80,7 +80,7 @@ impl Subproblems {
     /// The subproblem of a number.
     pub fn at(&self, number: u32) -> Subproblem {
         let none = Subproblem::part(NONE, NONE, false);
-        fixed_numbers::at(&self.all, number as usize, none)
+        basis_factors::fixed_numbers::at(&self.all, number as usize, none)
     }
 
     /// Writes a subproblem anew.
@@ -96,7 +96,7 @@ impl Subproblems {
             let made = self.all[number];
             if matches!(made.state, State::Waits) && (best.is_none() || made.rank < least) {
                 least = made.rank;
-                best = Some(fixed_numbers::place_of(number));
+                best = Some(basis_factors::fixed_numbers::place_of(number));
             }
         }
         best

@@ -1,10 +1,10 @@
 //! The texts of a tree that was found.
+use crate::box_prices::text_lines::{push_bare, push_trim};
+use crate::box_prices::texts::push_prices;
 use crate::problem::Problem;
 use crate::subproblems::{State, Subproblems};
-use box_prices::text_lines::{push_bare, push_trim};
-use box_prices::texts::push_prices;
+use basis_factors::fixed_numbers::NONE;
 use entries::{Entries, NoMemory};
-use fixed_numbers::NONE;
 use fleet_model::{Pair, Tables};
 use presolve::Trim;
 use proof_lines::{Line, Version, push_line};

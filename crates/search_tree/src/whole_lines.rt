@@ -1,7 +1,7 @@
-use box_prices::arc_from;
+use crate::box_prices::arc_from;
+use basis_factors::fixed_numbers::{Units, place_of};
 use dual_pivots::Lines;
 use entries::NoMemory;
-use fixed_numbers::{Units, place_of};
 use lp_rows::{Outline, Program};
 use std::alloc::Global;
 

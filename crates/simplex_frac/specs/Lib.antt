@@ -10,3 +10,5 @@ pub mod Tableaux
 pub mod StepLaws
 pub mod ReachedTables
 pub mod BasicPoints
+pub mod end_check
+pub mod dual_lift

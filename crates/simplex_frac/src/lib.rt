@@ -1,10 +1,12 @@
-//! The simplex method in exact fractions, with Bland's rule, over any store of tables; and what the tables that
-//! any steps reach from the first table of lines tell of the lines.
+//! The simplex method in exact fractions, with Bland's rule, over any store of tables; what the tables that any steps
+//! reach from the first table of lines tell of the lines; the dual values of the last one; and whether a hint is an end.
 #![tactic(auto)]
 
 pub mod basis;
 pub mod basis_count;
 pub mod checks;
+pub mod dual_lift;
+pub mod end_check;
 pub mod finishing;
 pub mod laws;
 pub mod outcome;

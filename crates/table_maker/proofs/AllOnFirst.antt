@@ -24,10 +24,10 @@ use Rattle.fleet_model.proofs.LeftOut.{block_kept}
 use Rattle.fleet_model.proofs.NotAsked.{plain_where_not_asked}
 use Rattle.fleet_model.proofs.OneDay.{period_is_day, plain_departure}
 use Rattle.fleet_model.proofs.PlainTables.{fleet_chooses, plain_fleet, plain_laps}
-use Rattle.ground_turns.specs.Maps.{IsNext, IsSuccessorMap, crossings_of, no_turn, periods_of, turn_to_next, turns_by}
-use Rattle.ground_turns.specs.Turns.{crosses}
-use Rattle.ground_turns.proofs.FleetTurns.{next_is_map}
-use Rattle.ground_turns.proofs.Fits.{balances, periods_beyond_use}
+use Rattle.lines_of_flying.specs.ground_turns.Maps.{IsNext, IsSuccessorMap, crossings_of, no_turn, periods_of, turn_to_next, turns_by}
+use Rattle.lines_of_flying.specs.ground_turns.Turns.{crosses}
+use Rattle.lines_of_flying.proofs.ground_turns.FleetTurns.{next_is_map}
+use Rattle.lines_of_flying.proofs.ground_turns.Fits.{balances, periods_beyond_use}
 use Rattle.sched_read.specs.Legs.{from_day_start}
 use Rattle.sums.specs.Below.{sum_below}
 use Rattle.sums.specs.Places.{list_below}

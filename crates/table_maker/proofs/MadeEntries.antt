@@ -11,11 +11,11 @@ use Rattle.fleet_model.specs.declared.parts.PairCost.{PairCost}
 use Rattle.fleet_model.specs.declared.parts.Settings.{Settings}
 use Rattle.fleet_model.specs.declared.parts.Station.{Station}
 use Rattle.fleet_model.specs.declared.parts.Through.{Through}
-use Rattle.fleet_tables.specs.Costs.{cost_key, cost_read, flight_of}
-use Rattle.fleet_tables.specs.Fleets.{fleet_name_of, fleet_read}
+use Rattle.table_rows.specs.fleet_tables.Costs.{cost_key, cost_read, flight_of}
+use Rattle.table_rows.specs.fleet_tables.Fleets.{fleet_name_of, fleet_read}
 use Rattle.sched_read.specs.Legs.{block_between, from_day_start, leg_between, leg_read}
 use Rattle.sched_read.specs.Throughs.{connection_of, through_read}
-use Rattle.station_table.specs.Stations.{code_of, station_read}
+use Rattle.table_rows.specs.station_table.Stations.{code_of, station_read}
 use Rattle.sums.specs.Places.{list_below}
 use Rattle.sums.proofs.Places.{get_or-list_below, length-list_below}
 use Rattle.table_rows.specs.Names.{is_among}

@@ -10,18 +10,18 @@ use Rattle.fleet_model.specs.declared.parts.Settings.{Settings}
 use Rattle.fleet_model.specs.declared.parts.Station.{Station}
 use Rattle.fleet_model.specs.declared.parts.Through.{Through}
 use Rattle.fleet_model.specs.declared.tables.Tables.{Tables}
-use Rattle.fleet_tables.specs.Costs.{CostsRead, flight_of}
-use Rattle.fleet_tables.specs.Fleets.{fleet_name_of}
-use Rattle.fleet_tables.proofs.CostsFit.{costs_keep}
-use Rattle.fleet_tables.proofs.FleetsFit.{fleets_keep}
+use Rattle.table_rows.specs.fleet_tables.Costs.{CostsRead, flight_of}
+use Rattle.table_rows.specs.fleet_tables.Fleets.{fleet_name_of}
+use Rattle.table_rows.proofs.fleet_tables.CostsFit.{costs_keep}
+use Rattle.table_rows.proofs.fleet_tables.FleetsFit.{fleets_keep}
 use Rattle.sched_read.specs.Legs.{LegsRead}
 use Rattle.sched_read.specs.Reading.{Reads, TableBytes}
 use Rattle.sched_read.specs.Throughs.{ThroughsRead}
 use Rattle.sched_read.proofs.LegsFit.{legs_keep, legs_plain}
 use Rattle.sched_read.proofs.TablesFit.{tables_fit}
 use Rattle.sched_read.proofs.ThroughsFit.{throughs_keep}
-use Rattle.station_table.specs.Stations.{code_of}
-use Rattle.station_table.proofs.StationsFit.{stations_keep}
+use Rattle.table_rows.specs.station_table.Stations.{code_of}
+use Rattle.table_rows.proofs.station_table.StationsFit.{stations_keep}
 use Rattle.sums.specs.Places.{list_below}
 use Rattle.table_maker.specs.Fields.{flight_name}
 use Rattle.table_maker.specs.Laws.{made_bytes}

@@ -5,11 +5,11 @@ use Rattle.std.specs.Fmt.{decimal}
 use Rattle.csv.specs.Reading.{strip_bom}
 use Rattle.csv_fields.specs.Record.{records_of}
 use Rattle.fleet_model.specs.declared.parts.Settings.{Settings}
-use Rattle.fleet_tables.specs.Costs.{CostsRead, cost_header, cost_key, cost_read, flight_of}
-use Rattle.fleet_tables.specs.Fleets.{FleetsRead, fleet_header, fleet_name_of, fleet_read}
+use Rattle.table_rows.specs.fleet_tables.Costs.{CostsRead, cost_header, cost_key, cost_read, flight_of}
+use Rattle.table_rows.specs.fleet_tables.Fleets.{FleetsRead, fleet_header, fleet_name_of, fleet_read}
 use Rattle.sched_read.specs.Legs.{LegsRead, leg_header, leg_read}
 use Rattle.sched_read.specs.Throughs.{ThroughsRead, connection_of, through_header, through_read}
-use Rattle.station_table.specs.Stations.{StationsRead, code_of, station_header, station_read}
+use Rattle.table_rows.specs.station_table.Stations.{StationsRead, code_of, station_header, station_read}
 use Rattle.sums.specs.Places.{list_below}
 use Rattle.table_maker.specs.Fields.{fleet_name, flight_name, is_out, maintains, station_code}
 use Rattle.table_maker.specs.Records.{back_fields, cost_fields, fleet_fields, made_leg_fields, made_station_fields, out_fields, table_text, through_fields}

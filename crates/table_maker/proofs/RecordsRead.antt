@@ -8,12 +8,12 @@ use Rattle.entries.specs.Names.{IsName, IsStationCode}
 use Rattle.fleet_model.specs.declared.limits.TheConstants.{MAX_AIRCRAFT, MAX_COST, MAX_FLEETS, MAX_GROUND_MINUTES, MAX_LEGS, MAX_STATIONS, MAX_THROUGHS}
 use Rattle.fleet_model.specs.Period.{minute_of_day}
 use Rattle.fleet_model.specs.declared.parts.Settings.{Settings}
-use Rattle.fleet_tables.specs.Costs.{cost_read}
-use Rattle.fleet_tables.specs.Fleets.{fleet_read}
+use Rattle.table_rows.specs.fleet_tables.Costs.{cost_read}
+use Rattle.table_rows.specs.fleet_tables.Fleets.{fleet_read}
 use Rattle.sched_read.specs.Legs.{block_between, day_read, from_day_start, leg_between, leg_read}
 use Rattle.sched_read.specs.Throughs.{through_read}
 use Rattle.sched_read.proofs.OneDay.{one_day}
-use Rattle.station_table.specs.Stations.{station_read}
+use Rattle.table_rows.specs.station_table.Stations.{station_read}
 use Rattle.table_rows.specs.Fields.{as_natural, natural_of}
 use Rattle.table_rows.specs.Names.{is_among, number_of_name}
 use Rattle.table_rows.specs.declared.forms.Form.TheVariants as form

@@ -6,12 +6,12 @@ use Rattle.std.specs.List.{range_with_len}
 use Rattle.std.proofs.lemmas.List.{length-append}
 use Rattle.csv.specs.Machine.{line_feed}
 use Rattle.csv_fields.specs.Flag.{flag_text}
-use Rattle.fleet_tables.specs.Costs.{cost_header}
-use Rattle.fleet_tables.specs.Fleets.{fleet_header}
+use Rattle.table_rows.specs.fleet_tables.Costs.{cost_header}
+use Rattle.table_rows.specs.fleet_tables.Fleets.{fleet_header}
 use Rattle.plan_text.specs.Text.{record_line, record_lines}
 use Rattle.sched_read.specs.Legs.{leg_header}
 use Rattle.sched_read.specs.Throughs.{through_header}
-use Rattle.station_table.specs.Stations.{station_header}
+use Rattle.table_rows.specs.station_table.Stations.{station_header}
 use Rattle.table_maker.specs.Fields.{clock_text, fleet_name, flight_name, hub_code, is_out, maintains, spoke_code, station_code}
 use Rattle.table_maker.specs.Laws.{AreShort, MadeShort}
 use Rattle.table_maker.specs.Made.{made_tables, tables_of_trips}

@@ -3,7 +3,7 @@ use Rattle.std.proofs.Common.{◌≡◌, ◌==◌, ℕ, suc, ◌+◌, ◌/◌, �
 use Rattle.std.proofs.lemmas.List.FromFn.{length-map-range_with_len, map-range_with_len_more}
 use Rattle.csv_fields.specs.Flag.{flag_text}
 use Rattle.plan_text.specs.Text.{record_line}
-use Rattle.station_table.specs.Stations.{station_header}
+use Rattle.table_rows.specs.station_table.Stations.{station_header}
 use Rattle.sums.specs.Places.{list_below}
 use Rattle.table_maker.specs.Draws.{state_after}
 use Rattle.table_maker.specs.Fields.{spoke_code}

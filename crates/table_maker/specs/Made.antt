@@ -1,10 +1,10 @@
 -- The tables that are made of a number.
 use Rattle.std.specs.Prelude.{◌≡◌, ℕ, ◌+◌, ◌-◌, ◌*◌, ◌/◌, ◌%◌, ◌≤◌, List, length}
-use Rattle.fleet_tables.specs.Costs.{cost_header}
-use Rattle.fleet_tables.specs.Fleets.{fleet_header}
+use Rattle.table_rows.specs.fleet_tables.Costs.{cost_header}
+use Rattle.table_rows.specs.fleet_tables.Fleets.{fleet_header}
 use Rattle.sched_read.specs.Legs.{leg_header}
 use Rattle.sched_read.specs.Throughs.{through_header}
-use Rattle.station_table.specs.Stations.{station_header}
+use Rattle.table_rows.specs.station_table.Stations.{station_header}
 use Rattle.table_maker.specs.Records.{cost_fields, fleet_fields, made_leg_fields, made_station_fields, table_text, through_fields}
 use Rattle.table_maker.specs.Trips.{spokes_for, trips_drawn}
 use Rattle.table_maker.specs.declared.made.MadeTables.{MadeTables}

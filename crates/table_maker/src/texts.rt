@@ -2,12 +2,12 @@
 ghost use Rattle.std.specs.Prelude.{◌≡◌, ◌++◌, ◌+◌, ◌-◌, ◌*◌, ◌/◌, ◌%◌, ◌≤◌, ◌∷◌, [], if◌then◌else◌, IfOk, OnOk, codes, length};
 ghost use Rattle.std.specs.Fmt.{decimal};
 ghost use Rattle.csv_fields.specs.Flag.{flag_text};
-ghost use Rattle.fleet_tables.specs.Costs.{cost_header};
-ghost use Rattle.fleet_tables.specs.Fleets.{fleet_header};
+ghost use Rattle.table_rows.specs.fleet_tables.Costs.{cost_header};
+ghost use Rattle.table_rows.specs.fleet_tables.Fleets.{fleet_header};
 ghost use Rattle.plan_text.specs.Text.{record_line};
 ghost use Rattle.sched_read.specs.Legs.{leg_header};
 ghost use Rattle.sched_read.specs.Throughs.{through_header};
-ghost use Rattle.station_table.specs.Stations.{station_header};
+ghost use Rattle.table_rows.specs.station_table.Stations.{station_header};
 ghost use Rattle.table_maker.specs.Fields.{fleet_name, flight_name, is_out};
 ghost use Rattle.table_maker.specs.Records.{back_fields, cost_fields, fleet_fields, made_leg_fields, made_station_fields, out_fields, table_text, through_fields};
 

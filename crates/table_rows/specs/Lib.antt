@@ -5,3 +5,5 @@ pub mod Names
 pub mod Outcome
 pub mod Pairs
 pub mod Rows
+pub mod station_table
+pub mod fleet_tables

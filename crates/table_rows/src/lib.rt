@@ -1,9 +1,11 @@
-//! The reader of all tables: the header and the records below it, which a table reads one after another; fields
-//! that are text; and names and pairs of numbers, in the order in which they are first seen.
+//! The tables of stations, fleets and costs, and the reader of all tables: the header and the records below it, which a
+//! table reads one after another; fields that are text; and names and pairs of numbers, in the order in which they are
+//! first seen.
 #![tactic(auto)]
 
 pub mod faults;
 pub mod fields;
+pub mod fleet_tables;
 pub mod forms;
 pub mod named;
 pub mod names;
@@ -11,6 +13,7 @@ pub mod naturals;
 pub mod number_pairs;
 pub mod reading;
 pub mod rows;
+pub mod station_table;
 
 pub use faults::{RecordError, at_record, without_header};
 pub use fields::{five_fields, four_fields, is_text, three_fields, two_fields};

@@ -5,7 +5,7 @@ use Rattle.std.proofs.lemmas.Bool.Decides.{nat_tests}
 use Rattle.std.proofs.lemmas.Nat.{div-mul-add}
 use Rattle.fleet_model.specs.declared.tables.Tables.{Tables}
 use Rattle.fleet_model.specs.Schedule.{days_in}
-use Rattle.ground_turns.proofs.Regroup.{by_places}
+use Rattle.lines_of_flying.proofs.ground_turns.Regroup.{by_places}
 use Rattle.sums.specs.Below.{count_below, sum_below}
 use Rattle.sums.proofs.Counts.{count_below-no_two}
 use Rattle.sums.proofs.Sums.{sum_below-le}

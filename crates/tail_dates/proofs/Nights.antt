@@ -6,13 +6,13 @@ use Rattle.fleet_model.specs.Counts.{weights_of}
 use Rattle.fleet_model.specs.Schedule.{days_in, leg_on}
 use Rattle.fleet_model.specs.Times.{nights_of}
 use Rattle.fleet_model.specs.Use.{used_of}
-use Rattle.ground_turns.proofs.NightLists.{nights_append}
-use Rattle.ground_turns.proofs.TourNights.{nights_are_use}
+use Rattle.lines_of_flying.proofs.ground_turns.NightLists.{nights_append}
+use Rattle.lines_of_flying.proofs.ground_turns.TourNights.{nights_are_use}
 use Rattle.fleet_model.specs.declared.parts.Connection.{Connection}
-use Rattle.ground_turns.specs.Maps.{IsTour, turn_after, turns_round}
-use Rattle.ground_turns.specs.Nights.{can_maintain, night_of_stay, nights_in_turn, nights_in_turns}
-use Rattle.ground_turns.specs.Turns.{nights_waited}
-use Rattle.ground_turns.specs.declared.nights.Night.TheVariants as night
+use Rattle.lines_of_flying.specs.ground_turns.Maps.{IsTour, turn_after, turns_round}
+use Rattle.lines_of_flying.specs.ground_turns.Nights.{can_maintain, night_of_stay, nights_in_turn, nights_in_turns}
+use Rattle.lines_of_flying.specs.ground_turns.Turns.{nights_waited}
+use Rattle.lines_of_flying.specs.declared.ground_turns.nights.Night.TheVariants as night
 use Rattle.sums.proofs.Places.{list_below-more}
 use Rattle.sums.specs.Places.{list_below}
 use Rattle.tail_dates.specs.Reaches.{maintenance_nights}

@@ -7,7 +7,7 @@ use Rattle.fleet_model.specs.declared.tables.Tables.{Tables}
 use Rattle.fleet_model.specs.Counts.{weights_of}
 use Rattle.fleet_model.specs.Use.{used_of}
 use Rattle.fleet_model.proofs.PeriodMinutes.{few_days}
-use Rattle.ground_turns.specs.Maps.{IsTour}
+use Rattle.lines_of_flying.specs.ground_turns.Maps.{IsTour}
 use Rattle.lines_of_flying.proofs.TourLines.{days_are_use}
 use Rattle.lines_of_flying.proofs.WholeTours.{first_day_early}
 use Rattle.lines_of_flying.specs.Lines.{BeginsAfterStart, first_day, legs_on_day, nights_after}

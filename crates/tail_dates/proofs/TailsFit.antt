@@ -8,9 +8,9 @@ use Rattle.csv_fields.specs.Name.{name_of, station_code_of}
 use Rattle.csv_fields.specs.Number.{whole_of}
 use Rattle.fleet_model.specs.declared.refusals.TheConstants.{DUPLICATE, NOT_TEXT, TOO_MANY, UNKNOWN_FLEET, UNKNOWN_FLIGHT, UNKNOWN_STATION}
 use Rattle.fleet_model.specs.declared.tables.Tables.{Tables}
-use Rattle.fleet_tables.specs.Costs.{flight_of}
-use Rattle.fleet_tables.specs.Fleets.{fleet_name_of}
-use Rattle.station_table.specs.Stations.{code_of}
+use Rattle.table_rows.specs.fleet_tables.Costs.{flight_of}
+use Rattle.table_rows.specs.fleet_tables.Fleets.{fleet_name_of}
+use Rattle.table_rows.specs.station_table.Stations.{code_of}
 use Rattle.table_rows.specs.Fields.{as_natural, known}
 use Rattle.table_rows.specs.Names.{is_among, number_of_name}
 use Rattle.table_rows.specs.Rows.{Fields, RowsRead}

@@ -9,10 +9,10 @@ use Rattle.fleet_model.specs.declared.parts.Connection.{Connection}
 use Rattle.fleet_model.specs.declared.tables.Tables.{Tables}
 use Rattle.fleet_model.specs.Schedule.{leg_on, legs_in, no_leg, stations_in}
 use Rattle.fleet_model.specs.Times.{nights_of}
-use Rattle.ground_turns.proofs.TourNights.{nights_long}
-use Rattle.ground_turns.specs.Maps.{IsTour, turn_after, turn_at, turns_round}
-use Rattle.ground_turns.specs.Nights.{can_maintain, nights_in, nights_of_tour}
-use Rattle.ground_turns.specs.Turns.{nights_waited, station_at}
+use Rattle.lines_of_flying.proofs.ground_turns.TourNights.{nights_long}
+use Rattle.lines_of_flying.specs.ground_turns.Maps.{IsTour, turn_after, turn_at, turns_round}
+use Rattle.lines_of_flying.specs.ground_turns.Nights.{can_maintain, nights_in, nights_of_tour}
+use Rattle.lines_of_flying.specs.ground_turns.Turns.{nights_waited, station_at}
 use Rattle.sums.proofs.Places.{list_below-more}
 use Rattle.sums.proofs.Tests.{passed_over, picked}
 use Rattle.sums.proofs.Turned.{shifted}

@@ -4,8 +4,8 @@ use Rattle.fleet_model.specs.declared.parts.Connection.{Connection}
 use Rattle.fleet_model.specs.declared.tables.Tables.{Tables}
 use Rattle.fleet_model.specs.Schedule.{leg_on, legs_in, stations_in}
 use Rattle.fleet_model.specs.Times.{nights_of}
-use Rattle.ground_turns.specs.Maps.{turns_round}
-use Rattle.ground_turns.specs.Turns.{nights_waited, station_at}
+use Rattle.lines_of_flying.specs.ground_turns.Maps.{turns_round}
+use Rattle.lines_of_flying.specs.ground_turns.Turns.{nights_waited, station_at}
 use Rattle.tail_dates.specs.Reaches.{night_ending, start_line}
 use Rattle.tail_dates.specs.declared.tails.Place.{Place}
 use Rattle.tail_dates.specs.declared.tails.Place.TheVariants as place

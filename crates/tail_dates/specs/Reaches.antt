@@ -2,7 +2,7 @@
 use Rattle.std.specs.Prelude.{◌≡◌, ℕ, ◌+◌, ◌-◌, ◌*◌, ◌%◌, ◌<◌, Bool, true, false, List, length, map, slice_index, slice_index_or}
 use Rattle.fleet_model.specs.declared.tables.Tables.{Tables}
 use Rattle.fleet_model.specs.Schedule.{days_in}
-use Rattle.ground_turns.specs.Nights.{can_maintain, nights_of_tour}
+use Rattle.lines_of_flying.specs.ground_turns.Nights.{can_maintain, nights_of_tour}
 use Rattle.lines_of_flying.specs.Lines.{first_day}
 
 -- of each night of a tour, going round from its first leg, whether it is for maintenance

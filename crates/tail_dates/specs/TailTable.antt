@@ -8,9 +8,9 @@ use Rattle.entries.specs.Names.{IsName}
 use Rattle.fleet_model.specs.Schedule.{fleets_in}
 use Rattle.fleet_model.specs.declared.refusals.TheConstants.{DUPLICATE, NOT_TEXT, TOO_MANY, UNKNOWN_FLEET, UNKNOWN_FLIGHT, UNKNOWN_STATION}
 use Rattle.fleet_model.specs.declared.tables.Tables.{Tables}
-use Rattle.fleet_tables.specs.Costs.{flight_of}
-use Rattle.fleet_tables.specs.Fleets.{fleet_name_of}
-use Rattle.station_table.specs.Stations.{code_of}
+use Rattle.table_rows.specs.fleet_tables.Costs.{flight_of}
+use Rattle.table_rows.specs.fleet_tables.Fleets.{fleet_name_of}
+use Rattle.table_rows.specs.station_table.Stations.{code_of}
 use Rattle.table_rows.specs.Fields.{as_natural, four_of, known, of_width, refused_where, three_of, well_formed}
 use Rattle.table_rows.specs.Forms.{FormBad, FormReads, header_in}
 use Rattle.table_rows.specs.Names.{is_among, number_of_name}

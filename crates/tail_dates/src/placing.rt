@@ -2,8 +2,8 @@ ghost use Rattle.std.specs.Prelude.{◌≡◌, ◌<◌, ◌≤◌, ◌^◌, ℕ,
 ghost use Rattle.fleet_model.specs.Counts.{weights_of};
 ghost use Rattle.fleet_model.specs.Legal.{IsAssignment};
 ghost use Rattle.fleet_model.specs.Schedule.{days_in, fleets_in};
-ghost use Rattle.ground_turns.specs.Maps.{IsTour};
-ghost use Rattle.ground_turns.specs.Nights.{IsKeptFor, nights_of_tour};
+ghost use Rattle.lines_of_flying.specs.ground_turns.Maps.{IsTour};
+ghost use Rattle.lines_of_flying.specs.ground_turns.Nights.{IsKeptFor, nights_of_tour};
 ghost use Rattle.lines_of_flying.specs.Lines.{BeginsAfterStart};
 ghost use Rattle.fleet_model.specs.Use.{used_of};
 ghost use Rattle.tail_dates.specs.InTime.{GivesStarts, ShowsNone};

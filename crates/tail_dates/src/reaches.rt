@@ -4,8 +4,8 @@ ghost use Rattle.fleet_model.specs.Counts.{weights_of};
 ghost use Rattle.fleet_model.specs.Legal.{IsAssignment};
 ghost use Rattle.fleet_model.specs.Schedule.{days_in, fleets_in};
 ghost use Rattle.fleet_model.specs.Use.{used_of};
-ghost use Rattle.ground_turns.specs.Maps.{IsTour, turn_after};
-ghost use Rattle.ground_turns.specs.Nights.{IsKeptFor, can_maintain, nights_in_turn, nights_of_tour};
+ghost use Rattle.lines_of_flying.specs.ground_turns.Maps.{IsTour, turn_after};
+ghost use Rattle.lines_of_flying.specs.ground_turns.Nights.{IsKeptFor, can_maintain, nights_in_turn, nights_of_tour};
 ghost use Rattle.lines_of_flying.specs.Lines.{AreLegsOfTables, BeginsAfterStart};
 ghost use Rattle.tail_dates.specs.Late.{AreLessThan};
 ghost use Rattle.tail_dates.specs.Reaches.{AreReaches, IsReach, maintenance_nights, start_line};
@@ -13,7 +13,7 @@ ghost use Rattle.tail_dates.specs.Rounds.{HasMaintenance};
 
 use entries::NoMemory;
 use fleet_model::{Assignment, Tables};
-use ground_turns::{flight, is_maintained, nights_waited};
+use lines_of_flying::ground_turns::{flight, is_maintained, nights_waited};
 use lines_of_flying::{first_day, turn_after};
 use std::alloc::Global;
 

@@ -3,9 +3,9 @@ ghost use Rattle.std.specs.Prelude.{◌≡◌, ◌≤◌, [], IfOk, MatchResult,
 ghost use Rattle.csv_fields.specs.Record.{records_of};
 ghost use Rattle.fleet_model.specs.declared.limits.TheConstants.{MAX_FLEETS, MAX_LEGS, MAX_STATIONS};
 ghost use Rattle.fleet_model.specs.declared.refusals.TableFile.TheVariants as file;
-ghost use Rattle.fleet_tables.specs.Costs.{flight_of};
-ghost use Rattle.fleet_tables.specs.Fleets.{fleet_name_of};
-ghost use Rattle.station_table.specs.Stations.{code_of};
+ghost use Rattle.table_rows.specs.fleet_tables.Costs.{flight_of};
+ghost use Rattle.table_rows.specs.fleet_tables.Fleets.{fleet_name_of};
+ghost use Rattle.table_rows.specs.station_table.Stations.{code_of};
 ghost use Rattle.table_rows.specs.Outcome.{IsFaultOf, IsFirstFault};
 ghost use Rattle.table_rows.specs.Rows.{RowsBad, RowsRead, fields_in, rows_in};
 ghost use Rattle.tail_dates.specs.declared.tail_table.TheConstants.{MAX_NIGHTS_LEFT};

@@ -4,7 +4,7 @@ ghost use Rattle.fleet_model.specs.Counts.{weights_of};
 ghost use Rattle.fleet_model.specs.Legal.{IsAssignment};
 ghost use Rattle.fleet_model.specs.Schedule.{days_in, fleets_in};
 ghost use Rattle.fleet_model.specs.Use.{used_of};
-ghost use Rattle.ground_turns.specs.Maps.{IsTour, turn_after};
+ghost use Rattle.lines_of_flying.specs.ground_turns.Maps.{IsTour, turn_after};
 ghost use Rattle.lines_of_flying.specs.Lines.{AreLegsOfTables, BeginsAfterStart};
 ghost use Rattle.tail_dates.specs.Places.{AreStartPlaces, places_in_turn, places_of_tour};
 
@@ -13,7 +13,7 @@ use crate::reaches::{push_same, start_line};
 use crate::tails::Place;
 use entries::NoMemory;
 use fleet_model::{Assignment, Tables};
-use ground_turns::{flight, nights_waited};
+use lines_of_flying::ground_turns::{flight, nights_waited};
 use lines_of_flying::{first_day, turn_after};
 use std::alloc::Global;
 

@@ -11,10 +11,10 @@ use Rattle.simplex_frac.specs.declared.outcome.Outcome.TheVariants as outcome
 use Rattle.simplex_frac.specs.declared.turn.Turn.TheVariants as turns
 use Rattle.simplex_frac.proofs.BestPoints.{best_tells}
 use Rattle.simplex_frac.proofs.RunPoints.{run_is_reached}
-use Rattle.dual_lift.specs.LastTables.{IsReachedTable}
-use Rattle.dual_lift.specs.Mixture.{HasPhases}
-use Rattle.dual_lift.proofs.EndDuals.{best_has_phases}
-use Rattle.dual_lift.proofs.Reached.{known}
+use Rattle.simplex_frac.specs.dual_lift.LastTables.{IsReachedTable}
+use Rattle.simplex_frac.specs.dual_lift.Mixture.{HasPhases}
+use Rattle.simplex_frac.proofs.dual_lift.EndDuals.{best_has_phases}
+use Rattle.simplex_frac.proofs.dual_lift.Reached.{known}
 
 module _ (rows : Rows) (first table : List FracRow) (budget : ℕ) (found : Outcome) (problem : IsProblem rows) (is : first ≡ first_table rows) (ends : IsOutcome first rows.columns budget table found) where
   best_turn : (basis : List ℕ) (made : ℕ) → found ≡ outcome.Best basis made → IsTurn rows made table basis turns.Best

@@ -2,9 +2,9 @@
 ghost use Rattle.row_store.specs.Problem.{IsProblem};
 
 use crate::assertions::assert_same;
-use end_check::{PointHint, RefusalHint, is_end, refuses};
 use entries::Entries;
 use row_store::{Line, Rows, is_problem};
+use simplex_frac::end_check::{PointHint, RefusalHint, is_end, refuses};
 use std::alloc::Global;
 use std::process::Abort;
 use std::test::Fail;

@@ -2,11 +2,11 @@
 ghost use Rattle.row_store.specs.Problem.{IsProblem};
 
 use crate::assertions::assert_same;
-use end_check::{EndFinder, Hint, is_end, refuses};
 use entries::NoMemory;
 use exact_ends::DualSimplex;
 use fleet_model::{Kept, LoadError, Tables};
 use lp_rows::Program;
+use simplex_frac::end_check::{EndFinder, Hint, is_end, refuses};
 use std::alloc::Global;
 use std::process::Abort;
 use std::test::Fail;

@@ -7,11 +7,11 @@ ghost use Rattle.lp_rows.specs.Outline.{IsOutline};
 ghost use Rattle.lp_rows.specs.Points.{AreLinesOf};
 
 use dual_bound::Prices;
-use end_check::{EndFinder, Hint, PointHint, RefusalHint, is_end, refuses};
 use exact_ends::DualSimplex;
 use fleet_model::{Kept, Tables};
 use lp_rows::Program;
 use price_lift::{LiftError, lift_end, lift_refusing_end};
+use simplex_frac::end_check::{EndFinder, Hint, PointHint, RefusalHint, is_end, refuses};
 use std::alloc::Global;
 
 /// The prices that a hint over a subproblem's lines gives; nothing where none is found, or where it is no end.

@@ -4,9 +4,9 @@ ghost use Rattle.row_store.specs.Problem.{IsProblem};
 
 use crate::assertions::assert_same;
 use crate::pivoting::rows_of;
-use dual_lift::{LiftError, Mixture, Reading, duals, least_scale};
 use frac_row::FracRow;
 use row_store::{Dense, RowStore, Rows, is_problem};
+use simplex_frac::dual_lift::{LiftError, Mixture, Reading, duals, least_scale};
 use simplex_frac::{Outcome, solve};
 use std::alloc::Global;
 use std::test::Fail;

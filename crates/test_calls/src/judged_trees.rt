@@ -2,10 +2,10 @@
 ghost use Rattle.std.specs.Prelude.{◌<◌, ◌-◌, ◌^◌};
 
 use crate::assertions::assert_same_at;
+use branch_bound::hinted_trees::solved_by_texts;
 use dual_bound::Solved;
 use entries::NoMemory;
 use fleet_model::{LoadError, Tables};
-use hinted_trees::solved_by_texts;
 use std::alloc::Global;
 use std::test::Fail;
 use test_tables::schedules::{Files, OVERLAPPING_TRIPS, ROUND_TRIP, read};

@@ -2,7 +2,8 @@
 use crate::assertions::assert_same;
 use entries::Entries;
 use fleet_model::{Kept, LoadError, Tables};
-use island_cut::{Idle, idle};
+use node_aggregate::island_cut::{Idle, idle};
+use node_aggregate::timeline_net::events;
 use node_aggregate::{days_at, idle_minutes, moments, nodes};
 use std::alloc::Global;
 use std::process::Abort;
@@ -10,7 +11,6 @@ use std::test::Fail;
 use test_tables::schedules::{
     FOUR_AIRCRAFT, Files, NO_LEGS, ROUND_TRIP, THROUGH_THE_HUB, TWO_FLEETS, read,
 };
-use timeline_net::events;
 
 /// The round trip, with the one aircraft that it needs.
 const ONE_AIRCRAFT: Files = Files {

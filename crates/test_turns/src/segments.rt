@@ -1,6 +1,6 @@
 //! Turns of aircraft on the ground.
 use crate::assertions::assert_same;
-use ground_turns::Segments;
+use lines_of_flying::ground_turns::Segments;
 use std::test::Fail;
 
 #[test]

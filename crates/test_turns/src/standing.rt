@@ -1,7 +1,7 @@
 //! Minutes at which no aircraft stands at a station, and aircraft left over.
 use crate::assertions::assert_same;
 use fleet_model::{LoadError, Tables};
-use island_cut::{have_pairs, spare, zero_minutes};
+use node_aggregate::island_cut::{have_pairs, spare, zero_minutes};
 use std::alloc::Global;
 use std::process::Abort;
 use std::test::Fail;

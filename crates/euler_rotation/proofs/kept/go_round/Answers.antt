@@ -1,6 +1,6 @@
 use Rattle.std.proofs.Common.{◌∙◌, sym, ap, subst, arith}
 use Rattle.fleet_model.specs.declared.parts.Connection.{Connection}
-use Rattle.ground_turns.specs.Nights.{nights_in_turn}
+use Rattle.lines_of_flying.specs.ground_turns.Nights.{nights_in_turn}
 use Rattle.euler_rotation.specs.Often.{StayBelow, stays_below}
 use Rattle.euler_rotation.proofs.TourGone.{gone_all, gone_more, gone_too_far}
 use Rattle.euler_rotation.proofs.kept.go_round.Goals as goal

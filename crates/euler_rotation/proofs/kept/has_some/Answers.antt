@@ -1,6 +1,6 @@
 use Rattle.std.proofs.Common.{◌∙◌, true, false, sym, ap, arith}
 use Rattle.std.specs.List.{list_any}
-use Rattle.ground_turns.specs.Nights.{can_maintain, nights_in_turn}
+use Rattle.lines_of_flying.specs.ground_turns.Nights.{can_maintain, nights_in_turn}
 use Rattle.euler_rotation.proofs.TourGone.{rest_none, some_more}
 use Rattle.euler_rotation.proofs.kept.has_some.Goals as goal
 

@@ -1,6 +1,6 @@
 use Rattle.std.proofs.Common.{◌≡◌}
 use Rattle.std.specs.List.{list_any}
-use Rattle.ground_turns.specs.Nights.{can_maintain, nights_of_tour}
+use Rattle.lines_of_flying.specs.ground_turns.Nights.{can_maintain, nights_of_tour}
 use Rattle.euler_rotation.proofs.TourGone.{rest_of}
 use Rattle.euler_rotation.proofs.kept.has_some.Given as goal
 

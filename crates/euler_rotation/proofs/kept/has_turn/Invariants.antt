@@ -1,5 +1,5 @@
 use Rattle.std.proofs.Common.{◌≡◌, ◌<◌, ℕ}
-use Rattle.ground_turns.specs.Maps.{turn_after}
+use Rattle.lines_of_flying.specs.ground_turns.Maps.{turn_after}
 use Rattle.euler_rotation.proofs.kept.has_turn.Given as goal
 
 abbrev pub invariant-loop-place : goal.invariant-loop-place

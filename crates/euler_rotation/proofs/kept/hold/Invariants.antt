@@ -1,5 +1,5 @@
 use Rattle.std.proofs.Common.{◌<◌, ℕ}
-use Rattle.ground_turns.specs.Maps.{HasTurn, turn_at, turns_round}
+use Rattle.lines_of_flying.specs.ground_turns.Maps.{HasTurn, turn_at, turns_round}
 use Rattle.euler_rotation.proofs.kept.hold.Given as goal
 
 abbrev pub invariant-loop-pair : goal.invariant-loop-pair

@@ -1,5 +1,5 @@
 use Rattle.std.proofs.Common.{◌∙◌, sym}
-use Rattle.ground_turns.specs.Nights.{nights_of_tour}
+use Rattle.lines_of_flying.specs.ground_turns.Nights.{nights_of_tour}
 use Rattle.euler_rotation.proofs.Told.{fails, told_as}
 use Rattle.euler_rotation.proofs.TourGone.{none_kept, once_too_far, twice_told}
 use Rattle.euler_rotation.proofs.kept.is_often.Goals as goal

@@ -1,6 +1,6 @@
 use Rattle.std.proofs.Common.{◌≡◌, ◌==◌, if◌then◌else◌, ◌∙◌, ℕ, sym, ap, below_more}
 use mir.Val.{bool_byte}
-use Rattle.island_cut.proofs.Told.{byte_is}
+use Rattle.node_aggregate.proofs.island_cut.Told.{byte_is}
 use Rattle.fleet_model.specs.Counts.{choice_at}
 use Rattle.euler_rotation.proofs.kept.is_order.Goals as goal
 

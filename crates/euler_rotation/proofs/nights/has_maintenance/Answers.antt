@@ -2,8 +2,8 @@ use Rattle.std.proofs.Common.{◌≡◌, ◌<◌, ◌≤◌, nat_lt, ◌&&◌, B
 use Rattle.std.proofs.lemmas.Bool.Decides.{nat_tests}
 use Rattle.fleet_model.specs.Schedule.{leg_on}
 use Rattle.fleet_model.specs.Times.{nights_of}
-use Rattle.ground_turns.specs.Nights.{night_of_stay}
-use Rattle.ground_turns.specs.Turns.{nights_waited}
+use Rattle.lines_of_flying.specs.ground_turns.Nights.{night_of_stay}
+use Rattle.lines_of_flying.specs.ground_turns.Turns.{nights_waited}
 use Rattle.euler_rotation.proofs.NightsSince.{some_in_turn}
 use Rattle.euler_rotation.proofs.nights.has_maintenance.Goals as goal
 

@@ -1,8 +1,8 @@
 use Rattle.std.proofs.Common.{◌+◌, sym, ◌∙◌, ap, arith}
 use Rattle.fleet_model.specs.Schedule.{leg_on}
 use Rattle.fleet_model.specs.Times.{nights_of}
-use Rattle.ground_turns.specs.Nights.{night_of_stay}
-use Rattle.ground_turns.specs.Turns.{nights_waited}
+use Rattle.lines_of_flying.specs.ground_turns.Nights.{night_of_stay}
+use Rattle.lines_of_flying.specs.ground_turns.Turns.{nights_waited}
 use Rattle.euler_rotation.proofs.NightsSince.{maintained, none_waited, stood, too_many_aloft, too_many_stood}
 use Rattle.euler_rotation.proofs.nights.since_after.Goals as goal
 

@@ -1,6 +1,6 @@
 use Rattle.std.proofs.Common.{◌≡◌, ◌≤◌, ◌*◌}
 use Rattle.sums.specs.Below.{sum_below}
-use Rattle.ground_turns.specs.Laws.{maintained_at}
+use Rattle.lines_of_flying.specs.ground_turns.Laws.{maintained_at}
 use Rattle.euler_rotation.proofs.supply.nights_maintained.Given as goal
 
 abbrev pub invariant-loop-station : goal.invariant-loop-station

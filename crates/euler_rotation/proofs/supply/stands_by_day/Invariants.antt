@@ -1,6 +1,6 @@
 use Rattle.std.proofs.Common.{◌≡◌, ◌≤◌, ◌*◌}
 use Rattle.sums.specs.Below.{sum_below}
-use Rattle.ground_turns.specs.Laws.{stand_by_day}
+use Rattle.lines_of_flying.specs.ground_turns.Laws.{stand_by_day}
 use Rattle.euler_rotation.proofs.supply.stands_by_day.Given as goal
 
 abbrev pub invariant-loop-day : goal.invariant-loop-day

@@ -1,6 +1,6 @@
 use Rattle.std.proofs.lemmas.Result.{IfOk-weaker}
-use Rattle.retime_windows.proofs.SettledLaws.{settled_is_legal}
-use Rattle.retime_windows.proofs.SettledPairs.{plain, same_fleets, same_legs}
+use Rattle.sched_read.proofs.retime_windows.SettledLaws.{settled_is_legal}
+use Rattle.sched_read.proofs.retime_windows.SettledPairs.{plain, same_fleets, same_legs}
 use Rattle.folder_answers.proofs.showing.planned_on.Goals as goal
 
 pub rotated_on-requires-clause-legs : goal.rotated_on-requires-clause-legs

@@ -1,5 +1,5 @@
-use Rattle.retime_windows.proofs.SettledLaws.{settled_is_legal}
-use Rattle.retime_windows.proofs.SettledPairs.{plain}
+use Rattle.sched_read.proofs.retime_windows.SettledLaws.{settled_is_legal}
+use Rattle.sched_read.proofs.retime_windows.SettledPairs.{plain}
 use Rattle.folder_answers.proofs.HaltFacts.{on_legal}
 use Rattle.folder_answers.proofs.telling.tails_on.Goals as goal
 

@@ -1,6 +1,6 @@
 use Rattle.std.proofs.Common.{◌∙◌, ap}
 use Rattle.sums.proofs.Places.{list_below-push}
-use Rattle.island_cut.specs.Islands.{idles_of}
+use Rattle.node_aggregate.specs.island_cut.Islands.{idles_of}
 use Rattle.island_prices.specs.Least.{least_in}
 use Rattle.island_prices.proofs.least.least_idle.Goals as goal
 

@@ -1,6 +1,6 @@
 use Rattle.std.proofs.Common.{◌≡◌}
 use Rattle.sums.specs.Places.{list_below}
-use Rattle.island_cut.specs.Islands.{idles_of}
+use Rattle.node_aggregate.specs.island_cut.Islands.{idles_of}
 use Rattle.island_prices.specs.Least.{least_in}
 use Rattle.island_prices.proofs.least.least_idle.Given as goal
 

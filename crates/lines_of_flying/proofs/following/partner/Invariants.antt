@@ -1,6 +1,6 @@
 use Rattle.std.proofs.Common.{◌≡◌, ◌==◌}
 use Rattle.sums.specs.Below.{count_below}
-use Rattle.ground_turns.specs.Maps.{turn_at}
+use Rattle.lines_of_flying.specs.ground_turns.Maps.{turn_at}
 use Rattle.lines_of_flying.proofs.following.partner.Given as goal
 
 abbrev pub invariant-loop-pair : goal.invariant-loop-pair

@@ -1,7 +1,7 @@
 use Rattle.std.proofs.Common.{◌≡◌, refl, ◌∙◌, ap, arith, ℕ}
 use Rattle.sums.specs.Below.{count_below}
 use Rattle.fleet_model.specs.Schedule.{legs_in}
-use Rattle.ground_turns.specs.FirstOut.{departure_place, landing_place}
+use Rattle.lines_of_flying.specs.ground_turns.FirstOut.{departure_place, landing_place}
 use Rattle.lines_of_flying.specs.Moves.{is_ahead, place_of}
 use Rattle.lines_of_flying.specs.declared.ground.Ground.{Ground}
 use Rattle.lines_of_flying.specs.declared.ground.Movement.{Movement}

@@ -1,5 +1,5 @@
 use Rattle.std.proofs.Common.{◌==◌, ap}
-use Rattle.ground_turns.specs.Maps.{arrivals_of}
+use Rattle.lines_of_flying.specs.ground_turns.Maps.{arrivals_of}
 use Rattle.lines_of_flying.proofs.Pushed.{mark_more}
 use Rattle.lines_of_flying.proofs.ground.marks_of_arriving.Goals as goal
 

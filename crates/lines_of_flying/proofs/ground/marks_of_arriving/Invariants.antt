@@ -1,4 +1,4 @@
-use Rattle.ground_turns.specs.Maps.{arrivals_of}
+use Rattle.lines_of_flying.specs.ground_turns.Maps.{arrivals_of}
 use Rattle.lines_of_flying.specs.Grounds.{AreMarks}
 use Rattle.lines_of_flying.proofs.ground.marks_of_arriving.Given as goal
 

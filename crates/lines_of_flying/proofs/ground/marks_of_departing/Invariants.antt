@@ -1,4 +1,4 @@
-use Rattle.ground_turns.specs.Maps.{departures_of}
+use Rattle.lines_of_flying.specs.ground_turns.Maps.{departures_of}
 use Rattle.lines_of_flying.specs.Grounds.{AreMarks}
 use Rattle.lines_of_flying.proofs.ground.marks_of_departing.Given as goal
 

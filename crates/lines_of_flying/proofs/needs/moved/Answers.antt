@@ -1,7 +1,7 @@
 use Rattle.std.proofs.Common.{◌≡◌, refl, ◌∙◌, ap, arith, ℕ}
 use Rattle.sums.specs.Below.{count_below}
 use Rattle.fleet_model.specs.Schedule.{legs_in}
-use Rattle.ground_turns.specs.FirstOut.{free_departed, free_landed}
+use Rattle.lines_of_flying.specs.ground_turns.FirstOut.{free_departed, free_landed}
 use Rattle.lines_of_flying.specs.Moves.{has_moved, moved_by}
 use Rattle.lines_of_flying.specs.declared.ground.Ground.{Ground}
 use Rattle.lines_of_flying.specs.declared.ground.Movement.{Movement}

@@ -1,7 +1,7 @@
 use Rattle.std.proofs.Common.{◌∙◌, subst, sym}
 use Rattle.sums.proofs.Places.{list_below-push}
 use Rattle.fleet_model.specs.Kept.{kept_by}
-use Rattle.timeline_net.specs.Events.{AreEvents}
+use Rattle.node_aggregate.specs.timeline_net.Events.{AreEvents}
 use Rattle.node_aggregate.proofs.Starts.{end_within}
 use Rattle.node_aggregate.specs.Moments.{moment_of}
 use Rattle.node_aggregate.proofs.MomentsFound.{idles_rise_in}

@@ -1,8 +1,8 @@
 use Rattle.std.proofs.Common.{◌≡◌, ◌∙◌, None, IfErr, MatchResult, ap, ap₂, subst, length, pos}
 use Rattle.sums.proofs.Places.{length-list_below}
 use Rattle.frac_row.specs.Row.{width_of}
-use Rattle.end_check.specs.Ends.{part_in}
-use Rattle.dual_lift.specs.TooLarge.{IsLiftError, IsWantedBehind}
+use Rattle.simplex_frac.specs.end_check.Ends.{part_in}
+use Rattle.simplex_frac.specs.dual_lift.TooLarge.{IsLiftError, IsWantedBehind}
 use Rattle.price_lift.specs.EndLifts.{IsMixedOfParts, first_parts, parts_excess}
 use Rattle.price_lift.proofs.end_lifts.end_mixed.Goals as goal
 

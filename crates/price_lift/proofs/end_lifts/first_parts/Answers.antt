@@ -3,7 +3,7 @@ use Rattle.std.proofs.lemmas.Int.{to_z-of_z}
 use mir.Val.{SFits}
 use mir.Syntax.{w128}
 use Rattle.sums.proofs.Places.{list_below-push}
-use Rattle.end_check.specs.Ends.{part_in}
+use Rattle.simplex_frac.specs.end_check.Ends.{part_in}
 use Rattle.price_lift.proofs.end_lifts.first_parts.Goals as goal
 
 pub loop-column-preserved : goal.loop-column-preserved

@@ -7,8 +7,8 @@ use Rattle.frac_row.specs.Outgrown.{IsWithin}
 use Rattle.frac_row.specs.Row.{IsRow}
 use Rattle.fleet_model.specs.Kept.{kept_by}
 use Rattle.fleet_model.specs.Schedule.{legs_in}
-use Rattle.dual_lift.specs.TooLarge.{IsLiftError}
-use Rattle.dual_lift.proofs.Excesses.{first_fails, wanted_behind}
+use Rattle.simplex_frac.specs.dual_lift.TooLarge.{IsLiftError}
+use Rattle.simplex_frac.proofs.dual_lift.Excesses.{first_fails, wanted_behind}
 use Rattle.price_lift.specs.EndLifts.{end_duals, end_excess, priced_values}
 use Rattle.price_lift.specs.TooLarge.{prices_excess}
 use Rattle.price_lift.proofs.EndLifts.{end_lifted, lowest_fails, lowest_is, mixed_fails, nodes_priced, pairs_within, paying_fails, priced_by, priced_is_row, values_long}

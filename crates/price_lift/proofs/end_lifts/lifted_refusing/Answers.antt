@@ -4,8 +4,8 @@ use Rattle.frac_row.specs.Row.{IsRow, reduced}
 use Rattle.fleet_model.specs.Kept.{kept_by}
 use Rattle.fleet_model.specs.Schedule.{legs_in}
 use Rattle.lp_rows.specs.Layout.{starts_in}
-use Rattle.dual_lift.specs.TooLarge.{IsLiftError, IsWantedBehind}
-use Rattle.dual_lift.proofs.Excesses.{first_fails}
+use Rattle.simplex_frac.specs.dual_lift.TooLarge.{IsLiftError, IsWantedBehind}
+use Rattle.simplex_frac.proofs.dual_lift.Excesses.{first_fails}
 use Rattle.price_lift.specs.EndLifts.{refusing_duals, refusing_excess, priced_values}
 use Rattle.price_lift.specs.Steps.{prices_by}
 use Rattle.price_lift.specs.TooLarge.{prices_excess}

@@ -2,8 +2,8 @@ use Rattle.std.proofs.Common.{subst, arith}
 use Rattle.fleet_model.specs.Kept.{kept_by}
 use Rattle.lp_rows.specs.Layout.{starts_in}
 use Rattle.std.proofs.lemmas.Result.{err_from_is_err_and}
-use Rattle.dual_lift.specs.declared.error.LiftError.TheVariants.{TooLarge}
-use Rattle.dual_lift.proofs.Excesses.{first_fails}
+use Rattle.simplex_frac.specs.declared.dual_lift.error.LiftError.TheVariants.{TooLarge}
+use Rattle.simplex_frac.proofs.dual_lift.Excesses.{first_fails}
 use Rattle.price_lift.specs.TooLarge.{best_excess}
 use Rattle.price_lift.proofs.RunEnds.{best_columns, has_phases, is_best}
 use Rattle.price_lift.specs.Lifted.{IsLiftedPoint}

@@ -1,5 +1,5 @@
 use Rattle.std.proofs.lemmas.Result.{err_from_is_err_and}
-use Rattle.dual_lift.proofs.Excesses.{first_fails}
+use Rattle.simplex_frac.proofs.dual_lift.Excesses.{first_fails}
 use Rattle.price_lift.specs.LastTables.{none_excess}
 use Rattle.price_lift.proofs.LiftResults.{behind, duals_fit}
 use Rattle.price_lift.proofs.PaidEnds.{refusal_paid}

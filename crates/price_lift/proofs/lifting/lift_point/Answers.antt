@@ -3,8 +3,8 @@ use Rattle.std.proofs.lemmas.Result.{err_from_is_err_and}
 use Rattle.sums.specs.Places.{first_below}
 use Rattle.fleet_model.specs.Kept.{kept_by}
 use Rattle.row_store.specs.Table.{height_of}
-use Rattle.dual_lift.specs.TooLarge.{IsLiftError}
-use Rattle.dual_lift.proofs.Excesses.{first_fails, then_fails, wanted_behind}
+use Rattle.simplex_frac.specs.dual_lift.TooLarge.{IsLiftError}
+use Rattle.simplex_frac.proofs.dual_lift.Excesses.{first_fails, then_fails, wanted_behind}
 use Rattle.price_lift.specs.LastTables.{point_excess}
 use Rattle.price_lift.specs.TooLarge.{weights_excess}
 use Rattle.price_lift.proofs.Lifts.{basis_is, columns_are, pairs_long, parts_are}

@@ -2,9 +2,9 @@ use Rattle.std.proofs.Common.{◌≡◌, ◌∙◌, ap, subst, None, arith}
 use Rattle.std.proofs.lemmas.Result.{err_from_is_err_and}
 use Rattle.frac_row.specs.Row.{width_of}
 use Rattle.fleet_model.specs.Schedule.{legs_in}
-use Rattle.dual_lift.specs.Readings.{duals_by, duals_excess}
-use Rattle.dual_lift.specs.TooLarge.{IsLiftError, IsWantedBehind}
-use Rattle.dual_lift.proofs.Excesses.{first_fails}
+use Rattle.simplex_frac.specs.dual_lift.Readings.{duals_by, duals_excess}
+use Rattle.simplex_frac.specs.dual_lift.TooLarge.{IsLiftError, IsWantedBehind}
+use Rattle.simplex_frac.proofs.dual_lift.Excesses.{first_fails}
 use Rattle.price_lift.specs.LastTables.{prices_excess_by}
 use Rattle.price_lift.proofs.LiftResults.{behind}
 use Rattle.price_lift.proofs.Lifts.{columns_are, lifted_prices, priced_wide, reads}

@@ -1,5 +1,5 @@
 use Rattle.std.proofs.Common.{◌∷◌, [], rules}
-use Rattle.ground_turns.specs.Maps.{no_turn, turn_at}
+use Rattle.lines_of_flying.specs.ground_turns.Maps.{no_turn, turn_at}
 use Rattle.plan_text.specs.CsvText.{HasWritten}
 use Rattle.rotation_report.specs.RotationRecords.{pair_row, round_records}
 use Rattle.plan_text.proofs.CsvWriting.{written_none}

@@ -1,6 +1,6 @@
 use Rattle.std.proofs.Common.{map}
 use Rattle.std.proofs.lemmas.Result.{MatchResult-weaker}
-use Rattle.station_table.specs.Stations.{code_of}
+use Rattle.table_rows.specs.station_table.Stations.{code_of}
 use Rattle.sched_read.proofs.LegsFit.{rows_keep, rows_plain}
 use Rattle.sched_read.proofs.legs.legs_below.Goals as goal
 

@@ -1,8 +1,8 @@
 use Rattle.std.specs.Prelude.{◌==◌, map}
-use Rattle.fleet_tables.specs.Costs.{flight_of}
+use Rattle.table_rows.specs.fleet_tables.Costs.{flight_of}
 use Rattle.fleet_model.specs.declared.refusals.TableFile.TheVariants as file
 use Rattle.sched_read.specs.Legs.{leg_headers, leg_read}
-use Rattle.station_table.specs.Stations.{code_of}
+use Rattle.table_rows.specs.station_table.Stations.{code_of}
 use Rattle.table_rows.proofs.FormReading.{formless_refused}
 use Rattle.sched_read.proofs.legs.read_legs.Goals as goal
 

@@ -1,5 +1,5 @@
 use Rattle.std.proofs.Common.{◌≡◌}
-use Rattle.fleet_tables.specs.Costs.{cost_header}
+use Rattle.table_rows.specs.fleet_tables.Costs.{cost_header}
 use Rattle.table_maker.specs.Records.{cost_fields, table_text}
 use Rattle.table_maker.proofs.texts.costs_text.Given as goal
 

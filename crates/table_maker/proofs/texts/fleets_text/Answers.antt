@@ -1,5 +1,5 @@
 use Rattle.std.proofs.Common.{rules}
-use Rattle.fleet_tables.specs.Fleets.{fleet_header}
+use Rattle.table_rows.specs.fleet_tables.Fleets.{fleet_header}
 use Rattle.table_maker.specs.Records.{fleet_fields}
 use Rattle.table_maker.proofs.Lines.{text_begun, text_grown}
 use Rattle.table_maker.proofs.texts.fleets_text.Goals as goal

@@ -1,5 +1,5 @@
 use Rattle.std.proofs.Common.{rules}
-use Rattle.station_table.specs.Stations.{station_header}
+use Rattle.table_rows.specs.station_table.Stations.{station_header}
 use Rattle.table_maker.specs.Records.{made_station_fields}
 use Rattle.table_maker.proofs.Lines.{text_begun, text_grown}
 use Rattle.table_maker.proofs.TripLists.{spoke_grown}

@@ -1,5 +1,5 @@
 use Rattle.std.proofs.Common.{◌≡◌, ◌+◌}
-use Rattle.station_table.specs.Stations.{station_header}
+use Rattle.table_rows.specs.station_table.Stations.{station_header}
 use Rattle.table_maker.specs.Records.{made_station_fields, table_text}
 use Rattle.table_maker.proofs.texts.stations_text.Given as goal
 

@@ -1,8 +1,8 @@
 use Rattle.std.proofs.Common.{◌≡◌, rules}
 use Rattle.fleet_model.specs.Schedule.{leg_on}
 use Rattle.fleet_model.specs.Times.{nights_of}
-use Rattle.ground_turns.specs.Nights.{can_maintain, night_of_stay}
-use Rattle.ground_turns.specs.Turns.{nights_waited}
+use Rattle.lines_of_flying.specs.ground_turns.Nights.{can_maintain, night_of_stay}
+use Rattle.lines_of_flying.specs.ground_turns.Turns.{nights_waited}
 use Rattle.tail_dates.proofs.Nights.{turn_nights_of}
 use Rattle.tail_dates.proofs.reaches.push_nights.Goals as goal
 

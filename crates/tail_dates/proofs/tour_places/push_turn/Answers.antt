@@ -2,7 +2,7 @@ use Rattle.std.proofs.Common.{◌≡◌, ap, rules}
 use Rattle.fleet_model.specs.Schedule.{leg_on}
 use Rattle.fleet_model.specs.Times.{nights_of}
 use Rattle.fleet_model.specs.declared.parts.Leg.{Leg}
-use Rattle.ground_turns.specs.Turns.{nights_waited, station_at}
+use Rattle.lines_of_flying.specs.ground_turns.Turns.{nights_waited, station_at}
 use Rattle.tail_dates.proofs.TourPlaces.{turn_places_of}
 use Rattle.tail_dates.proofs.tour_places.push_turn.Goals as goal
 

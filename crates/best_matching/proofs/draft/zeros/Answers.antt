@@ -1,6 +1,0 @@
-use Rattle.std.proofs.Common.{◌∙◌, refl}
-use Rattle.sums.proofs.Places.{list_below-push}
-use Rattle.best_matching.proofs.draft.zeros.Goals as goal
-
-pub loop-preserved : goal.loop-preserved
-loop-preserved c = c.in_ok-push.ensures.items ∙ list_below-push _ c.loop.counter _ _ c.loop.invariant refl

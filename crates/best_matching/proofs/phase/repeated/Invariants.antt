@@ -1,6 +1,0 @@
-use Rattle.std.proofs.Common.{◌≡◌}
-use Rattle.sums.specs.Places.{list_below}
-use Rattle.best_matching.proofs.phase.repeated.Given as goal
-
-abbrev pub invariant-loop : goal.invariant-loop
-invariant-loop l = l.numbers.items ≡ list_below (λ _. l.number) l.counter

@@ -1,6 +1,0 @@
-use Rattle.std.proofs.Common.{arith}
-use Rattle.sums.proofs.Places.{filled_all}
-use Rattle.best_matching.proofs.tree.raise_columns.Goals as goal
-
-pub returns : goal.returns
-returns c = filled_all _ _ _ _ _ c.loop-column.invariant (omega arith)

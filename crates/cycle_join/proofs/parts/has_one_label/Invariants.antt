@@ -1,7 +1,0 @@
-use Rattle.std.proofs.Common.{◌≡◌, ℕ, ◌<◌}
-use Rattle.fleet_model.specs.Counts.{choice_at}
-use Rattle.cycle_join.specs.Labels.{label_of}
-use Rattle.cycle_join.proofs.parts.has_one_label.Given as goal
-
-abbrev pub invariant-loop-leg : goal.invariant-loop-leg
-invariant-loop-leg l = (k : ℕ) → k < l.leg → choice_at l.ground.plan.now k ≡ l.ground.fleet → label_of l.cycles.labels.items k ≡ label_of l.cycles.labels.items l.first

@@ -1,6 +1,0 @@
-use Rattle.std.proofs.Common.{◌≡◌}
-use Rattle.cycle_join.specs.Labels.{label_of, legs_labelled}
-use Rattle.cycle_join.proofs.parts.legs_of.Given as goal
-
-abbrev pub invariant-loop-leg : goal.invariant-loop-leg
-invariant-loop-leg l = l.legs.items ≡ legs_labelled l.cycles.labels.items (label_of l.cycles.labels.items l.first) l.leg

@@ -1,7 +1,0 @@
-use Rattle.std.proofs.Common.{◌≡◌, ◌==◌}
-use Rattle.sums.specs.Below.{count_below}
-use Rattle.ground_turns.specs.Maps.{turn_at}
-use Rattle.cycle_join.proofs.rounds.follower.Given as goal
-
-abbrev pub invariant-loop-turn : goal.invariant-loop-turn
-invariant-loop-turn l = count_below (λ k. (turn_at l.turns k).arriving == l.leg) l.turn-index ≡ 0

@@ -1,7 +1,0 @@
-use Rattle.std.proofs.Common.{◌≡◌, None}
-use Rattle.sums.specs.Places.{first_below}
-use Rattle.dual_lift.specs.TooLarge.{lowest_value_excess}
-use Rattle.dual_lift.proofs.lowest_terms.fits.Given as goal
-
-abbrev pub invariant-loop-place : goal.invariant-loop-place
-invariant-loop-place l = first_below (lowest_value_excess l.limits.value l.first (record { numbers = l.values; den = l.scale })) l.place ≡ None

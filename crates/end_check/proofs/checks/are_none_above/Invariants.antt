@@ -1,6 +1,0 @@
-use Rattle.std.proofs.Common.{ℕ, ◌<◌, pos, ◌≤ℤ◌}
-use Rattle.end_check.specs.Ends.{value_in}
-use Rattle.end_check.proofs.checks.are_none_above.Given as goal
-
-abbrev pub invariant-loop-column : goal.invariant-loop-column
-invariant-loop-column l = (column : ℕ) → column < l.column → value_in l.weights column ≤ℤ pos 0

@@ -1,5 +1,0 @@
-use Rattle.ground_turns.proofs.NightCounts as proofs
-use Rattle.ground_turns.proofs.laws.nights_are_need.Goals as goal
-
-pub returns : goal.returns
-returns c = proofs.nights_are_need

@@ -1,6 +1,0 @@
-use Rattle.std.proofs.Common.{◌≡◌, ◌++◌, map, take}
-use Rattle.island_cut.specs.Islands.{idle_at}
-use Rattle.island_cut.proofs.idles.push_all.Given as goal
-
-abbrev pub invariant-loop-minute : goal.invariant-loop-minute
-invariant-loop-minute l = l.idles.items ≡ l.fn.idles.items ++ map (idle_at l.station) (take l.minute-index l.minutes)

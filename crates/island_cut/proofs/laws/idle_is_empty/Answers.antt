@@ -1,5 +1,0 @@
-use Rattle.island_cut.proofs.IslandProofs.{idle_is_empty}
-use Rattle.island_cut.proofs.laws.idle_is_empty.Goals as goal
-
-pub returns : goal.returns
-returns c = idle_is_empty

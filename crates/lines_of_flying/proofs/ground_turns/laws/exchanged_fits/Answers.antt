@@ -1,0 +1,5 @@
+use Rattle.lines_of_flying.proofs.ground_turns.Exchanges as proofs
+use Rattle.lines_of_flying.proofs.ground_turns.laws.exchanged_fits.Goals as goal
+
+pub returns : goal.returns
+returns c = proofs.exchanged_fits

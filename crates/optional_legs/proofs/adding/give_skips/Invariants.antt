@@ -1,8 +1,0 @@
-use Rattle.std.proofs.Common.{slice_index_or}
-use Rattle.fleet_model.specs.Windows.{no_leg}
-use Rattle.sums.specs.Places.{IsFilledBelow}
-use Rattle.optional_legs.specs.Adding.{skip_in, skippable_leg}
-use Rattle.optional_legs.proofs.adding.give_skips.Given as goal
-
-abbrev pub invariant-loop-place : goal.invariant-loop-place
-invariant-loop-place l = IsFilledBelow no_leg (λ k. skippable_leg (slice_index_or l.fn.legs.items k no_leg) (skip_in l.optional k)) l.fn.legs.items l.legs.items l.place

@@ -1,9 +1,0 @@
-use Rattle.std.proofs.Common.{◌≡◌, length}
-use Rattle.optional_legs.specs.Adding.{skip_in}
-use Rattle.optional_legs.proofs.adding.skip_in.Given as goal
-
-abbrev pub invariant-loop-first : goal.invariant-loop-first
-invariant-loop-first l = skip_in l.optional l.leg ≡ skip_in l.rest l.leg
-
-abbrev pub decreases-loop-first : goal.decreases-loop-first
-decreases-loop-first l = length l.rest

@@ -1,5 +1,0 @@
-use Rattle.optional_legs.proofs.ReadLaws as laws
-use Rattle.optional_legs.proofs.laws.optional_or_fault.Goals as goal
-
-pub returns : goal.returns
-returns c = laws.optional_or_fault

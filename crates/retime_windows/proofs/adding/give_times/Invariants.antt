@@ -1,8 +1,0 @@
-use Rattle.std.proofs.Common.{slice_index_or}
-use Rattle.fleet_model.specs.Windows.{no_leg}
-use Rattle.sums.specs.Places.{IsFilledBelow}
-use Rattle.retime_windows.specs.Times.{leg_in_windows}
-use Rattle.retime_windows.proofs.adding.give_times.Given as goal
-
-abbrev pub invariant-loop-place : goal.invariant-loop-place
-invariant-loop-place l = IsFilledBelow no_leg (λ k. leg_in_windows l.period l.windows k (slice_index_or l.fn.legs.items k no_leg)) l.fn.legs.items l.legs.items l.place

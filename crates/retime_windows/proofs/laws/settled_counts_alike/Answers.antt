@@ -1,5 +1,0 @@
-use Rattle.retime_windows.proofs.SettledLaws as laws
-use Rattle.retime_windows.proofs.laws.settled_counts_alike.Goals as goal
-
-pub returns : goal.returns
-returns c = laws.settled_counts_alike

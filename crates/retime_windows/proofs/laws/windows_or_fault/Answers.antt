@@ -1,5 +1,0 @@
-use Rattle.retime_windows.proofs.ReadLaws as laws
-use Rattle.retime_windows.proofs.laws.windows_or_fault.Goals as goal
-
-pub returns : goal.returns
-returns c = laws.windows_or_fault

@@ -1,7 +1,0 @@
-use Rattle.std.proofs.Common.{◌≡◌}
-use Rattle.sums.specs.Places.{list_below}
-use Rattle.retime_windows.specs.Keys.{fleets_on}
-use Rattle.retime_windows.proofs.seen.fleet_counts.Given as goal
-
-abbrev pub invariant-loop-leg : goal.invariant-loop-leg
-invariant-loop-leg l = l.counts.items ≡ list_below (fleets_on l.tables) l.leg

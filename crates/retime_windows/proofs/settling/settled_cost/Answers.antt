@@ -1,9 +1,0 @@
-use Rattle.std.proofs.Common.{ap, ◌∙◌}
-use Rattle.std.specs.Prelude.{◌+ℤ◌}
-use Rattle.retime_windows.proofs.SettledFit.{sum_held}
-use Rattle.retime_windows.proofs.settling.settled_cost.Goals as goal
-
-pub returns : goal.returns
-returns c =
-    let entry = c.args.entry.now in
-    ap (λ n. record { leg = entry.leg; fleet = entry.fleet; cost = n }) (sum_held entry.cost c.extra_of.result c.requires.entry.cost c.extra_of.ensures.small ∙ ap (λ n. entry.cost +ℤ n) c.extra_of.ensures.value)

@@ -1,0 +1,13 @@
+use Rattle.std.proofs.Common.{slice_index_or, arith}
+use Rattle.fleet_model.specs.Windows.{no_leg}
+use Rattle.sums.proofs.Places.{filled_all, filled_none}
+use Rattle.sched_read.specs.retime_windows.Times.{leg_in_windows}
+use Rattle.sched_read.proofs.retime_windows.adding.give_times.Goals as goal
+
+pub loop-place-init : goal.loop-place-init
+loop-place-init c = filled_none no_leg (λ k. leg_in_windows c.args.period c.args.windows.now k (slice_index_or c.args.legs.now.items k no_leg)) c.args.legs.now.items
+
+pub returns : goal.returns
+returns c =
+    filled_all no_leg (λ k. leg_in_windows c.args.period c.args.windows.now k (slice_index_or c.args.legs.now.items k no_leg)) c.args.legs.now.items c.loop-place.legs.items c.loop-place.place
+    c.loop-place.invariant (omega (arith, c.loop-place-test.false))

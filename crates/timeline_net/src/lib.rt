@@ -1,6 +1,0 @@
-//! The time-line network of a fleet at a station: when its aircraft depart and when they are ready again.
-#![tactic(auto)]
-
-pub mod timeline;
-
-pub use timeline::{Event, events};
