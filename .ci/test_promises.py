@@ -54,8 +54,8 @@ class Crate:
         self.fields: Dict[str, Set[str]] = {}
         self.words: Set[str] = set()
         below = f"{module}/**" if module else "**"
-        files = [*self.folder.glob(f"src/{below}/*.rt"), *self.folder.glob(f"specs/{below}/*.antt"), *self.folder.glob(f"src/{module}.rt")]
-        for file in files:
+        top = [self.folder / "src" / f"{module}.rt"] if module else []
+        for file in [*top, *self.folder.glob(f"src/{below}/*.rt"), *self.folder.glob(f"specs/{below}/*.antt")]:
             text = file.read_text(encoding="utf-8")
             self.words.update(WORD.findall(text), [file.stem])
             if file.suffix == ".rt":
